@@ -1,0 +1,19 @@
+-- Tests as Bools: a list of them, one for each number below a bound, and the first number that passes one.
+use mathlib.Core.Bool.{Bool, true, false, cond, _&&_}
+use mathlib.Core.List.{List, [], _∷_}
+use Prim.Native.Nat.{ℕ, zero, suc}
+
+-- every test of the list holds
+abbrev pub every : List Bool → Bool
+every [] = true
+every (t ∷ ts) = t && every ts
+
+-- the test holds at each number below n
+unfoldable pub allBelow : ℕ → (ℕ → Bool) → Bool
+allBelow zero t = true
+allBelow (suc n) t = allBelow n t && t n
+
+-- the first of 0, 1, .., n - 1 that passes the test, and n where none does
+unfoldable pub least : (ℕ → Bool) → ℕ → ℕ
+least t zero = 0
+least t (suc n) = let later = least (λ i. t (suc i)) n in cond (t 0) 0 (suc later)

@@ -1,0 +1,19 @@
+use Rattle.bits.proofs.Bits.{shl-one}
+use Rattle.bits.specs.Sets.{withBit}
+use borrow.Author.Needs.{needs}
+use Rattle.bits.proofs.with_bit.Statement.{statement}
+use Rattle.bits.proofs.with_bit.Tie as tie
+use Rattle.bits.proofs.with_bit.Reads as reads
+use Rattle.bits.proofs.with_bit.Lts as lts
+
+-- src/lib.rt:12:11
+shl-result : tie.Need-shl-result
+shl-result c = search needs
+
+-- src/lib.rt:8:1
+returns : tie.Need-returns
+unfolding withBit
+returns c = rw (shl-one (c .args .k) (c .pre))
+
+pub with-bit-spec : {M : Type 1} → statement M
+with-bit-spec = tie.close (tie.spec shl-result returns)

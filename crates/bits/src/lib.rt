@@ -1,0 +1,42 @@
+// Sets of classes, each as the bits of one u32: put in, take out, ask, and the lowest.
+ghost use mathlib.Core.Path.{_≡_};
+ghost use Prim.Native.Nat.{ℕ, _<_};
+ghost use Rattle.bits.specs.Sets.{inSet, withBit, withoutBit, lowestBit};
+
+// The set with class k.
+pub fn with_bit(set: u32, k: u32) -> u32
+    requires { ⌜ k < 32 ⌝ }
+    ensures { λ r. ⌜ r ≡ withBit set k ⌝ }
+{
+    set | 1u32 << k
+}
+
+// The set without class k.
+pub fn without_bit(set: u32, k: u32) -> u32
+    requires { ⌜ k < 32 ⌝ }
+    ensures { λ r. ⌜ r ≡ withoutBit set k ⌝ }
+{
+    set - (set & 1u32 << k)
+}
+
+// Whether class k is in the set.
+pub fn has_bit(set: u32, k: u32) -> bool
+    requires { ⌜ k < 32 ⌝ }
+    ensures { λ r. ⌜ r ≡ inSet set k ⌝ }
+{
+    (set >> k) % 2 == 1
+}
+
+// The lowest class of the set, and 32 where it has none.
+pub fn lowest(set: u32) -> u32
+    ensures { λ r. ⌜ r ≡ lowestBit set ⌝ }
+{
+    let mut k: u32 = 0;
+    while k < 32 {
+        if has_bit(set, k) {
+            return k;
+        }
+        k += 1;
+    }
+    k
+}

@@ -1,0 +1,4 @@
+pub mod Starts
+pub mod Classes
+pub mod Credits
+pub mod Examples

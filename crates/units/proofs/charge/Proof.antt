@@ -1,0 +1,25 @@
+use native.Mathlib.Omega.{arith}
+use Rattle.units.specs.Credit.{framing, charged, chargeOf}
+use borrow.Author.Needs.{needs}
+use Rattle.units.proofs.charge.Statement.{statement}
+use Rattle.units.proofs.charge.Tie as tie
+use Rattle.units.proofs.charge.Reads as reads
+use Rattle.units.proofs.charge.Lts as lts
+use Rattle.units.proofs.charged.Reads as charged-reads
+
+-- src/lib.rt:73:9
+charged-requires : tie.Need-charged-requires
+charged-requires c κs = search needs
+
+-- src/lib.rt:74:11
+mul-t3 : tie.Need-mul-t3
+unfolding framing charged
+mul-t3 c = record { fits = omega arith }
+
+-- src/lib.rt:69:1
+returns : tie.Need-returns
+unfolding chargeOf
+returns c = rw (c .before .charged .ensures)
+
+pub charge-spec : {M : Type 1} → statement M
+charge-spec = tie.close (tie.spec charged-requires mul-t3 returns)

@@ -1,0 +1,19 @@
+use Rattle.units.specs.Credit.{largestCharge}
+use borrow.Author.Needs.{needs}
+use Rattle.units.proofs.largest_charge.Statement.{statement}
+use Rattle.units.proofs.largest_charge.Tie as tie
+use Rattle.units.proofs.largest_charge.Reads as reads
+use Rattle.units.proofs.largest_charge.Lts as lts
+use Rattle.units.proofs.charged.Reads as charged-reads
+
+-- src/lib.rt:65:5
+charged-requires : tie.Need-charged-requires
+charged-requires c κs = search needs
+
+-- src/lib.rt:61:1
+returns : tie.Need-returns
+unfolding largestCharge
+returns c = c .charged .ensures
+
+pub largest-charge-spec : {M : Type 1} → statement M
+largest-charge-spec = tie.close (tie.spec charged-requires returns)
