@@ -1,5 +1,5 @@
 -- Tests as Bools: a list of them, one for each number below a bound, and the first number that passes one.
-use mathlib.Core.Bool.{Bool, true, false, cond, _&&_}
+use mathlib.Core.Bool.{Bool, true, false, cond, not, _&&_}
 use mathlib.Core.List.{List, [], _∷_}
 use Prim.Native.Nat.{ℕ, zero, suc}
 
@@ -7,6 +7,11 @@ use Prim.Native.Nat.{ℕ, zero, suc}
 abbrev pub every : List Bool → Bool
 every [] = true
 every (t ∷ ts) = t && every ts
+
+-- both tests hold, or neither does
+abbrev pub alike : Bool → Bool → Bool
+alike true t = t
+alike false t = not t
 
 -- the test holds at each number below n
 unfoldable pub allBelow : ℕ → (ℕ → Bool) → Bool

@@ -1,0 +1,410 @@
+//! The shapes of logs.
+
+use super::random::Random;
+use super::traffic::{renaming_story, Call, Habits, Traffic, STORY_LARGEST};
+use crate::log::{Field, FIRST_PASSED_OVER, HEAD_BYTES, LONGEST_LOG};
+use crate::numbers::{CLASSES, LANE_DEPTH, PLACES, WHOLE_LINE};
+
+pub type LogShape = fn(u64) -> Vec<u8>;
+
+pub const LOG_SHAPES: [(&str, LogShape); 25] = [
+    ("tiny", tiny),
+    ("busy4", |seed| busy(seed, 4, 20_000)),
+    ("busy16", |seed| busy(seed, 16, 20_000)),
+    ("busy64", |seed| busy(seed, PLACES, 24_000)),
+    ("churn", churn),
+    ("renames", renames),
+    ("full", full),
+    ("held", held),
+    ("classes", classes),
+    ("powers", powers),
+    ("places", places),
+    ("largest64", |seed| mixed(seed, 64)),
+    ("largest2048", |seed| mixed(seed, 2_048)),
+    ("bad", bad),
+    ("passed", passed),
+    ("exact", |seed| padded(seed, LONGEST_LOG)),
+    ("over", |seed| padded(seed, LONGEST_LOG + 1)),
+    ("changed", changed),
+    ("broken-empty", |_| Vec::new()),
+    ("broken-first", broken_first),
+    ("broken-largest", broken_largest),
+    ("broken-second-largest", broken_second_largest),
+    ("broken-tag", broken_tag),
+    ("broken-length", broken_length),
+    ("broken-cut", broken_cut),
+];
+
+/// A log under way, with the board that it gives.
+struct LogMaker {
+    traffic: Traffic,
+    log: Vec<u8>,
+}
+
+impl LogMaker {
+    fn new(mut random: Random) -> LogMaker {
+        let any = random.between(64, 2_048) as u32;
+        let largest = random.pick(&[64, 65, 100, 2_047, 2_048, any]);
+        LogMaker::with_largest(random, largest)
+    }
+
+    fn with_largest(random: Random, largest: u32) -> LogMaker {
+        let mut log = Vec::new();
+        Field::Largest { largest: largest as u16 }.write(&mut log);
+        LogMaker { traffic: Traffic::new(random, largest), log }
+    }
+
+    fn random(&mut self) -> &mut Random {
+        &mut self.traffic.random
+    }
+
+    fn take(&mut self, call: Call) -> u32 {
+        field_of(call).write(&mut self.log);
+        self.traffic.play(call)
+    }
+
+    fn take_times(&mut self, call: Call, times: usize) {
+        for _ in 0..times {
+            self.take(call);
+        }
+    }
+
+    fn open(&mut self, block: u32, share: u32) -> u32 {
+        self.take(Call::Open { block, share })
+    }
+
+    fn record_for(&mut self, block: u32) -> u32 {
+        let call = self.traffic.record_for(block);
+        self.take(call)
+    }
+
+    fn any_call(&mut self, habits: &Habits) {
+        let call = self.traffic.any_call(habits);
+        self.take(call);
+    }
+
+    /// Random calls until the log has this many bytes or a few more.
+    fn calls_until(&mut self, bytes: usize, habits: &Habits) {
+        while self.log.len() < bytes {
+            self.any_call(habits);
+        }
+    }
+
+    fn serve_until_empty(&mut self) {
+        while self.traffic.engine.any_waits() {
+            self.take(Call::Serve);
+        }
+    }
+
+    /// Serves, and fills the shortest lane, so that all blocks stay busy.
+    fn busy_until(&mut self, bytes: usize) {
+        while self.log.len() < bytes {
+            self.take(Call::Serve);
+            let blocks = self.traffic.engine.places.iter().flatten();
+            if let Some(shortest) = blocks.min_by_key(|block| block.lane.len()).map(|block| block.number) {
+                self.record_for(shortest);
+            }
+        }
+    }
+
+    /// A field to be passed over, with a value of this length.
+    fn pass_over(&mut self, length: usize) {
+        let tag = self.random().between(FIRST_PASSED_OVER.into(), u8::MAX.into()) as u8;
+        let value = self.random().bytes(length);
+        Field::Other { tag, value: &value }.write(&mut self.log);
+    }
+
+    /// A field with any tag and a value of any length, whether the reader takes it or not.
+    fn any_field(&mut self, tag: u8, length: usize) {
+        self.log.push(tag);
+        self.log.extend_from_slice(&(length as u16).to_be_bytes());
+        let value = self.random().bytes(length);
+        self.log.extend(value);
+    }
+}
+
+fn field_of(call: Call) -> Field<'static> {
+    match call {
+        Call::Open { block, share } => Field::Open { block, share },
+        Call::Rename { old, new } => Field::Rename { old, new },
+        Call::Close { block } => Field::Close { block },
+        Call::Record { block, number, length } => Field::Record { block, number, length },
+        Call::Serve => Field::Serve,
+        Call::Burst { .. } => unreachable!("a log has no bursts"),
+    }
+}
+
+fn tiny(seed: u64) -> Vec<u8> {
+    let mut maker = LogMaker::new(Random::new(seed));
+    let bytes = maker.random().between(5, 200) as usize;
+    maker.calls_until(bytes, &Habits { numbers: 3, lowest_class: 0, ..Habits::mixed() });
+    maker.log
+}
+
+fn mixed(seed: u64, largest: u32) -> Vec<u8> {
+    let mut maker = LogMaker::with_largest(Random::new(seed), largest);
+    maker.calls_until(12_000, &Habits::mixed());
+    maker.log
+}
+
+fn busy(seed: u64, blocks: usize, bytes: usize) -> Vec<u8> {
+    let mut maker = LogMaker::new(Random::new(seed));
+    for block in 1..=blocks as u32 {
+        let share = maker.random().between(1, u64::from(WHOLE_LINE) / blocks as u64) as u32;
+        maker.open(block, share);
+        for _ in 0..maker.random().between(2, 6) {
+            maker.record_for(block);
+        }
+    }
+    maker.busy_until(bytes);
+    maker.log
+}
+
+/// Few numbers for many opens, closes and renames, so that unknown and repeated ones are common.
+fn churn(seed: u64) -> Vec<u8> {
+    let mut maker = LogMaker::new(Random::new(seed));
+    let habits = Habits { open: 15, rename: 10, close: 15, record: 30, serve: 30, numbers: 12, lowest_class: 2, ..Habits::mixed() };
+    maker.calls_until(12_000, &habits);
+    maker.log
+}
+
+fn renames(seed: u64) -> Vec<u8> {
+    let mut maker = LogMaker::with_largest(Random::new(seed), STORY_LARGEST);
+    for call in renaming_story(seed) {
+        maker.take(call);
+    }
+    maker.log
+}
+
+fn full(seed: u64) -> Vec<u8> {
+    let mut maker = LogMaker::new(Random::new(seed));
+    for block in 1..=3 {
+        let share = maker.traffic.any_share(2);
+        maker.open(block, share);
+    }
+    for _ in 0..=LANE_DEPTH {
+        maker.record_for(2);
+    }
+    maker.calls_until(14_000, &Habits { open: 0, rename: 1, close: 1, record: 65, serve: 33, numbers: 3, ..Habits::mixed() });
+    maker.log
+}
+
+/// The hold of document 01, then shares that are soon exhausted, closed while others wait and opened anew.
+fn held(seed: u64) -> Vec<u8> {
+    let mut maker = LogMaker::with_largest(Random::new(seed), 100);
+    for block in 1..=8 {
+        maker.open(block, 8_192);
+        maker.take(Call::Record { block, number: block, length: 100 });
+    }
+    for block in 5..=8 {
+        maker.take(Call::Record { block, number: 10 + block, length: 100 });
+    }
+    maker.take_times(Call::Serve, 4);
+    for block in 1..=4 {
+        maker.take(Call::Close { block });
+    }
+    maker.open(9, 32_768);
+    maker.take_times(Call::Serve, 4);
+    maker.open(9, 32_768);
+    maker.calls_until(
+        14_000,
+        &Habits { open: 24, rename: 0, close: 24, record: 22, serve: 30, numbers: 30, lowest_class: 0, ..Habits::mixed() },
+    );
+    maker.log
+}
+
+/// The whole line for one block, then one block of each other class, so that the clock jumps by every interval.
+fn classes(seed: u64) -> Vec<u8> {
+    let mut maker = LogMaker::new(Random::new(seed));
+    while maker.log.len() < 10_000 {
+        maker.open(100, WHOLE_LINE);
+        maker.record_for(100);
+        maker.record_for(100);
+        maker.serve_until_empty();
+        maker.take(Call::Close { block: 100 });
+        for class in 1..CLASSES {
+            maker.open(class as u32, 1 << (16 - class));
+            for _ in 0..maker.traffic.random.between(1, 4) {
+                maker.record_for(class as u32);
+            }
+        }
+        maker.serve_until_empty();
+        for class in 1..CLASSES as u32 {
+            maker.take(Call::Close { block: class });
+        }
+    }
+    maker.log
+}
+
+/// Shares one under, at and one over the powers of two, the two that are out of range among them.
+fn powers(seed: u64) -> Vec<u8> {
+    let mut maker = LogMaker::new(Random::new(seed));
+    let around = |power: u32| [(1 << power) - 1, 1 << power, (1 << power) + 1];
+    let shares: Vec<u32> = (0..=16).flat_map(around).collect();
+    let habits = Habits { open: 0, close: 15, ..Habits::mixed() };
+    while maker.log.len() < 14_000 {
+        let share = maker.random().pick(&shares);
+        let block = maker.random().between(1, 24) as u32;
+        maker.open(block, share);
+        for _ in 0..10 {
+            maker.any_call(&habits);
+        }
+    }
+    maker.log
+}
+
+/// All 64 places taken, and some of them taken anew.
+fn places(seed: u64) -> Vec<u8> {
+    let mut maker = LogMaker::new(Random::new(seed));
+    for block in 1..=PLACES as u32 + 1 {
+        let share = maker.random().between(1, 1_000) as u32;
+        maker.open(block, share);
+    }
+    maker.calls_until(14_000, &Habits { open: 14, numbers: 90, lowest_class: 7, ..Habits::mixed() });
+    maker.log
+}
+
+/// Numbers out of their ranges, among others.
+fn bad(seed: u64) -> Vec<u8> {
+    let mut maker = LogMaker::new(Random::new(seed));
+    maker.calls_until(12_000, &Habits { out_of_range: 40, ..Habits::mixed() });
+    maker.log
+}
+
+fn passed(seed: u64) -> Vec<u8> {
+    let mut maker = LogMaker::new(Random::new(seed));
+    while maker.log.len() < 12_000 {
+        maker.any_call(&Habits::mixed());
+        if maker.random().percent(30) {
+            let any = maker.random().between(0, 400) as usize;
+            let length = maker.random().pick(&[0, 1, 2, any]);
+            maker.pass_over(length);
+        }
+    }
+    maker.log
+}
+
+/// A log of exactly this many bytes.
+fn padded(seed: u64, bytes: usize) -> Vec<u8> {
+    let mut maker = LogMaker::new(Random::new(seed));
+    for block in 1..=10 {
+        let share = maker.traffic.any_share(4);
+        maker.open(block, share);
+    }
+    maker.busy_until(bytes - 100);
+    let length = bytes - maker.log.len() - HEAD_BYTES;
+    maker.pass_over(length);
+    maker.log
+}
+
+/// A valid log with bytes changed, cut and inserted after the L field.
+fn changed(seed: u64) -> Vec<u8> {
+    let mut random = Random::new(seed);
+    let shape: LogShape = random.pick(&[tiny, churn, held, passed, places]);
+    let mut log = shape(random.any());
+    let after_largest = HEAD_BYTES + 2;
+    for _ in 0..random.between(1, 8) {
+        let at = random.between(after_largest as u64, log.len() as u64) as usize;
+        let end = (at + random.between(1, 20) as usize).min(log.len());
+        match random.between(0, 3) {
+            0 => drop(log.drain(at..end)),
+            1 => {
+                let count = random.between(1, 20) as usize;
+                let bytes = random.bytes(count);
+                drop(log.splice(at..at, bytes));
+            }
+            2 if at < log.len() => log[at] = random.any() as u8,
+            _ if at < log.len() => log[at] ^= 1 << random.between(0, 7),
+            _ => log.push(random.any() as u8),
+        }
+    }
+    log
+}
+
+/// A log with some calls, to be broken off.
+fn begun(seed: u64) -> LogMaker {
+    let mut maker = LogMaker::new(Random::new(seed));
+    let bytes = maker.random().between(5, 900) as usize;
+    maker.calls_until(bytes, &Habits::mixed());
+    maker
+}
+
+/// Fields that come after a broken one must not be played.
+fn go_on(mut maker: LogMaker) -> Vec<u8> {
+    let bytes = maker.log.len() + maker.random().between(0, 200) as usize;
+    maker.calls_until(bytes, &Habits::mixed());
+    maker.log
+}
+
+/// The first field is not L: another one, or one that would be passed over later.
+fn broken_first(seed: u64) -> Vec<u8> {
+    let mut maker = begun(seed);
+    let rest = std::mem::take(&mut maker.log);
+    let call = maker.random().pick(&[Call::Open { block: 1, share: 1 }, Call::Close { block: 1 }, Call::Serve]);
+    if maker.random().percent(50) {
+        maker.pass_over(4);
+    } else {
+        maker.take(call);
+    }
+    maker.log.extend(rest);
+    maker.log
+}
+
+/// An L outside its range, or with a wrong length.
+fn broken_largest(seed: u64) -> Vec<u8> {
+    let mut maker = begun(seed);
+    let rest = maker.log.split_off(HEAD_BYTES + 2);
+    maker.log.clear();
+    let largest = maker.random().pick(&[0, 1, 63, 2_049, u16::MAX]);
+    let length = maker.random().pick(&[0, 1, 3, 4]);
+    if maker.random().percent(50) {
+        Field::Largest { largest }.write(&mut maker.log);
+    } else {
+        maker.any_field(6, length);
+    }
+    maker.log.extend(rest);
+    maker.log
+}
+
+fn broken_second_largest(seed: u64) -> Vec<u8> {
+    let mut maker = begun(seed);
+    let largest = maker.random().pick(&[0, 64, 100, 2_048, 2_049]);
+    Field::Largest { largest }.write(&mut maker.log);
+    go_on(maker)
+}
+
+/// A tag that means nothing.
+fn broken_tag(seed: u64) -> Vec<u8> {
+    let mut maker = begun(seed);
+    let unknown = maker.random().between(7, u64::from(FIRST_PASSED_OVER) - 1) as u8;
+    let tag = maker.random().pick(&[0, 7, FIRST_PASSED_OVER - 1, unknown]);
+    let length = maker.random().pick(&[0, 2, 4, 8, 10]);
+    maker.any_field(tag, length);
+    go_on(maker)
+}
+
+fn broken_length(seed: u64) -> Vec<u8> {
+    let mut maker = begun(seed);
+    let (tag, right) = maker.random().pick(&[(1, 8), (2, 4), (3, 8), (4, 10), (5, 0)]);
+    let any = maker.random().between(0, 40) as usize;
+    let lengths: Vec<usize> = [right + 1, right + 256, any, 4, 10].into_iter().filter(|&length| length != right).collect();
+    let length = maker.random().pick(&lengths);
+    maker.any_field(tag, length);
+    go_on(maker)
+}
+
+/// The last field is cut after its first byte, within its length or within its value.
+fn broken_cut(seed: u64) -> Vec<u8> {
+    let mut maker = begun(seed);
+    let offset = maker.log.len();
+    if maker.random().percent(30) {
+        maker.pass_over(9);
+    } else {
+        let call = maker.traffic.any_call(&Habits::mixed());
+        maker.take(call);
+    }
+    let whole = maker.log.len();
+    let kept = maker.random().between(offset as u64 + 1, whole as u64 - 1) as usize;
+    maker.log.truncate(kept);
+    maker.log
+}

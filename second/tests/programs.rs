@@ -1,0 +1,82 @@
+//! The three programs, run as they are.
+
+use std::io::Write;
+use std::process::{Command, Output, Stdio};
+
+const SECOND: &str = env!("CARGO_BIN_EXE_second");
+const CASES: &str = env!("CARGO_BIN_EXE_cases");
+const MAKER: &str = env!("CARGO_BIN_EXE_maker");
+
+fn run(program: &str, arguments: &[&str], input: &[u8]) -> Output {
+    let mut child =
+        Command::new(program).args(arguments).stdin(Stdio::piped()).stdout(Stdio::piped()).stderr(Stdio::piped()).spawn().unwrap();
+    let mut stdin = child.stdin.take().unwrap();
+    let input = input.to_vec();
+    let writer = std::thread::spawn(move || {
+        // A program that takes no input may end before it is written.
+        let _ = stdin.write_all(&input);
+    });
+    let output = child.wait_with_output().unwrap();
+    writer.join().unwrap();
+    output
+}
+
+fn output_of(program: &str, arguments: &[&str], input: &[u8]) -> Vec<u8> {
+    let output = run(program, arguments, input);
+    assert!(output.status.success(), "{program} {arguments:?}: {}", String::from_utf8_lossy(&output.stderr));
+    output.stdout
+}
+
+#[test]
+fn a_log_written_by_hand_is_made_and_played() {
+    let text = b"largest 100\nopen 11 32768\nrecord 11 1 100\nserve\nserve\n";
+    let log = output_of(MAKER, &["bytes"], text);
+    assert_eq!(output_of(MAKER, &["text"], &log), text);
+    assert_eq!(output_of(SECOND, &[], &log), b"open 11 0\nin 1 0\nout 11 1 100 2\nout - 1\nend 3 100 0\n");
+    assert_eq!(output_of(SECOND, &[], b""), b"broken 0\n");
+    assert_eq!(output_of(SECOND, &[], &[0; 40_000]), b"long\n");
+}
+
+#[test]
+fn every_shape_that_is_listed_is_made_and_played() {
+    let shapes = String::from_utf8(output_of(MAKER, &["shapes"], b"")).unwrap();
+    assert!(shapes.lines().count() > 25);
+    for line in shapes.lines() {
+        let (kind, name) = line.split_once(' ').unwrap();
+        let made = output_of(MAKER, &[kind, name, "4"], b"");
+        match kind {
+            "log" => {
+                assert!(output_of(SECOND, &[], &made).ends_with(b"\n"), "{name}");
+                let text = output_of(MAKER, &["text"], &made);
+                assert_eq!(output_of(MAKER, &["bytes"], &text), made, "{name}");
+            }
+            "cases" => {
+                assert!(output_of(CASES, &[], &made).starts_with(b"case 1\n"), "{name}");
+                assert!(output_of(CASES, &["bytes"], &made).starts_with(&[1, 0, 0, 0, 0, 0, 0, 0, 1]), "{name}");
+            }
+            _ => panic!("{line} is not a shape"),
+        }
+    }
+}
+
+#[test]
+fn what_cannot_be_read_is_refused_with_a_message_and_no_output() {
+    let tries: [(&str, &[&str], &[u8]); 11] = [
+        (CASES, &[], b"case a\nclock x\n"),
+        (CASES, &["bytes"], b"case a\nmake 1\nclock x\n"),
+        (CASES, &[], &[255, 254]),
+        (CASES, &["answers"], b""),
+        (MAKER, &[], b""),
+        (MAKER, &["log", "tiny"], b""),
+        (MAKER, &["log", "unknown", "1"], b""),
+        (MAKER, &["log", "tiny", "-1"], b""),
+        (MAKER, &["cases", "tiny", "1"], b""),
+        (MAKER, &["bytes"], b"serve\nbogus\n"),
+        (MAKER, &["bytes"], &[255, 254]),
+    ];
+    for (program, arguments, input) in tries {
+        let output = run(program, arguments, input);
+        assert!(!output.status.success(), "{arguments:?}");
+        assert!(output.stdout.is_empty() && !output.stderr.is_empty(), "{arguments:?}");
+    }
+}
