@@ -1,14 +1,14 @@
 -- Laws of the bits of one number: set, cleared, counted from below.
-use mathlib.Core.Path.{_≡_, refl, sym, ap, ap₂, _∙_, subst}
-use mathlib.Core.Logic.{_⊎_, inl, inr, ⊎-elim}
-use Prim.Native.Nat.{ℕ, zero, suc, _+_, _-_, _*_, _/_, _%_, _^_, _≤_, _<_, min, max, zero-le}
-use native.Mathlib.Nat.{mod-lt, one-mul, div-eq-of-lt, div-self, add-comm, mul-comm, mul-one, mul-assoc, mul-add, add-sub-cancel, le-of-eq, sub-add-cancel, max-zero, zero-max, mul-mod-left, pow-suc, mul-div-cancel, add-mul-div-right, add-div-right, div-lt-iff-lt-mul, mod-add-mod, suc-mod, zero-mul, sub-zero, div-one, lt-of-not-le, lt-irrefl, lt-of-lt-of-le, le-trans}
+use mathlib.Core.Path.{_≡_, refl, sym, ap, _∙_}
+use mathlib.Core.Logic.{_⊎_, inl, inr}
+use Prim.Native.Nat.{ℕ, zero, suc, _+_, _-_, _*_, _/_, _%_, _^_, _≤_, _<_, max}
+use native.Mathlib.Nat.{mod-lt, one-mul, div-eq-of-lt, div-self, mul-mod-left, pow-suc, mul-div-cancel, add-div-right, zero-mul, sub-zero, div-one, lt-of-lt-of-le}
 use native.Mathlib.Omega.{arith}
 use native.Mathlib.Decide.{decLt}
 use native.Mathlib.Numerals.{lt-of-le-of-ne, one-add}
-use lib.Dec.{lit<, lit≤}
+use lib.Dec.{lit<}
 use lib.Pow.{pow-pos, pow-mono, pow-lt, pow-add, shr-shr, shl-exact}
-use lib.Bits.{bitOr, bitAnd, or-shr, or-mod, and-shr, and-mod, or-step, and-step, and-high, or-add-and, or-disjoint, and-le-l, or-lt}
+use lib.Bits.{bitOr, bitAnd, or-shr, or-mod, and-high, or-disjoint, and-le-l, or-lt}
 use Rattle.bits.specs.Sets.{bitAt, withBit, withoutBit}
 
 pub bit-lt : (x k : ℕ) → bitAt x k < 2

@@ -1,9 +1,9 @@
 -- Laws of the class of a share, for any class.
-use mathlib.Core.Path.{_≡_, refl, sym, ap, _∙_}
-use mathlib.Core.Bool.{Bool, true, false}
+use mathlib.Core.Path.{_≡_, refl, sym, _∙_}
+use mathlib.Core.Bool.{Bool}
 use mathlib.Core.Logic.{_⊎_, inl, inr}
 use Prim.Native.Nat.{ℕ, zero, suc, _+_, _*_, _-_, _/_, _^_, _≤_, _<_}
-use native.Mathlib.Nat.{mul-le-mul-right, mul-lt-mul-of-pos-right, mul-le-mul-left, le-antisymm, pow-suc, pow-succ', mul-div-cancel}
+use native.Mathlib.Nat.{mul-le-mul-right, mul-lt-mul-of-pos-right, le-antisymm, pow-suc, mul-div-cancel}
 use native.Mathlib.Omega.{arith}
 use lib.Dec.{leb, lit<}
 use lib.Pow.{pow-pos, pow-mono, pow-add}

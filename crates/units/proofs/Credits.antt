@@ -1,11 +1,9 @@
 -- Laws of credits and charges.
-use mathlib.Core.Path.{_≡_, refl, sym, ap, _∙_}
-use Prim.Native.Nat.{ℕ, _+_, _*_, _^_, _≤_, _<_}
+use Prim.Native.Nat.{ℕ, _*_, _^_, _≤_, _<_}
 use native.Mathlib.Nat.{mul-le-mul-right, mul-lt-mul-of-pos-right, lt-of-le-of-lt, mul-le-mul}
 use native.Mathlib.Omega.{arith}
 use lib.Dec.{lit<}
-use Rattle.units.specs.Classes.{classOf}
-use Rattle.units.specs.Credit.{framing, charged, largestCharge, chargeOf, creditOf}
+use Rattle.units.specs.Credit.{framing, charged, largestCharge, creditOf}
 use Rattle.units.proofs.Classes.{class-lo, class-hi}
 
 -- the credit of a slot is at least the largest charge, and less than twice that

@@ -1,0 +1,162 @@
+-- What no call changes: L, and that no order and no held share stands above class 16.
+use mathlib.Core.Path.{_≡_, refl, _∙_}
+use mathlib.Core.Bool.{Bool, true, false, cond, _||_}
+use mathlib.Core.Option.{Option, none, some}
+use mathlib.Core.List.{List, [], _∷_, _++_}
+use Prim.Native.Nat.{ℕ, suc, _+_, _*_, _^_, _≤_, max}
+use native.Mathlib.Omega.{arith}
+use native.Mathlib.Decide.{ℕ-discrete}
+use lib.Dec.{leb, ltb, eqb}
+use lib.ListN.{length, getD, set, drop}
+use Rattle.units.specs.Classes.{nextStart}
+use Rattle.units.proofs.Classes.{class-le}
+use Rattle.rules.specs.Board.{Record, noRecord, charge, Place, blockClass, Board, at, Seventeen, freeShare, fresh}
+use Rattle.rules.specs.Choice.{leftAfter, emptied, short, going, done, Turn, upd, isNone, leastReady, release, settle, ended, goOn, sendFrom, send, begin, lowest, chosen, check, serve, serveBy, whereIs, joins, more, joining, takenIn}
+use Rattle.rules.specs.Calls.{Single, open!, close!, rename!, record!, serve!, step}
+use Rattle.rules.specs.Runs.{play}
+use Rattle.rules.specs.Blocks.{opened, freeAt, quiet, closed, renamed}
+use Rattle.rules.proofs.Orders.{upd-same, upd-other}
+use Rattle.rules.proofs.Checks.{open-checks, rename-checks, close-checks, take-checks, tookAt}
+
+-- from the board b to the board c
+record Framed (b c : Board) : Type 0 where
+  size : c .largest ≡ b .largest
+  high : Seventeen b → Seventeen c
+
+framed-check : (b : Board) (t : Bool) (n : ℕ) (u : Turn) → Framed b (u .next) → Framed b (check b t n u .next)
+framed-check b true n u f = record { size = refl; high = λ s. s }
+framed-check b false n u f = f
+
+framed-cond : (b : Board) (t : Bool) (c d : Board) → Framed b c → Framed b d → Framed b (cond t c d)
+framed-cond b true c d f g = f
+framed-cond b false c d f g = g
+
+-- ---- orders: one changes in a class of a share, or it is empty and stays so
+
+upd-as : {A : Type 0} (f : ℕ → A) (j : ℕ) (v : A) (k : ℕ) (d : A) → f k ≡ d → (k ≡ j → v ≡ d) → upd f j v k ≡ d
+upd-as f j v k d other same = go (ℕ-discrete k j)
+  where
+    go : Dec (k ≡ j) → upd f j v k ≡ d
+    go (yes e) = rw e (upd-same f j v) ∙ same e
+    go (no e) = upd-other f j v k e ∙ other
+
+upd-class : {A : Type 0} (f : ℕ → A) (x : Place) (v : A) (k : ℕ) (d : A) → 17 ≤ k → f k ≡ d → upd f (blockClass x) v k ≡ d
+upd-class f x v k d h e = upd-as f (blockClass x) v k d e (λ same. absurd (omega (arith, class-le (x .share))))
+
+first-gone : (o : ℕ → List ℕ) (j k : ℕ) → o k ≡ [] → upd o j (drop 1 (o j)) k ≡ []
+first-gone o j k e = upd-as o j (drop 1 (o j)) k [] e (λ same. rw (← same, e))
+
+-- ---- held shares: some go
+
+cond-zero : (t : Bool) (n : ℕ) → n ≡ 0 → cond t 0 n ≡ 0
+cond-zero true n e = refl
+cond-zero false n e = e
+
+release-zero : (c d : ℕ) (H : ℕ → ℕ) (k : ℕ) → H k ≡ 0 → release c d H k ≡ 0
+unfolding release
+release-zero c d H k e = cond-zero (leb (nextStart k c) d) (H k) e
+
+-- ---- the steps
+
+framed-goOn : (b : Board) (p : ℕ) (x : Place) → Framed b (goOn b p x)
+framed-goOn b p x = record { size = refl; high = λ s. record { noOrder = s .noOrder; noHeld = s .noHeld } }
+
+framed-ended : (b : Board) (p : ℕ) (x : Place) (o : ℕ → List ℕ) → (Seventeen b → (k : ℕ) → 17 ≤ k → o k ≡ []) → Framed b (ended b p x o)
+unfolding ended settle
+framed-ended b p x o orders = record {
+  size = refl;
+  high = λ s. record {
+    noOrder = orders s;
+    noHeld = λ k h. cond-zero (isNone (leastReady (set (b .places) p x))) (release (b .clock) (suc (b .clock)) (b .held) k) (release-zero (b .clock) (suc (b .clock)) (b .held) k (s .noHeld k h));
+  };
+}
+
+framed-begin : (b : Board) (t : ℕ) → Framed b (begin b t)
+unfolding begin
+framed-begin b t = record {
+  size = refl;
+  high = λ s. record {
+    noOrder = λ k h. first-gone (b .orders) (lowest b t) k (s .noOrder k h);
+    noHeld = λ k h. release-zero (b .clock) t (b .held) k (s .noHeld k h);
+  };
+}
+
+framed-closed : (b : Board) (p : ℕ) → Framed b (closed b p)
+unfolding closed
+framed-closed b p = record { size = refl; high = λ s. record { noOrder = s .noOrder; noHeld = λ k h. go k h (s .noHeld k h) (quiet b) } }
+  where
+    go : (k : ℕ) → 17 ≤ k → b .held k ≡ 0 → (t : Bool) → cond t (b .held) (upd (b .held) (blockClass (at b p)) (b .held (blockClass (at b p)) + at b p .share)) k ≡ 0
+    go k h e true = e
+    go k h e false = upd-class (b .held) (at b p) (b .held (blockClass (at b p)) + at b p .share) k 0 h e
+
+framed-taken : (b : Board) (p : ℕ) (r : Record) → Framed b (takenIn b p r)
+unfolding takenIn
+framed-taken b p r = framed-cond b (leb (length (at b p .lane)) 0) (joining b p x) (goOn b p (more (at b p) r))
+    (record { size = refl; high = λ s. record { noOrder = λ k h. upd-class (b .orders) x (b .orders (blockClass x) ++ (p ∷ [])) k [] h (s .noOrder k h); noHeld = s .noHeld } })
+    (framed-goOn b p (more (at b p) r))
+  where
+    x : Place
+    x = joins (b .clock) (at b p) r
+
+framed-send : (b : Board) (p : ℕ) → Framed b (sendFrom b p)
+unfolding sendFrom
+framed-send b p =
+    framed-cond b (leb (length (x .lane)) 1) _ _ (framed-ended b p (emptied x) (b .orders) (λ s. s .noOrder))
+    (framed-cond b (ltb (leftAfter x) (charge (getD (drop 1 (x .lane)) 0 noRecord) * 65536)) _ _
+    (framed-ended b p (short (b .clock) x) (upd (b .orders) (blockClass x) (b .orders (blockClass x) ++ (p ∷ []))) (λ s k h. upd-class (b .orders) x (b .orders (blockClass x) ++ (p ∷ [])) k [] h (s .noOrder k h)))
+    (framed-goOn b p (going x)))
+  where
+    x : Place
+    x = at b p
+
+-- ---- every call
+
+framed-step : (b : Board) (x : Single) → Framed b (step b x .next)
+unfolding step serve serveBy send
+framed-step b (open! n s) = rw (open-checks b n s) (
+    framed-check b (eqb n 0 || (eqb s 0 || ltb 65536 s)) 4 _
+    (framed-check b (ltb (whereIs b n) 64) 5 _
+    (framed-check b (leb 64 (freeAt b)) 7 _
+    (framed-check b (ltb (freeShare b) s) 8 (record { out = done; next = goOn b (freeAt b) (opened n s) }) (framed-goOn b (freeAt b) (opened n s))))))
+framed-step b (rename! old new) = rw (rename-checks b old new) (
+    framed-check b (eqb new 0) 4 _
+    (framed-check b (leb 64 (whereIs b old)) 6 _
+    (framed-check b (ltb (whereIs b new) 64) 5 (record { out = done; next = goOn b (whereIs b old) (renamed new (at b (whereIs b old))) }) (framed-goOn b (whereIs b old) (renamed new (at b (whereIs b old)))))))
+framed-step b (close! n) = rw (close-checks b n) (
+    framed-check b (leb 64 (whereIs b n)) 6 _
+    (framed-check b (ltb 0 (length (at b (whereIs b n) .lane))) 10 (record { out = done; next = closed b (whereIs b n) }) (framed-closed b (whereIs b n))))
+framed-step b (record! n r) = rw (take-checks b n r) (
+    framed-check b (eqb n 0 || (eqb (r .bytes) 0 || ltb (b .largest) (r .bytes))) 4 _
+    (framed-check b (leb 64 (whereIs b n)) 6 _
+    (framed-check b (leb 32 (length (at b (whereIs b n) .lane))) 9 (tookAt b (whereIs b n) r) (framed-taken b (whereIs b n) r))))
+framed-step b serve! = go (b .slot) (leastReady (b .places))
+  where
+    begun : (t : ℕ) → Framed b (send (begin b t) (chosen b t) .next)
+    begun t = let f = framed-begin b t in let g = framed-send (begin b t) (chosen b t) in record { size = g .size ∙ f .size; high = λ s. g .high (f .high s) }
+
+    go : (s r : Option ℕ) → Framed b (serveBy b s r .next)
+    go (some p) r = framed-send b p
+    go none none = record { size = refl; high = λ s. s }
+    go none (some r) = framed-check b (leb (2 ^ 62) (max (b .clock) r)) 11 (send (begin b (max (b .clock) r)) (chosen b (max (b .clock) r))) (begun (max (b .clock) r))
+
+-- L
+pub size-step : (b : Board) (x : Single) → step b x .next .largest ≡ b .largest
+size-step b x = framed-step b x .size
+
+pub size-play : (b : Board) (xs : List Single) → play b xs .largest ≡ b .largest
+unfolding play
+size-play b [] = refl
+size-play b (x ∷ xs) = size-play (step b x .next) xs ∙ size-step b x
+
+-- the seventeen classes
+pub seventeen-fresh : (L : ℕ) → Seventeen (fresh L)
+unfolding fresh
+seventeen-fresh L = record { noOrder = λ k h. refl; noHeld = λ k h. refl }
+
+pub seventeen-step : (b : Board) (x : Single) → Seventeen b → Seventeen (step b x .next)
+seventeen-step b x s = framed-step b x .high s
+
+pub seventeen-play : (b : Board) (xs : List Single) → Seventeen b → Seventeen (play b xs)
+unfolding play
+seventeen-play b [] s = s
+seventeen-play b (x ∷ xs) s = seventeen-play (step b x .next) xs (seventeen-step b x s)

@@ -1,0 +1,112 @@
+-- Demand 2: the story of every block is accounted for.
+use mathlib.Core.Path.{_≡_, refl, sym, ap, ap₂, _∙_}
+use mathlib.Core.Bool.{Bool, true, false, true≢false, false≢true}
+use mathlib.Core.List.{List, [], _∷_, _++_, append-assoc, append-nil}
+use Prim.Native.Nat.{ℕ, _+_}
+use native.Mathlib.Omega.{arith}
+use lib.ListN.{length, getD, set}
+use lib.Seq.{getD-set-same}
+use Rattle.base.proofs.Numbers.{eqb-yes}
+use Rattle.rules.specs.Board.{Record, Place, freePlace, Board, at}
+use Rattle.rules.specs.Choice.{Out, refused, done, taken, sent, Turn, goOn}
+use Rattle.rules.specs.Blocks.{opened, freeAt}
+use Rattle.rules.specs.Calls.{Single, open!, rename!, close!, record!, serve!, step, told, codeOf}
+use Rattle.rules.specs.Runs.{play, answer, closes, takenFor, isFor, sentFor, Story, begins, goesOn, tells, story}
+use Rattle.rules.specs.Promises.{Accounted}
+use Rattle.rules.proofs.Turns.{fromPlace}
+use Rattle.rules.proofs.Tidy.{Tidy}
+use Rattle.rules.proofs.TidyCalls.{tidy-step}
+use Rattle.rules.proofs.Conserve.{tookOne, sentOne, flow-step}
+use Rattle.rules.proofs.Cases.{Refusal, refusal-not0, Has, CanOpen, call-cases}
+use Rattle.rules.proofs.Names.{Follows, follows, has-find, has-lane}
+use Rattle.rules.proofs.Unspoilt.{tidy-play}
+
+sent-for : (b : Board) (n p : ℕ) (o : Out) → isFor n (told b o) ≡ fromPlace p o → sentFor n (told b o) ≡ sentOne p o
+sent-for b n p (refused code) e = refl
+sent-for b n p done e = refl
+sent-for b n p (taken a) e = refl
+sent-for b n p (sent q r t) e = rw e
+
+no-length : (l : List Record) → length l ≡ 0 → l ≡ []
+no-length [] e = refl
+no-length (x ∷ xs) e = absurd (omega arith)
+
+-- a story so far, for the block at p
+record Told (s : Story) (b : Board) (p : ℕ) : Type 0 where
+  whenClosed : s .closed ≡ true → s .taken ≡ s .sent
+  whenOpen : s .closed ≡ false → Has b p (s .number) × (s .taken ≡ s .sent ++ at b p .lane)
+
+told-step : (s : Story) (b : Board) (p : ℕ) (x : Single) → Tidy b → Told s b p → Told (tells (s .closed) s x (answer b x)) (step b x .next) p
+told-step s b p x g t = go (s .closed) refl
+  where
+    nb : Board
+    nb = step b x .next
+
+    go : (c : Bool) → s .closed ≡ c → Told (tells c s x (answer b x)) nb p
+    go true e = record { whenClosed = λ _. t .whenClosed e; whenOpen = λ f. absurd (true≢false (sym e ∙ f)) }
+    go false e = record { whenClosed = shut; whenOpen = λ c. (f .stays c .0, goes) }
+      where
+        h : Has b p (s .number)
+        h = t .whenOpen e .0
+
+        f : Follows b p (s .number) x (step b x)
+        f = follows b p (s .number) g h x
+
+        -- what was taken in and sent by this call, at the block's place
+        goes : s .taken ++ takenFor (s .number) x (answer b x) ≡ (s .sent ++ sentFor (s .number) (answer b x)) ++ at nb p .lane
+        goes =
+            ap₂ (λ (u v : List Record). u ++ v) (t .whenOpen e .1) (f .took)
+            ∙ append-assoc (s .sent) (at b p .lane) (tookOne p b x (step b x .out))
+            ∙ ap (λ (u : List Record). s .sent ++ u) (flow-step b x g p ∙ ap (λ (u : List Record). u ++ at nb p .lane) (sym (sent-for b (s .number) p (step b x .out) (f .sent))))
+            ∙ sym (append-assoc (s .sent) (sentFor (s .number) (answer b x)) (at nb p .lane))
+
+        shut : closes (s .number) x (answer b x) ≡ true → s .taken ++ takenFor (s .number) x (answer b x) ≡ s .sent ++ sentFor (s .number) (answer b x)
+        shut c = goes ∙ ap (λ (u : List Record). (s .sent ++ sentFor (s .number) (answer b x)) ++ u) (no-length (at nb p .lane) (f .ends c .1)) ∙ append-nil _
+
+told-story : (s : Story) (b : Board) (p : ℕ) (xs : List Single) → Tidy b → Told s b p → Told (story s b xs) (play b xs) p
+unfolding story play
+told-story s b p [] g t = t
+told-story s b p (x ∷ xs) g t = told-story (tells (s .closed) s x (answer b x)) (step b x .next) p xs (tidy-step b x g) (told-step s b p x g t)
+
+-- an opening that is done gives the block a place with an empty lane
+abbrev OpenedBy : Board → Single → Turn → Type 0
+OpenedBy b (open! n s) t = codeOf (told b (t .out)) ≡ 0 → (p : ℕ) × (Has (t .next) p n) × (at (t .next) p .lane ≡ [])
+OpenedBy b (rename! old new) t = Unit {0}
+OpenedBy b (close! n) t = Unit {0}
+OpenedBy b (record! n r) t = Unit {0}
+OpenedBy b serve! t = Unit {0}
+
+opened-by : (b : Board) → Tidy b → (x : Single) → OpenedBy b x (step b x)
+opened-by b g = call-cases b g (OpenedBy b) (record { refused = no-open; opens = opens; renames = λ p old new c. tt; closes = λ p n c. tt; takes = λ p n r c. tt; goesOn = λ p c. tt; begins = λ r t p c e. tt })
+  where
+    no-open : (x : Single) (code : ℕ) → Refusal code → OpenedBy b x (record { out = refused code; next = b })
+    no-open (open! n s) code r = λ e. absurd (true≢false (sym (eqb-yes code 0 e) ∙ refusal-not0 code r))
+    no-open (rename! old new) code r = tt
+    no-open (close! n) code r = tt
+    no-open (record! n x) code r = tt
+    no-open serve! code r = tt
+
+    opens : (n s : ℕ) → CanOpen b n s → OpenedBy b (open! n s) (record { out = done; next = goOn b (freeAt b) (opened n s) })
+    opens n s c e = (freeAt b, record { inside = c .inside; bought = rw (ap (λ (x : Place). x .share) here) (c .share); named = ap (λ (x : Place). x .number) here }, ap (λ (x : Place). x .lane) here)
+      where
+        here : getD (set (b .places) (freeAt b) (opened n s)) (freeAt b) freePlace ≡ opened n s
+        here = getD-set-same (b .places) (freeAt b) (opened n s) freePlace (omega (arith, c .inside, g .shape .all64))
+
+pub conserved : (b : Board) → Tidy b → (n share : ℕ) (after : List Single) → codeOf (answer b (open! n share)) ≡ 0
+    → Accounted (story (begins n) (step b (open! n share) .next) after) (play (step b (open! n share) .next) after)
+conserved b g n share after e = go (opened-by b g (open! n share) e)
+  where
+    nb : Board
+    nb = step b (open! n share) .next
+
+    gb : Tidy nb
+    gb = tidy-step b (open! n share) g
+
+    go : (p : ℕ) × (Has nb p n) × (at nb p .lane ≡ []) → Accounted (story (begins n) nb after) (play nb after)
+    go (p, h, l) = record { whenClosed = t .whenClosed; whenOpen = λ c. ((p, has-find (play nb after) p _ ge (t .whenOpen c .0)), t .whenOpen c .1 ∙ ap (λ (u : List Record). story (begins n) nb after .sent ++ u) (sym (has-lane (play nb after) p _ ge (t .whenOpen c .0)))) }
+      where
+        t : Told (story (begins n) nb after) (play nb after) p
+        t = told-story (begins n) nb p after gb (record { whenClosed = λ f. absurd (false≢true f); whenOpen = λ _. (h, sym l) })
+
+        ge : Tidy (play nb after)
+        ge = tidy-play nb after gb

@@ -1,0 +1,214 @@
+-- HOW THE NEXT RECORD IS CHOSEN (document 01, under that heading, rules 1 to 5).
+use mathlib.Core.Bool.{Bool, true, false, cond, _&&_, _||_}
+use mathlib.Core.Option.{Option, none, some}
+use mathlib.Core.List.{List, [], _∷_, _++_}
+use Prim.Native.Nat.{ℕ, suc, _+_, _*_, _-_, _^_, min, max}
+use lib.Dec.{leb, ltb, eqb}
+use lib.ListN.{length, getD, set, drop}
+use Rattle.base.specs.Tests.{least}
+use Rattle.units.specs.Classes.{nextStart}
+use Rattle.units.specs.Credit.{creditOf}
+use Rattle.rules.specs.Board.{Record, noRecord, charge, Stand, out, queued, serving, Place, Board, at, depth, entry, onward, front, blockClass, isOpen, anyDue}
+
+-- ---- What a call does: what comes of it, and the next board
+
+-- a record that was taken: the entry of both tables that it stands in
+pub record Taken : Type 0 where
+  pub entry : ℕ
+
+pub data Out : Type 0 where
+  -- refused, with this code
+  refused : ℕ → Out
+  done : Out
+  taken : Taken → Out
+  -- the front record of this place was sent, in the slot that began at this clock
+  sent : ℕ → Record → ℕ → Out
+
+pub record Turn : Type 0 where
+  pub out : Out
+  pub next : Board
+
+-- A refusal leaves the board as it was.
+abbrev pub refuse : Board → ℕ → Turn
+refuse b code = record { out = refused code; next = b }
+
+-- Checks go down the table: a test that holds gives its code.
+abbrev pub check : Board → Bool → ℕ → Turn → Turn
+check b true code t = refuse b code
+check b false code t = t
+
+-- ---- The open block with a number: what each caller does with an open number and with an unknown one
+
+pub data Found : Type 0 where
+  openAt : ℕ → Found
+  unknown : Found
+
+unfoldable pub whereIs : Board → ℕ → ℕ
+whereIs b n = least (λ p. isOpen (at b p) && eqb n (at b p .number)) 64
+
+abbrev pub foundAt : Bool → ℕ → Found
+foundAt true p = openAt p
+foundAt false p = unknown
+
+abbrev pub find : Board → ℕ → Found
+find b n = foundAt (ltb (whereIs b n) 64) (whereIs b n)
+
+abbrev pub byFound : {A : Type 0} → Found → (ℕ → A) → A → A
+byFound (openAt p) isOpen isUnknown = isOpen p
+byFound unknown isOpen isUnknown = isUnknown
+
+-- ---- Small steps
+
+-- the function f, with v at k
+unfoldable pub upd : {A : Type 0} → (ℕ → A) → ℕ → A → ℕ → A
+upd f k v j = cond (eqb j k) v (f j)
+
+-- one place of the board changed
+abbrev pub goOn : Board → ℕ → Place → Board
+goOn b p x = record { largest = b .largest; clock = b .clock; places = set (b .places) p x; orders = b .orders; slot = b .slot; held = b .held }
+
+-- place p, now x, joins the end of its class's order
+abbrev pub joining : Board → ℕ → Place → Board
+joining b p x =
+    record {
+      largest = b .largest;
+      clock = b .clock;
+      places = set (b .places) p x;
+      orders = upd (b .orders) (blockClass x) (b .orders (blockClass x) ++ (p ∷ []));
+      slot = b .slot;
+      held = b .held;
+    }
+
+-- ---- 1. A record comes
+
+-- It goes to the end of its lane.
+abbrev pub more : Place → Record → Place
+more x r = record { number = x .number; share = x .share; start = x .start; lane = x .lane ++ (r ∷ []); deficit = x .deficit; stand = x .stand }
+
+-- If the lane was empty, the block joins the end of its class's order, with ready time the next start of its class above the present clock.
+abbrev pub joins : ℕ → Place → Record → Place
+joins clock x r = record { number = x .number; share = x .share; start = x .start; lane = r ∷ []; deficit = x .deficit; stand = queued (nextStart (blockClass x) clock) }
+
+unfoldable pub takenIn : Board → ℕ → Record → Board
+takenIn b p r = cond (leb (length (at b p .lane)) 0) (joining b p (joins (b .clock) (at b p) r)) (goOn b p (more (at b p) r))
+
+-- codes 4, 6, 9
+unfoldable pub takeRecord : Board → ℕ → Record → Turn
+takeRecord b n r =
+    check b (eqb n 0 || (eqb (r .bytes) 0 || ltb (b .largest) (r .bytes))) 4
+    (byFound (find b n)
+    (λ p. check b (leb (depth (at b p)) (length (at b p .lane))) 9 (record { out = taken (record { entry = entry p (at b p) (length (at b p .lane)) }); next = takenIn b p r }))
+    (refuse b 6))
+
+-- ---- 5. A slot that began at t ends
+
+-- A held share goes when the clock, moving from c to d, reaches the next start of its class above c,
+unfoldable pub release : ℕ → ℕ → (ℕ → ℕ) → ℕ → ℕ
+release c d H j = cond (leb (nextStart j c) d) 0 (H j)
+
+-- the least ready time among the blocks in an order, or none
+abbrev pub readyOf : Stand → Option ℕ
+readyOf out = none
+readyOf (queued ready) = some ready
+readyOf (serving left) = none
+
+abbrev pub lesser : Option ℕ → Option ℕ → Option ℕ
+lesser none y = y
+lesser (some a) none = some a
+lesser (some a) (some b) = some (min a b)
+
+unfoldable pub leastReady : List Place → Option ℕ
+leastReady [] = none
+leastReady (x ∷ xs) = lesser (readyOf (x .stand)) (leastReady xs)
+
+abbrev pub isNone : {A : Type 0} → Option A → Bool
+isNone none = true
+isNone (some x) = false
+
+-- or when no block waits: here no slot is open, so none waits when none is in an order.
+unfoldable pub settle : List Place → (ℕ → ℕ) → ℕ → ℕ
+settle l H j = cond (isNone (leastReady l)) 0 (H j)
+
+-- The clock is t + 1; place p is now x, the orders o.
+unfoldable pub ended : Board → ℕ → Place → (ℕ → List ℕ) → Board
+ended b p x o =
+    record {
+      largest = b .largest;
+      clock = suc (b .clock);
+      places = set (b .places) p x;
+      orders = o;
+      slot = none;
+      held = settle (set (b .places) p x) (release (b .clock) (suc (b .clock)) (b .held));
+    }
+
+-- ---- 4. After each send its charge is taken from what is left
+
+abbrev pub leftOf : Stand → ℕ
+leftOf out = 0
+leftOf (queued ready) = 0
+leftOf (serving left) = left
+
+-- what is left after the front record's charge
+abbrev pub leftAfter : Place → ℕ
+leftAfter x = leftOf (x .stand) - charge (front x) * 65536
+
+-- If the lane is now empty, the slot ends and the deficit is 0.
+abbrev pub emptied : Place → Place
+emptied x = record { number = x .number; share = x .share; start = onward x; lane = []; deficit = 0; stand = out }
+
+-- If the new front needs more than is left, the slot ends and the deficit is what is left;
+-- its block still waits, so it joins the end of its class's order with ready time the next start above t.
+abbrev pub short : ℕ → Place → Place
+short t x = record { number = x .number; share = x .share; start = onward x; lane = drop 1 (x .lane); deficit = leftAfter x; stand = queued (nextStart (blockClass x) t) }
+
+-- Otherwise the slot stays open.
+abbrev pub going : Place → Place
+going x = record { number = x .number; share = x .share; start = onward x; lane = drop 1 (x .lane); deficit = 0; stand = serving (leftAfter x) }
+
+unfoldable pub sendFrom : Board → ℕ → Board
+sendFrom b p =
+    cond (leb (length (at b p .lane)) 1) (ended b p (emptied (at b p)) (b .orders))
+    (cond (ltb (leftAfter (at b p)) (charge (getD (drop 1 (at b p .lane)) 0 noRecord) * 65536))
+    (ended b p (short (b .clock) (at b p)) (upd (b .orders) (blockClass (at b p)) (b .orders (blockClass (at b p)) ++ (p ∷ []))))
+    (goOn b p (going (at b p))))
+
+-- ---- 2. A slot is open: the next serving call sends the front record of that block
+
+unfoldable pub send : Board → ℕ → Turn
+send b p = record { out = sent p (front (at b p)) (b .clock); next = sendFrom b p }
+
+-- ---- 3. No slot is open
+
+-- The lowest class with a pending block is taken, and in it the first block of its order.
+unfoldable pub lowest : Board → ℕ → ℕ
+lowest b t = least (λ k. anyDue (b .places) t (b .orders k)) 17
+
+abbrev pub chosen : Board → ℕ → ℕ
+chosen b t = getD (b .orders (lowest b t)) 0 0
+
+-- What is left of the slot is its deficit plus its credit; the deficit then reads 0 until the slot ends.
+abbrev pub started : ℕ → Place → Place
+started L x = record { number = x .number; share = x .share; start = x .start; lane = x .lane; deficit = 0; stand = serving (x .deficit + creditOf L (x .share)) }
+
+-- Its slot begins at that clock; it leaves the order.
+unfoldable pub begin : Board → ℕ → Board
+begin b t =
+    record {
+      largest = b .largest;
+      clock = t;
+      places = set (b .places) (chosen b t) (started (b .largest) (at b (chosen b t)));
+      orders = upd (b .orders) (lowest b t) (drop 1 (b .orders (lowest b t)));
+      slot = some (chosen b t);
+      held = release (b .clock) t (b .held);
+    }
+
+-- If none is pending, the clock goes to the least ready time among waiting blocks: the slot begins at the later of that and the clock.
+-- Code 1 where no block waits: no slot is open, and none is in an order. Code 11 where the slot would begin at 2^62 or later.
+unfoldable pub serveBy : Board → Option ℕ → Option ℕ → Turn
+serveBy b (some p) ready = send b p
+serveBy b none none = refuse b 1
+serveBy b none (some ready) =
+    check b (leb (2 ^ 62) (max (b .clock) ready)) 11 (send (begin b (max (b .clock) ready)) (chosen b (max (b .clock) ready)))
+
+unfoldable pub serve : Board → Turn
+serve b = serveBy b (b .slot) (leastReady (b .places))
