@@ -433,5 +433,5 @@ shape-other {L} {c} {l} {o} {H} p x H′ h was is dis new room f =
     }
 
 pub free-ok : (L : ℕ) → 64 ≤ L → PlaceOk L freePlace
-unfolding StandOk All depth
+unfolding StandOk All
 free-ok L h = record { items = tt; owed = omega (arith, most-pos L h); most = omega arith; standOk = refl; brief = omega arith; ring = omega arith; clear = λ _. refl; named = inl refl }
