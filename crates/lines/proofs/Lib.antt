@@ -1,0 +1,4 @@
+pub mod Texts
+pub mod Fitting
+pub mod Reading
+pub mod Worked

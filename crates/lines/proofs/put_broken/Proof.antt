@@ -1,0 +1,29 @@
+-- `lines::put_broken` meets its contract. The line fits the buffer, and is that of its kind. Assumes nothing.
+use denote.Ref.{now}
+use mathlib.Core.Path.{_≡_}
+use native.Mathlib.Omega.{arith}
+use lib.ListN.{length}
+use Rattle.lines.specs.Listing.{brokenLine}
+use Rattle.lines.proofs.Fitting.{broken-fits}
+use borrow.Author.Needs.{needs}
+use Rattle.lines.proofs.put_broken.Statement.{statement}
+use Rattle.lines.proofs.put_broken.Tie as tie
+
+slice-aggregate-put-line : tie.Need-slice-aggregate-put-line
+slice-aggregate-put-line c = search needs
+
+slice-aggregate-put-line-2 : tie.Need-slice-aggregate-put-line-2
+slice-aggregate-put-line-2 c = search needs
+
+returns : tie.Need-returns
+unfolding brokenLine
+returns c = c .put-line .ensures
+
+put-line-requires : tie.Need-put-line-requires
+unfolding brokenLine
+put-line-requires c κs = let n : length (now (c .before .before .before .args .line)) ≡ 64 = search needs in omega (arith, broken-fits (c .before .before .before .args .offset) (c .before .before .before .fits .offset .fits))
+
+pub put-broken-spec : {M : Type 1} → statement M
+put-broken-spec =
+    tie.close
+    (tie.spec slice-aggregate-put-line slice-aggregate-put-line-2 put-line-requires returns)

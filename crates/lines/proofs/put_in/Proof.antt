@@ -1,0 +1,29 @@
+-- `lines::put_in` meets its contract. The line fits the buffer, and is that of its kind. Assumes nothing.
+use denote.Ref.{now}
+use mathlib.Core.Path.{_≡_}
+use native.Mathlib.Omega.{arith}
+use lib.ListN.{length}
+use Rattle.lines.specs.Listing.{inLine}
+use Rattle.lines.proofs.Fitting.{in-fits}
+use borrow.Author.Needs.{needs}
+use Rattle.lines.proofs.put_in.Statement.{statement}
+use Rattle.lines.proofs.put_in.Tie as tie
+
+slice-aggregate-put-line : tie.Need-slice-aggregate-put-line
+slice-aggregate-put-line c = search needs
+
+slice-aggregate-put-line-2 : tie.Need-slice-aggregate-put-line-2
+slice-aggregate-put-line-2 c = search needs
+
+returns : tie.Need-returns
+unfolding inLine
+returns c = c .put-line .ensures
+
+put-line-requires : tie.Need-put-line-requires
+unfolding inLine
+put-line-requires c κs = let n : length (now (c .before .before .before .args .line)) ≡ 64 = search needs in omega (arith, in-fits (c .before .before .before .args .number) (c .before .before .before .args .code) (c .before .before .before .fits .number .fits) (c .before .before .before .fits .code .fits))
+
+pub put-in-spec : {M : Type 1} → statement M
+put-in-spec =
+    tie.close
+    (tie.spec slice-aggregate-put-line slice-aggregate-put-line-2 put-line-requires returns)

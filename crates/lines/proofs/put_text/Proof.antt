@@ -1,0 +1,64 @@
+-- `lines::put_text` meets its contract. The text up to an index is written. Assumes nothing.
+use denote.Ref.{now}
+use mathlib.Core.Path.{_≡_, refl}
+use Prim.Native.Nat.{_-_, _≤_}
+use native.Mathlib.Omega.{arith}
+use lib.ListN.{length, take, length-set}
+use lib.Seq.{sets}
+use Rattle.lines.proofs.Texts.{text-more, text-all}
+use borrow.Author.Needs.{needs}
+use Rattle.lines.proofs.put_text.Statement.{statement}
+use Rattle.lines.proofs.put_text.Tie as tie
+
+abbrev Inv-loop : tie.InvT-loop
+Inv-loop line₀ at text i₀ line i = (i ≤ length text) × ((length line ≡ length line₀) × (line ≡ sets line₀ at (take i text)))
+
+abbrev μ-loop : tie.MeasureT-loop
+μ-loop line₀ at text i₀ line i = length text - i
+
+loop-holds : tie.Need-loop-holds Inv-loop μ-loop
+loop-holds c = (omega arith, (refl, refl))
+
+shared-slice-read-line : tie.Need-shared-slice-read-line Inv-loop μ-loop
+shared-slice-read-line c = search needs
+
+add-line : tie.Need-add-line Inv-loop μ-loop
+add-line c = search needs
+
+slice-write-line : tie.Need-slice-write-line Inv-loop μ-loop
+slice-write-line c = search needs
+
+add-i : tie.Need-add-i Inv-loop μ-loop
+add-i c = search needs
+
+loop-less : tie.Need-loop-less Inv-loop μ-loop
+loop-less c = search needs
+
+loop-again : tie.Need-loop-again Inv-loop μ-loop
+loop-again c = (omega arith, (rw length-set (c .before .before .loop .inv .1 .0), text-more _ (c .before .before .loop .line) (now (c .before .before .before .args .text)) (c .before .before .before .args .at) (c .before .before .loop .i) (c .before .loop-test .taken) (c .before .before .loop .inv .1 .1)))
+
+add-result : tie.Need-add-result Inv-loop μ-loop
+add-result c = search needs
+
+same-length : tie.Need-same-length Inv-loop μ-loop
+same-length c = search needs
+
+returns : tie.Need-returns Inv-loop μ-loop
+returns c = text-all _ (c .before .loop .line) (now (c .before .before .args .text)) (c .before .before .args .at) (c .before .loop .i) (omega arith) (c .before .loop .inv .1 .1)
+
+pub put-text-spec : {M : Type 1} → statement M
+put-text-spec =
+    tie.close
+    (tie.spec
+    Inv-loop
+    μ-loop
+    loop-holds
+    shared-slice-read-line
+    add-line
+    slice-write-line
+    add-i
+    loop-less
+    loop-again
+    add-result
+    same-length
+    returns)

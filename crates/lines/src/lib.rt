@@ -1,0 +1,127 @@
+// The writer of a listing's lines: each from the front of a lent buffer, which is longer than any line.
+ghost use mathlib.Core.Path.{_≡_};
+ghost use mathlib.Core.List.{List, [], _∷_};
+ghost use Prim.Native.Nat.{_+_, _≤_};
+ghost use lib.ListN.{length};
+ghost use Rattle.lines.specs.Text.{decimal, columns, lineOf, Written, Line};
+ghost use Rattle.lines.specs.Listing.{openLine, closeLine, nameLine, inLine, outLine, refusedLine, endLine, brokenLine, longLine};
+
+fn put_byte(line: &mut [u8], at: usize, b: u8) -> usize
+    requires { ⌜ at + 1 ≤ length (now line) ⌝ }
+    ensures { λ r. ⌜ Written (now (line .entry)) at (b ∷ []) r (now (line .exit)) ⌝ }
+{
+    line[at] = b;
+    at + 1
+}
+
+// The number in decimal, with no zero in front.
+fn put_number(line: &mut [u8], at: usize, n: u64) -> usize
+    requires { ⌜ at + length (decimal n) ≤ length (now line) ⌝ }
+    ensures { λ r. ⌜ Written (now (line .entry)) at (decimal n) r (now (line .exit)) ⌝ }
+{
+    if n < 10 {
+        return put_byte(line, at, (48 + n % 10) as u8);
+    }
+    let next = put_number(&mut *line, at, n / 10);
+    put_byte(line, next, (48 + n % 10) as u8)
+}
+
+fn put_text(line: &mut [u8], at: usize, text: &[u8]) -> usize
+    requires { ⌜ at + length (now text) ≤ length (now line) ⌝ }
+    ensures { λ r. ⌜ Written (now (line .entry)) at (now (text .entry)) r (now (line .exit)) ⌝ }
+{
+    let mut i: usize = 0;
+    while i < text.len() {
+        line[at + i] = text[i];
+        i += 1;
+    }
+    at + i
+}
+
+// Each number after a space.
+fn put_columns(line: &mut [u8], at: usize, numbers: &[u64]) -> usize
+    requires { ⌜ at + length (columns (now numbers)) ≤ length (now line) ⌝ }
+    ensures { λ r. ⌜ Written (now (line .entry)) at (columns (now (numbers .entry))) r (now (line .exit)) ⌝ }
+{
+    let mut next = at;
+    let mut i: usize = 0;
+    while i < numbers.len() {
+        let space = put_byte(&mut *line, next, 32);
+        next = put_number(&mut *line, space, numbers[i]);
+        i += 1;
+    }
+    next
+}
+
+fn put_line(line: &mut [u8], word: &[u8], numbers: &[u64]) -> usize
+    requires { ⌜ length (lineOf (now word) (now numbers)) ≤ length (now line) ⌝ }
+    ensures { λ r. ⌜ Line (now (line .entry)) (lineOf (now (word .entry)) (now (numbers .entry))) r (now (line .exit)) ⌝ }
+{
+    let a = put_text(&mut *line, 0, word);
+    let b = put_columns(&mut *line, a, numbers);
+    put_byte(line, b, 10)
+}
+
+pub fn put_open(line: &mut [u8; 64], block: u32, code: u8) -> usize
+    ensures { λ r. ⌜ Line (now (line .entry)) (openLine block code) r (now (line .exit)) ⌝ }
+{
+    let numbers = [block as u64, code as u64];
+    put_line(line, b"open", &numbers)
+}
+
+pub fn put_close(line: &mut [u8; 64], block: u32, code: u8) -> usize
+    ensures { λ r. ⌜ Line (now (line .entry)) (closeLine block code) r (now (line .exit)) ⌝ }
+{
+    let numbers = [block as u64, code as u64];
+    put_line(line, b"close", &numbers)
+}
+
+pub fn put_name(line: &mut [u8; 64], old: u32, new: u32, code: u8) -> usize
+    ensures { λ r. ⌜ Line (now (line .entry)) (nameLine old new code) r (now (line .exit)) ⌝ }
+{
+    let numbers = [old as u64, new as u64, code as u64];
+    put_line(line, b"name", &numbers)
+}
+
+pub fn put_in(line: &mut [u8; 64], number: u32, code: u8) -> usize
+    ensures { λ r. ⌜ Line (now (line .entry)) (inLine number code) r (now (line .exit)) ⌝ }
+{
+    let numbers = [number as u64, code as u64];
+    put_line(line, b"in", &numbers)
+}
+
+pub fn put_out(line: &mut [u8; 64], block: u32, number: u32, len: u16, clock: u64) -> usize
+    ensures { λ r. ⌜ Line (now (line .entry)) (outLine block number len clock) r (now (line .exit)) ⌝ }
+{
+    let numbers = [block as u64, number as u64, len as u64, clock];
+    put_line(line, b"out", &numbers)
+}
+
+// A serve that was refused.
+pub fn put_refused(line: &mut [u8; 64], code: u8) -> usize
+    ensures { λ r. ⌜ Line (now (line .entry)) (refusedLine code) r (now (line .exit)) ⌝ }
+{
+    let numbers = [code as u64];
+    put_line(line, b"out -", &numbers)
+}
+
+pub fn put_end(line: &mut [u8; 64], clock: u64, bytes: u64, waiting: u32) -> usize
+    ensures { λ r. ⌜ Line (now (line .entry)) (endLine clock bytes waiting) r (now (line .exit)) ⌝ }
+{
+    let numbers = [clock, bytes, waiting as u64];
+    put_line(line, b"end", &numbers)
+}
+
+pub fn put_broken(line: &mut [u8; 64], offset: u64) -> usize
+    ensures { λ r. ⌜ Line (now (line .entry)) (brokenLine offset) r (now (line .exit)) ⌝ }
+{
+    let numbers = [offset];
+    put_line(line, b"broken", &numbers)
+}
+
+pub fn put_long(line: &mut [u8; 64]) -> usize
+    ensures { λ r. ⌜ Line (now (line .entry)) longLine r (now (line .exit)) ⌝ }
+{
+    let numbers = [0u64; 0];
+    put_line(line, b"long", &numbers)
+}

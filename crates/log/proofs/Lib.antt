@@ -1,0 +1,5 @@
+pub mod Numbers
+pub mod Fields
+pub mod Readings
+pub mod Spellings
+pub mod Worked

@@ -1,0 +1,67 @@
+-- `log::number` meets its contract. The bytes passed spell what is summed. Assumes nothing.
+use denote.Ref.{now}
+use mathlib.Core.Path.{_≡_, ap, _∙_}
+use Prim.Native.Nat.{ℕ, _+_, _-_, _≤_}
+use native.Mathlib.Omega.{arith}
+use Rattle.log.specs.Format.{numberAt}
+use Rattle.log.proofs.Numbers.{number-none, number-more, shift-fits, turn-fits}
+use borrow.Author.Needs.{needs}
+use Rattle.log.proofs.number.Statement.{statement}
+use Rattle.log.proofs.number.Tie as tie
+
+abbrev Inv-loop : tie.InvT-loop
+Inv-loop log at n sum₀ left₀ sum left = (left ≤ n) × (sum ≡ numberAt log at (n - left))
+
+abbrev μ-loop : tie.MeasureT-loop
+μ-loop log at n sum₀ left₀ sum left = left
+
+loop-holds : tie.Need-loop-holds Inv-loop μ-loop
+loop-holds c = let q : c .before .args .n - c .before .args .n ≡ 0 = omega arith in (omega arith, rw q (number-none _ _))
+
+sub-wide : tie.Need-sub-wide Inv-loop μ-loop
+sub-wide c = search needs
+
+add-wide : tie.Need-add-wide Inv-loop μ-loop
+add-wide c = search needs
+
+shared-slice-read-wide : tie.Need-shared-slice-read-wide Inv-loop μ-loop
+shared-slice-read-wide c = search needs
+
+wide-requires : tie.Need-wide-requires Inv-loop μ-loop
+wide-requires c κs = search needs
+
+mul-sum : tie.Need-mul-sum Inv-loop μ-loop
+mul-sum c = shift-fits (now (c .before .before .before .before .before .args .log)) (c .before .before .before .before .before .args .at) (c .before .before .before .before .before .args .n - c .before .before .before .loop .left) (c .before .before .before .loop .sum) (λ (j : ℕ). c .before .before .before .before .shared-slice-known .given j .fits) (omega (arith, c .before .before .loop-test .taken, c .before .before .before .loop .inv .0, c .before .before .before .before .before .pre)) (c .before .before .before .loop .inv .1)
+
+add-sum : tie.Need-add-sum Inv-loop μ-loop
+add-sum c = turn-fits (now (c .before .before .before .before .before .args .log)) (c .before .before .before .before .before .args .at) (c .before .before .before .before .before .args .n - c .before .before .before .loop .left) (c .before .before .before .loop .sum) (c .wide .result) (λ (j : ℕ). c .before .before .before .before .shared-slice-known .given j .fits) (omega (arith, c .before .before .loop-test .taken, c .before .before .before .loop .inv .0, c .before .before .before .before .before .pre)) (c .before .before .before .loop .inv .1) (c .wide .ensures .1)
+
+sub-left : tie.Need-sub-left Inv-loop μ-loop
+sub-left c = search needs
+
+loop-less : tie.Need-loop-less Inv-loop μ-loop
+loop-less c = search needs
+
+loop-again : tie.Need-loop-again Inv-loop μ-loop
+loop-again c = let q : c .before .before .before .before .before .args .n - (c .before .before .before .loop .left - 1) ≡ c .before .before .before .before .before .args .n - c .before .before .before .loop .left + 1 = omega (arith, c .before .before .loop-test .taken, c .before .before .before .loop .inv .0) in (omega arith, rw (q, number-more (now (c .before .before .before .before .before .args .log)) (c .before .before .before .before .before .args .at) (c .before .before .before .before .before .args .n - c .before .before .before .loop .left), ← c .before .before .before .loop .inv .1, c .wide .ensures .0))
+
+returns : tie.Need-returns Inv-loop μ-loop
+returns c = let q : c .before .before .before .args .n - c .before .loop .left ≡ c .before .before .before .args .n = omega arith in c .before .loop .inv .1 ∙ ap (numberAt (now (c .before .before .before .args .log)) (c .before .before .before .args .at)) q
+
+pub number-spec : {M : Type 1} → statement M
+number-spec =
+    tie.close
+    (tie.spec
+    Inv-loop
+    μ-loop
+    loop-holds
+    sub-wide
+    add-wide
+    shared-slice-read-wide
+    wide-requires
+    mul-sum
+    add-sum
+    sub-left
+    loop-less
+    loop-again
+    returns)

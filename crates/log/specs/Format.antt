@@ -1,0 +1,98 @@
+-- The log's format: one field.
+use mathlib.Core.Bool.{Bool, not, cond, _&&_, _||_}
+use mathlib.Core.List.{List, [], _∷_}
+use Prim.Native.Nat.{ℕ, zero, suc, _+_, _-_, _*_}
+use lib.Dec.{ltb, leb, eqb}
+use lib.ListN.{getD, length}
+use Rattle.base.specs.Tests.{every}
+use Rattle.log.specs.declared.Event.{Event}
+use Rattle.log.specs.declared.Event.the-variants.{Largest, Open, Close, Rename, Arrive, Serve, Passed}
+use Rattle.log.specs.declared.Field.{Field}
+use Rattle.log.specs.declared.Field.the-variants.{Whole, Broken}
+use Rattle.log.specs.declared.Frame.{Frame}
+use Rattle.log.specs.declared.Frame.the-variants.{Framed, Cut}
+
+-- Numbers are high byte first: the number of n bytes at an offset.
+unfoldable pub numberAt : List ℕ → ℕ → ℕ → ℕ
+numberAt s at zero = 0
+numberAt s at (suc n) = numberAt s at n * 256 + getD s (at + n) 0
+
+-- A field: one tag byte, two length bytes (high first), the value.
+abbrev pub tagAt : List ℕ → ℕ → ℕ
+tagAt s at = getD s at 0
+
+abbrev pub lengthAt : List ℕ → ℕ → ℕ
+lengthAt s at = numberAt s (at + 1) 2
+
+-- All the field's bytes are there; else it is cut.
+unfoldable pub isFramed : List ℕ → ℕ → Bool
+isFramed s at = leb 3 (length s - at) && leb (lengthAt s at) (length s - at - 3)
+
+unfoldable pub frameAt : List ℕ → ℕ → Frame
+frameAt s at = cond (isFramed s at) (Framed (tagAt s at) (lengthAt s at)) Cut
+
+-- Tag 6, two bytes. Tag 1, eight. Tag 2, four. Tag 3, eight. Tag 4, ten. Tag 5, none.
+unfoldable pub lengthOf : ℕ → ℕ
+lengthOf tag =
+    cond (eqb tag 6) 2
+    (cond (eqb tag 1) 8
+    (cond (eqb tag 2) 4
+    (cond (eqb tag 3) 8
+    (cond (eqb tag 4) 10
+    0))))
+
+-- Tags 128 to 255, any length. Another tag, or a wrong length, is none of the log's.
+unfoldable pub rightLength : ℕ → ℕ → Bool
+rightLength tag n = leb 128 tag || (leb 1 tag && (leb tag 6 && eqb n (lengthOf tag)))
+
+-- Tag 6: L. Tag 1: open, block and share. Tag 2: close. Tag 3: rename, old and new. Tag 4: record, block, number, length.
+-- Tag 5: serve once. Tags 128 to 255 are passed over.
+unfoldable pub eventOf : List ℕ → ℕ → ℕ → Event
+eventOf s tag at =
+    cond (eqb tag 6) (Largest (numberAt s at 2))
+    (cond (eqb tag 1) (Open (numberAt s at 4) (numberAt s (at + 4) 4))
+    (cond (eqb tag 2) (Close (numberAt s at 4))
+    (cond (eqb tag 3) (Rename (numberAt s at 4) (numberAt s (at + 4) 4))
+    (cond (eqb tag 4) (Arrive (numberAt s at 4) (numberAt s (at + 4) 4) (numberAt s (at + 8) 2))
+    (cond (eqb tag 5) Serve
+    Passed)))))
+
+-- The tag of each event; of those passed over, which are 128 to 255, the first.
+abbrev pub tagOf : Event → ℕ
+tagOf (Largest l) = 6
+tagOf (Open block share) = 1
+tagOf (Close block) = 2
+tagOf (Rename old new) = 3
+tagOf (Arrive block number length) = 4
+tagOf Serve = 5
+tagOf Passed = 128
+
+abbrev pub isL : Event → Bool
+isL e = eqb (tagOf e) 6
+
+abbrev pub isPassed : Event → Bool
+isPassed e = leb 128 (tagOf e)
+
+-- L comes first and once, 64 to 2,048; all else comes after it.
+unfoldable pub inTurn : Event → Bool → Bool
+inTurn (Largest l) begun = not begun && (leb 64 l && leb l 2048)
+inTurn (Open block share) begun = begun
+inTurn (Close block) begun = begun
+inTurn (Rename old new) begun = begun
+inTurn (Arrive block number length) begun = begun
+inTurn Serve begun = begun
+inTurn Passed begun = begun
+
+-- A field is whole, or it ends the reading: a cut field, another tag or a wrong length, a missing or second L or one outside its range.
+unfoldable pub isWhole : List ℕ → ℕ → Bool → Bool
+isWhole s at begun =
+    every (isFramed s at ∷ rightLength (tagAt s at) (lengthAt s at) ∷ inTurn (eventOf s (tagAt s at) (at + 3)) begun ∷ [])
+
+-- The broken offset is that of the field's first byte.
+unfoldable pub fieldAt : List ℕ → ℕ → Bool → Field
+fieldAt s at begun =
+    cond (isWhole s at begun) (Whole (eventOf s (tagAt s at) (at + 3)) (at + 3 + lengthAt s at)) (Broken at)
+
+-- A log over 32,768 bytes gives the one line `long`.
+unfoldable pub isLong : ℕ → Bool
+isLong n = ltb 32768 n

@@ -1,0 +1,101 @@
+-- The whole log: a row of fields, and its end.
+use mathlib.Core.Path.{_≡_}
+use mathlib.Core.Bool.{Bool, true, false, cond, _&&_}
+use mathlib.Core.List.{List, [], _∷_}
+use Prim.Native.Nat.{ℕ, zero, suc, _<_, _≤_}
+use lib.Dec.{eqb}
+use lib.ListN.{length}
+use Rattle.log.specs.declared.Event.{Event}
+use Rattle.log.specs.declared.Event.the-variants.{Largest}
+use Rattle.log.specs.declared.Field.{Field}
+use Rattle.log.specs.declared.Field.the-variants.{Whole, Broken}
+use Rattle.log.specs.Format.{isL, fieldAt, isLong}
+
+-- A log ends whole, or at a broken field's offset, or it is long.
+pub data End : Type 0 where
+  whole : End
+  broken : ℕ → End
+  long : End
+
+-- A whole field: the offset of its first byte, what it says, and the offset after it.
+pub record WholeField : Type 0 where
+  pub offset : ℕ
+  pub event : Event
+  pub next : ℕ
+
+pub record Reading : Type 0 where
+  pub fields : List WholeField
+  pub ends : End
+
+abbrev pub only : End → Reading
+only e = record { fields = []; ends = e }
+
+abbrev pub andThen : WholeField → Reading → Reading
+andThen f r = record { fields = f ∷ r .fields; ends = r .ends }
+
+-- The log ends whole where its last field ends, and only after L: an empty log has no L.
+unfoldable pub atEnd : List ℕ → ℕ → Bool → Bool
+atEnd s at begun = begun && eqb at (length s)
+
+-- A whole field is followed by the reading from its end; L has then been read. Any other field ends the reading.
+abbrev pub follow : (ℕ → Reading) → ℕ → Field → Reading
+follow rest at (Whole e next) = andThen (record { offset = at; event = e; next = next }) (rest next)
+follow rest at (Broken n) = only (broken n)
+
+-- The reading from an offset on, of at most n fields and the end.
+unfoldable pub readUpTo : ℕ → List ℕ → ℕ → Bool → Reading
+readUpTo zero s at begun = only (broken at)
+readUpTo (suc n) s at begun = cond (atEnd s at begun) (only whole) (follow (λ next. readUpTo n s next true) at (fieldAt s at begun))
+
+-- A log has fewer fields than bytes.
+unfoldable pub readFrom : List ℕ → ℕ → Bool → Reading
+readFrom s at begun = readUpTo (suc (length s)) s at begun
+
+unfoldable pub readLog : List ℕ → Reading
+readLog s = cond (isLong (length s)) (only long) (readFrom s 0 false)
+
+-- The same without a count, as what holds of a reading: these fields with this end are the log's from an offset on.
+abbrev pub Reads : List ℕ → ℕ → Bool → List WholeField → End → Type 0
+Reads s at begun [] whole = atEnd s at begun ≡ true
+Reads s at begun [] (broken n) = (atEnd s at begun ≡ false) × (fieldAt s at begun ≡ Broken n)
+Reads s at begun [] long = ⊥
+Reads s at begun (f ∷ fs) e = (f .offset ≡ at) × ((fieldAt s at begun ≡ Whole (f .event) (f .next)) × Reads s (f .next) true fs e)
+
+pub record IsReading (s : List ℕ) (r : Reading) : Type 0 where
+  pub over : isLong (length s) ≡ true → r ≡ only long
+  pub row : isLong (length s) ≡ false → Reads s 0 false (r .fields) (r .ends)
+
+-- Each field begins where the one before ended, and has bytes of its own.
+abbrev pub InRow : ℕ → List WholeField → Type 0
+InRow at [] = Unit {0}
+InRow at (f ∷ fs) = (f .offset ≡ at) × ((at < f .next) × InRow (f .next) fs)
+
+-- The offset after the last of the fields.
+abbrev pub endOf : ℕ → List WholeField → ℕ
+endOf at [] = at
+endOf at (f ∷ fs) = endOf (f .next) fs
+
+-- L has been read after these fields.
+abbrev pub begunAfter : Bool → List WholeField → Bool
+begunAfter begun [] = begun
+begunAfter begun (f ∷ fs) = true
+
+-- None of the fields is L.
+abbrev pub NoL : List WholeField → Type 0
+NoL [] = Unit {0}
+NoL (f ∷ fs) = (isL (f .event) ≡ false) × NoL fs
+
+-- The first field is L in its range, and no other is.
+abbrev pub LFirst : List WholeField → Type 0
+LFirst [] = Unit {0}
+LFirst (f ∷ fs) = ((l : ℕ) × ((f .event ≡ Largest l) × ((64 ≤ l) × (l ≤ 2048)))) × NoL fs
+
+-- What the reading of a log that is not long is like. It ends whole exactly where its last field ends at the log's end, and broken at the
+-- offset of the first field that is not whole.
+pub record RowOf (s : List ℕ) (r : Reading) : Type 0 where
+  pub rises : InRow 0 (r .fields)
+  pub first : LFirst (r .fields)
+  pub ended : r .ends ≡ whole → (begunAfter false (r .fields) ≡ true) × (endOf 0 (r .fields) ≡ length s)
+  pub reached : begunAfter false (r .fields) ≡ true → endOf 0 (r .fields) ≡ length s → r .ends ≡ whole
+  pub stopped : (n : ℕ) → r .ends ≡ broken n → (n ≡ endOf 0 (r .fields)) × (fieldAt s n (begunAfter false (r .fields)) ≡ Broken n)
+  pub short : r .ends ≡ long → ⊥

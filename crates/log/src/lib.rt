@@ -1,0 +1,168 @@
+// The reader of a log: what the field at an offset says, and where the next one begins.
+ghost use mathlib.Core.Path.{_≡_};
+ghost use Prim.Native.Nat.{_+_, _-_, _<_, _≤_};
+ghost use lib.ListN.{length};
+ghost use Rattle.log.specs.Format.{numberAt, lengthOf, rightLength, frameAt, eventOf, inTurn, fieldAt, isLong};
+
+// What a whole field says, its numbers in the order of the log: L; block and share; block; old and new; block, number and length.
+// Passed is a field that is passed over.
+pub enum Event {
+    Largest(u32),
+    Open(u32, u32),
+    Close(u32),
+    Rename(u32, u32),
+    Arrive(u32, u32, u16),
+    Serve,
+    Passed,
+}
+
+// A field is whole, with the offset after it, or it ends the reading at its own offset.
+pub enum Field {
+    Whole(Event, usize),
+    Broken(usize),
+}
+
+// A field whose bytes are all there, with its tag and the length of its value.
+enum Frame {
+    Framed(u8, usize),
+    Cut,
+}
+
+// A byte as a number that keeps its bound.
+fn wide(byte: u8) -> u32
+    ensures { λ r. ⌜ (r ≡ byte) × (r < 256) ⌝ }
+{
+    byte as u32
+}
+
+// The number of n bytes at an offset, high byte first.
+fn number(log: &[u8], at: usize, n: usize) -> u32
+    requires { ⌜ (at + n ≤ length (now log)) × (n ≤ 4) ⌝ }
+    ensures { λ r. ⌜ r ≡ numberAt (now (log .entry)) at n ⌝ }
+{
+    let mut sum: u32 = 0;
+    let mut left = n;
+    while 0 < left {
+        let byte = wide(log[at + (n - left)]);
+        sum = sum * 256 + byte;
+        left -= 1;
+    }
+    sum
+}
+
+// The same of two bytes.
+fn number16(log: &[u8], at: usize) -> u16
+    requires { ⌜ at + 2 ≤ length (now log) ⌝ }
+    ensures { λ r. ⌜ r ≡ numberAt (now (log .entry)) at 2 ⌝ }
+{
+    number(log, at, 2) as u16
+}
+
+// An offset past the end has no byte left, so that no sum of offsets wraps.
+fn bytes_left(len: usize, at: usize) -> usize
+    ensures { λ r. ⌜ r ≡ len - at ⌝ }
+{
+    if len < at {
+        return 0;
+    }
+    len - at
+}
+
+fn frame_at(log: &[u8], at: usize) -> Frame
+    ensures { λ r. ⌜ r ≡ frameAt (now (log .entry)) at ⌝ }
+{
+    let left = bytes_left(log.len(), at);
+    if left < 3 {
+        return Frame::Cut;
+    }
+    let n = number16(log, at + 1) as usize;
+    if left - 3 < n {
+        return Frame::Cut;
+    }
+    Frame::Framed(log[at], n)
+}
+
+// The length that a value has by its tag; a field that is passed over needs none.
+fn length_of(tag: u8) -> usize
+    ensures { λ r. ⌜ r ≡ lengthOf tag ⌝ }
+{
+    match tag {
+        6 => 2,
+        1 => 8,
+        2 => 4,
+        3 => 8,
+        4 => 10,
+        _ => 0,
+    }
+}
+
+fn right_length(tag: u8, n: usize) -> bool
+    ensures { λ r. ⌜ r ≡ rightLength tag n ⌝ }
+{
+    if 128 <= tag {
+        return true;
+    }
+    if 1 <= tag && tag <= 6 {
+        return n == length_of(tag);
+    }
+    false
+}
+
+// What a field of this tag says, its value at an offset.
+fn event_at(log: &[u8], tag: u8, at: usize) -> Event
+    requires { ⌜ at + lengthOf tag ≤ length (now log) ⌝ }
+    ensures { λ r. ⌜ r ≡ eventOf (now (log .entry)) tag at ⌝ }
+{
+    match tag {
+        6 => Event::Largest(number(log, at, 2)),
+        1 => Event::Open(number(log, at, 4), number(log, at + 4, 4)),
+        2 => Event::Close(number(log, at, 4)),
+        3 => Event::Rename(number(log, at, 4), number(log, at + 4, 4)),
+        4 => Event::Arrive(
+            number(log, at, 4),
+            number(log, at + 4, 4),
+            number16(log, at + 8),
+        ),
+        5 => Event::Serve,
+        _ => Event::Passed,
+    }
+}
+
+// L comes first and once, in its range, and nothing else before it.
+fn in_turn(event: Event, begun: bool) -> bool
+    ensures { λ r. ⌜ r ≡ inTurn event begun ⌝ }
+{
+    let Event::Largest(largest) = event else {
+        return begun;
+    };
+    if begun {
+        return false;
+    }
+    64 <= largest && largest <= 2048
+}
+
+// The field at an offset; begun says that L has been read.
+pub fn field_at(log: &[u8], at: usize, begun: bool) -> Field
+    ensures { λ r. ⌜ r ≡ fieldAt (now (log .entry)) at begun ⌝ }
+{
+    let Frame::Framed(tag, n) = frame_at(log, at) else {
+        return Field::Broken(at);
+    };
+    if !right_length(tag, n) {
+        return Field::Broken(at);
+    }
+    let value = at + 3;
+    let next = value + n;
+    let event = event_at(log, tag, value);
+    if in_turn(event, begun) {
+        return Field::Whole(event, next);
+    }
+    Field::Broken(at)
+}
+
+// Whether a log of this many bytes is over 32,768, and so is not read.
+pub fn is_long(len: usize) -> bool
+    ensures { λ r. ⌜ r ≡ isLong len ⌝ }
+{
+    32768 < len
+}
