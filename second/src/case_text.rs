@@ -51,6 +51,8 @@ const U8: u64 = u8::MAX as u64;
 const U16: u64 = u16::MAX as u64;
 const U32: u64 = u32::MAX as u64;
 const U64: u64 = u64::MAX;
+/// Entries of a lent table or list: few enough for a driving program to hold them all.
+const ENTRIES: u64 = 4_096;
 
 /// A step's word, how it is written, and the largest value of each operand.
 struct Rule {
@@ -65,7 +67,7 @@ const fn rule(word: Word, written: &'static str, operands: &'static [u64]) -> Ru
 
 /// Every step that is written as it is carried. `case` is not among them: it is written with a name and carried with a number.
 const RULES: [Rule; 27] = [
-    rule(Word::Tables, "tables", &[U16, U16]),
+    rule(Word::Tables, "tables", &[ENTRIES, ENTRIES]),
     rule(Word::Largest, "largest", &[U32]),
     rule(Word::Clock, "clock", &[U64]),
     rule(Word::Active, "active", &[U32]),
@@ -82,14 +84,14 @@ const RULES: [Rule; 27] = [
     rule(Word::Head, "head", &[CLASS, U8]),
     rule(Word::Tail, "tail", &[CLASS, U8]),
     rule(Word::Held, "held", &[CLASS, U32]),
-    rule(Word::Entry, "entry", &[U16, U32, U16]),
+    rule(Word::Entry, "entry", &[ENTRIES - 1, U32, U16]),
     rule(Word::Make, "make", &[U32]),
     rule(Word::Open, "open", &[U32, U32]),
     rule(Word::Rename, "rename", &[U32, U32]),
     rule(Word::Close, "close", &[U32]),
     rule(Word::Record, "record", &[U32, U32, U16]),
     rule(Word::Serve, "serve", &[]),
-    rule(Word::Burst, "burst", &[U64, U16]),
+    rule(Word::Burst, "burst", &[U64, ENTRIES]),
     rule(Word::Spoilt, "spoilt", &[]),
     rule(Word::Show, "show", &[]),
 ];
