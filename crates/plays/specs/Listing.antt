@@ -1,0 +1,76 @@
+-- THE LISTING of a log (document 01, 'The log and the listing'): what each field does to the board, and the line that it gives.
+use mathlib.Core.Bool.{Bool, true, false, cond}
+use mathlib.Core.List.{List, [], _∷_, _++_}
+use Prim.Native.Nat.{ℕ, _+_}
+use lib.ListN.{length}
+use Rattle.base.specs.Sums.{sum}
+use Rattle.rules.specs.Board.{Place, Board, fresh}
+use Rattle.rules.specs.Calls.{Single, open!, rename!, close!, record!, serve!, step, Answer, gives, takes, sends, bursts, codeOf}
+use Rattle.rules.specs.Runs.{answer, bytesOf}
+use Rattle.log.specs.declared.Event.{Event}
+use Rattle.log.specs.declared.Event.the-variants.{Largest, Open, Close, Rename, Arrive, Serve, Passed}
+use Rattle.log.specs.Format.{isLong}
+use Rattle.log.specs.Rows.{End, whole, broken, long, WholeField, Reading, readFrom, readLog}
+use Rattle.lines.specs.Listing.{openLine, closeLine, nameLine, inLine, outLine, refusedLine, endLine, brokenLine, longLine}
+
+-- What stands between two fields: the board, and the bytes sent so far.
+pub record Playing : Type 0 where
+  pub board : Board
+  pub sent : ℕ
+
+-- Before L there is no board; every other field comes after it.
+abbrev pub unmade : Playing
+unmade = record { board = fresh 0; sent = 0 }
+
+-- A call on the board.
+abbrev pub after : Playing → Single → Playing
+after p x = record { board = step (p .board) x .next; sent = p .sent + bytesOf (answer (p .board) x) }
+
+-- Tag 6 makes the board; tags 1 to 5 are calls; tags 128 to 255 are passed over.
+abbrev pub played : Playing → Event → Playing
+played p (Largest l) = record { board = fresh l; sent = 0 }
+played p (Open block share) = after p (open! block share)
+played p (Close block) = after p (close! block)
+played p (Rename old new) = after p (rename! old new)
+played p (Arrive block number bytes) = after p (record! block (record { number = number; bytes = bytes }))
+played p Serve = after p serve!
+played p Passed = p
+
+-- A serve that is done shows block, record, length and the slot's clock; a refused one its code.
+abbrev pub servedLine : Answer → List ℕ
+servedLine (gives code) = refusedLine code
+servedLine (takes a) = refusedLine (a .code)
+servedLine (sends s) = outLine (s .block) (s .number) (s .bytes) (s .clock)
+servedLine (bursts r) = refusedLine (r .code)
+
+-- The line that a field gives; L and what is passed over give none.
+abbrev pub lineOf : Playing → Event → List ℕ
+lineOf p (Largest l) = []
+lineOf p (Open block share) = openLine block (codeOf (answer (p .board) (open! block share)))
+lineOf p (Close block) = closeLine block (codeOf (answer (p .board) (close! block)))
+lineOf p (Rename old new) = nameLine old new (codeOf (answer (p .board) (rename! old new)))
+lineOf p (Arrive block number bytes) = inLine number (codeOf (answer (p .board) (record! block (record { number = number; bytes = bytes }))))
+lineOf p Serve = servedLine (answer (p .board) serve!)
+lineOf p Passed = []
+
+-- `end` shows clock, bytes sent and records waiting.
+abbrev pub waiting : Board → ℕ
+waiting b = sum (λ (x : Place). length (x .lane)) (b .places)
+
+abbrev pub lastLine : Playing → End → List ℕ
+lastLine p whole = endLine (p .board .clock) (p .sent) (waiting (p .board))
+lastLine p (broken offset) = brokenLine offset
+lastLine p long = longLine
+
+-- The fields in turn, and then the last line.
+unfoldable pub linesOf : Playing → List WholeField → End → List ℕ
+linesOf p [] e = lastLine p e
+linesOf p (f ∷ fs) e = lineOf p (f .event) ++ linesOf (played p (f .event)) fs e
+
+-- the listing of what follows an offset
+abbrev pub listingFrom : Playing → List ℕ → ℕ → Bool → List ℕ
+listingFrom p log at begun = linesOf p (readFrom log at begun .fields) (readFrom log at begun .ends)
+
+-- THE LISTING
+unfoldable pub listingOf : List ℕ → List ℕ
+listingOf log = linesOf unmade (readLog log .fields) (readLog log .ends)

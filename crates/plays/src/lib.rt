@@ -1,0 +1,1 @@
+// The listing of a log, over the rules, the format and the lines alone; no code.
