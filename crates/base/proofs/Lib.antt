@@ -1,4 +1,5 @@
+pub mod Decides
+pub mod Loops
 pub mod Numbers
 pub mod Sums
 pub mod Tests
-pub mod Decides

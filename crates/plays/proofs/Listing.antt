@@ -1,19 +1,18 @@
 -- Laws of the listing, by which a player goes: one field and the listing of what follows it.
-use mathlib.Core.Path.{_≡_, refl, sym, ap, _∙_}
+use mathlib.Core.Path.{_≡_, ap}
 use mathlib.Core.Bool.{Bool, true, false}
-use mathlib.Core.List.{List, [], _∷_, _++_}
+use mathlib.Core.List.{List, _++_}
 use Prim.Native.Nat.{ℕ, _≤_, _<_}
 use native.Mathlib.Omega.{arith}
 use lib.ListN.{length}
 use Rattle.base.proofs.Numbers.{leb-no}
 use Rattle.log.specs.declared.Event.{Event}
-use Rattle.log.specs.declared.Field.{Field}
 use Rattle.log.specs.declared.Field.the-variants.{Whole, Broken}
 use Rattle.log.specs.Format.{fieldAt, isLong}
-use Rattle.log.specs.Rows.{End, whole, broken, long, WholeField, Reading, only, andThen, atEnd, readFrom, readLog}
+use Rattle.log.specs.Rows.{Reading, atEnd, readLog}
 use Rattle.log.proofs.Readings.{read-end, read-whole, read-broken, long-log}
 use Rattle.lines.specs.Listing.{endLine, brokenLine, longLine}
-use Rattle.plays.specs.Listing.{Playing, unmade, played, lineOf, waiting, lastLine, linesOf, listingFrom, listingOf}
+use Rattle.plays.specs.Listing.{Playing, unmade, played, lineOf, waiting, linesOf, listingFrom, listingOf}
 
 -- the listing of a reading
 abbrev listed : Playing → Reading → List ℕ

@@ -1,5 +1,5 @@
 -- THE LISTING of a log (document 01, 'The log and the listing'): what each field does to the board, and the line that it gives.
-use mathlib.Core.Bool.{Bool, true, false, cond}
+use mathlib.Core.Bool.{Bool}
 use mathlib.Core.List.{List, [], _∷_, _++_}
 use Prim.Native.Nat.{ℕ, _+_}
 use lib.ListN.{length}
@@ -9,8 +9,7 @@ use Rattle.rules.specs.Calls.{Single, open!, rename!, close!, record!, serve!, 
 use Rattle.rules.specs.Runs.{answer, bytesOf}
 use Rattle.log.specs.declared.Event.{Event}
 use Rattle.log.specs.declared.Event.the-variants.{Largest, Open, Close, Rename, Arrive, Serve, Passed}
-use Rattle.log.specs.Format.{isLong}
-use Rattle.log.specs.Rows.{End, whole, broken, long, WholeField, Reading, readFrom, readLog}
+use Rattle.log.specs.Rows.{End, whole, broken, long, WholeField, readFrom, readLog}
 use Rattle.lines.specs.Listing.{openLine, closeLine, nameLine, inLine, outLine, refusedLine, endLine, brokenLine, longLine}
 
 -- What stands between two fields: the board, and the bytes sent so far.

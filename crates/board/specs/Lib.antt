@@ -1,0 +1,2 @@
+pub mod With
+pub mod Reading

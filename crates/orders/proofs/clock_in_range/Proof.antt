@@ -1,0 +1,14 @@
+use mathlib.Core.Path.{refl}
+use Rattle.orders.specs.Walks.{clockInRange}
+use Rattle.orders.proofs.clock_in_range.Statement.{statement}
+use Rattle.orders.proofs.clock_in_range.Tie as tie
+use Rattle.orders.proofs.clock_in_range.Reads as reads
+use Rattle.orders.proofs.clock_in_range.Lts as lts
+
+-- src/lib.rt:26:1
+returns : tie.Need-returns
+unfolding clockInRange
+returns c = refl
+
+pub clock-in-range-spec : {M : Type 1} → statement M
+clock-in-range-spec = tie.close (tie.spec returns)

@@ -1,0 +1,14 @@
+use mathlib.Core.Path.{refl}
+use Rattle.places.specs.Ranges.{shareInRange}
+use Rattle.places.proofs.share_in_range.Statement.{statement}
+use Rattle.places.proofs.share_in_range.Tie as tie
+use Rattle.places.proofs.share_in_range.Reads as reads
+use Rattle.places.proofs.share_in_range.Lts as lts
+
+-- src/lib.rt:85:1
+returns : tie.Need-returns
+unfolding shareInRange
+returns c = refl
+
+pub share-in-range-spec : {M : Type 1} → statement M
+share-in-range-spec = tie.close (tie.spec returns)

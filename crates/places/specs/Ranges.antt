@@ -1,0 +1,82 @@
+-- THE RULES OF THE PLACES, as they are computed from the arrays, each named after its clause of document 01. Lists stand for the arrays.
+use mathlib.Core.Bool.{Bool, not, _&&_, _||_}
+use mathlib.Core.List.{List, [], _∷_}
+use Prim.Native.Nat.{ℕ, _+_}
+use lib.Dec.{leb, ltb, eqb}
+use lib.ListN.{getD}
+use Rattle.base.specs.Sums.{oneIf, below}
+use Rattle.base.specs.Tests.{every, allBelow}
+use Rattle.units.specs.Credit.{chargeOf}
+
+-- L in range
+unfoldable pub sizeInRange : ℕ → Bool
+sizeInRange largest = leb 64 largest && leb largest 2048
+
+-- ---- A PLACE
+
+-- open block numbers distinct: a number but 0 stands at one place only
+unfoldable pub timesFound : List ℕ → ℕ → ℕ
+timesFound numbers n = below (λ q. oneIf (eqb (getD numbers q 0) n)) 64
+
+unfoldable pub numberApart : List ℕ → ℕ → Bool
+numberApart numbers n = eqb n 0 || eqb (timesFound numbers n) 1
+
+unfoldable pub numbersApart : List ℕ → Bool
+numbersApart numbers = allBelow 64 (λ p. numberApart numbers (getD numbers p 0))
+
+-- and in range
+unfoldable pub numberInRange : ℕ → ℕ → Bool
+numberInRange share number = not (ltb 0 share) || leb 1 number
+
+-- shares in range
+unfoldable pub shareInRange : ℕ → Bool
+shareInRange share = leb share 65536
+
+-- start and count in range
+unfoldable pub ringInRange : ℕ → ℕ → Bool
+ringInRange start count = ltb start 32 && leb count 32
+
+-- the block of place p is in its class's order: it waits, and it has not the open slot
+unfoldable pub inOrder : ℕ → ℕ → ℕ → Bool
+inOrder p count slot = not (eqb count 0) && not (eqb slot (p + 1))
+
+-- deficits under L bytes, and 0 for empty lanes and the open slot's block
+unfoldable pub deficitInRange : ℕ → Bool → ℕ → Bool
+deficitInRange largest queued deficit = ltb deficit (chargeOf largest) && (queued || eqb deficit 0)
+
+-- all not in use 0: a free place; a ready time and a link outside an order
+unfoldable pub freeIsZero : ℕ → ℕ → ℕ → ℕ → ℕ → Bool
+freeIsZero share number start count deficit = ltb 0 share || (eqb number 0 && (eqb start 0 && (eqb count 0 && eqb deficit 0)))
+
+unfoldable pub unusedIsZero : Bool → ℕ → ℕ → Bool
+unusedIsZero queued ready next = queued || (eqb ready 0 && eqb next 0)
+
+abbrev pub placeRules : ℕ → ℕ → ℕ → ℕ → ℕ → ℕ → ℕ → ℕ → ℕ → ℕ → List Bool
+placeRules largest slot p number share start count deficit ready next =
+    numberInRange share number
+    ∷ shareInRange share
+    ∷ ringInRange start count
+    ∷ deficitInRange largest (inOrder p count slot) deficit
+    ∷ freeIsZero share number start count deficit
+    ∷ unusedIsZero (inOrder p count slot) ready next
+    ∷ []
+
+unfoldable pub placeInRange : ℕ → ℕ → ℕ → ℕ → ℕ → ℕ → ℕ → ℕ → ℕ → ℕ → Bool
+placeInRange largest slot p number share start count deficit ready next = every (placeRules largest slot p number share start count deficit ready next)
+
+unfoldable pub placesInRange : ℕ → ℕ → List ℕ → List ℕ → List ℕ → List ℕ → List ℕ → List ℕ → List ℕ → Bool
+placesInRange largest slot numbers shares starts counts deficits ready next =
+    allBelow 64 (λ p. placeInRange largest slot p (getD numbers p 0) (getD shares p 0) (getD starts p 0) (getD counts p 0) (getD deficits p 0) (getD ready p 0) (getD next p 0))
+
+-- ---- SHARES
+
+-- open plus held shares at most 65,536
+unfoldable pub sharesFit : List ℕ → List ℕ → Bool
+sharesFit shares held = leb (below (λ p. getD shares p 0) 64 + below (λ k. getD held k 0) 17) 65536
+
+-- held shares 0 if none waits: no class is active
+unfoldable pub noneHeld : List ℕ → Bool
+noneHeld held = allBelow 17 (λ k. eqb (getD held k 0) 0)
+
+unfoldable pub heldWhileWaiting : ℕ → List ℕ → Bool
+heldWhileWaiting active held = not (eqb active 0) || noneHeld held
