@@ -1,0 +1,73 @@
+use Rattle.calls.proofs.Making.{ids-wrong, lens-wrong, none-wrong}
+use Rattle.calls.specs.Promises.{made}
+use Rattle.rules.specs.Calls.{make}
+use borrow.Author.Tests.{lt-leb, le-leb}
+use borrow.Author.Needs.{needs}
+use Rattle.calls.proofs.make.Statement.{statement}
+use Rattle.calls.proofs.make.Tie as tie
+
+blank-requires : tie.Need-blank-requires
+blank-requires c κs = search needs
+
+returns : tie.Need-returns
+unfolding made make
+returns c = rw (ids-wrong _ _ (c .before .if1 .taken), c .blank .ensures)
+
+blank-requires-2 : tie.Need-blank-requires-2
+blank-requires-2 c κs = search needs
+
+returns-2 : tie.Need-returns-2
+unfolding made make
+returns-2 c = rw (lens-wrong _ _ (c .before .if2 .taken), c .blank2 .ensures)
+
+blank-requires-3 : tie.Need-blank-requires-3
+blank-requires-3 c κs = search needs
+
+returns-3 : tie.Need-returns-3
+unfolding made make
+returns-3 c = rw (none-wrong _ _ (c .before .before .before .if1 .left) (c .before .before .if2 .left), lt-leb _ _ (c .before .if3 .taken), c .blank3 .ensures)
+
+blank-requires-4 : tie.Need-blank-requires-4
+blank-requires-4 c κs = search needs
+
+returns-4 : tie.Need-returns-4
+unfolding made make
+returns-4 c = rw (none-wrong _ _ (c .before .before .before .before .if1 .left) (c .before .before .before .if2 .left), le-leb _ _ (c .before .before .if3 .left), lt-leb _ _ (c .before .if4 .taken), c .blank4 .ensures)
+
+clear-ids-requires : tie.Need-clear-ids-requires
+clear-ids-requires c κs = search needs
+
+clear-lens-requires : tie.Need-clear-lens-requires
+clear-lens-requires c κs = search needs
+
+blank-requires-5 : tie.Need-blank-requires-5
+blank-requires-5 c κs = search needs
+
+same-length : tie.Need-same-length
+same-length c = search needs
+
+same-length-2 : tie.Need-same-length-2
+same-length-2 c = search needs
+
+returns-5 : tie.Need-returns-5
+unfolding made make
+returns-5 c = rw (none-wrong _ _ (c .before .before .before .before .before .before .before .before .before .before .before .before .if1 .left) (c .before .before .before .before .before .before .before .before .before .before .before .if2 .left), le-leb _ _ (c .before .before .before .before .before .before .before .before .before .before .if3 .left), le-leb _ _ (c .before .before .before .before .before .before .before .before .before .if4 .left), c .blank5 .ensures, c .before .before .before .before .before .before .before .clear-ids .ensures, c .before .before .before .clear-lens .ensures)
+
+pub make-spec : {M : Type 1} → statement M
+make-spec =
+    tie.close
+    (tie.spec
+    blank-requires
+    returns
+    blank-requires-2
+    returns-2
+    blank-requires-3
+    returns-3
+    blank-requires-4
+    returns-4
+    clear-ids-requires
+    clear-lens-requires
+    blank-requires-5
+    same-length
+    same-length-2
+    returns-5)

@@ -1,0 +1,60 @@
+use Rattle.calls.proofs.Promises.{can-known, sent-index, serve-stops, serve-goes}
+use native.Mathlib.Omega.{arith}
+use borrow.Author.Needs.{needs}
+use Rattle.calls.proofs.serve_board.Statement.{statement}
+use Rattle.calls.proofs.serve_board.Tie as tie
+
+-- src/lib.rt:80:9
+serve-within-requires : tie.Need-serve-within-requires
+serve-within-requires c κs = can-known _ _ _ (c .before .before .before .before .before .before .before .before .before .before .before .before .before .before .before .before .before .before .before .before .before .pre)
+
+-- src/lib.rt:82:9
+returns : tie.Need-returns
+returns c = serve-stops _ _ _ (c .before .before .before .before .before .before .before .before .before .before .before .before .before .before .before .before .before .before .before .before .before .before .before .before .pre) 65536 (omega arith) _ (c .before .before .serve-within .ensures) (c .if1 .taken)
+
+-- src/lib.rt:101:9
+rebuilt-requires : tie.Need-rebuilt-requires
+rebuilt-requires c κs = search needs
+
+-- src/lib.rt:104:16
+mul-t48 : tie.Need-mul-t48
+mul-t48 c = let w = (sent-index _ _ _ (c .before .before .before .before .before .before .before .before .before .before .before .before .before .before .before .before .before .before .before .before .before .before .before .before .before .before .pre) _ _ _ (c .before .before .before .before .serve-within .ensures) (c .before .before .if1 .left)) in omega (arith, w .0, w .1)
+
+-- src/lib.rt:104:16
+element-copy-out-t31 : tie.Need-element-copy-out-t31
+element-copy-out-t31 c = let w = (sent-index _ _ _ (c .before .before .before .before .before .before .before .before .before .before .before .before .before .before .before .before .before .before .before .before .before .before .before .before .before .before .pre) _ _ _ (c .before .before .before .before .serve-within .ensures) (c .before .before .if1 .left)) in omega (arith, w .0, w .1)
+
+-- src/lib.rt:105:17
+mul-t51 : tie.Need-mul-t51
+mul-t51 c = let w = (sent-index _ _ _ (c .before .before .before .before .before .before .before .before .before .before .before .before .before .before .before .before .before .before .before .before .before .before .before .before .before .before .before .pre) _ _ _ (c .before .before .before .before .before .serve-within .ensures) (c .before .before .before .if1 .left)) in omega (arith, w .0, w .1)
+
+-- src/lib.rt:105:17
+shared-slice-read-t28 : tie.Need-shared-slice-read-t28
+shared-slice-read-t28 c = let w = (sent-index _ _ _ (c .before .before .before .before .before .before .before .before .before .before .before .before .before .before .before .before .before .before .before .before .before .before .before .before .before .before .before .before .pre) _ _ _ (c .before .before .before .before .before .before .serve-within .ensures) (c .before .before .before .before .if1 .left)) in omega (arith, w .1, c .before .before .before .before .before .before .before .before .before .before .before .before .before .before .before .before .before .before .before .before .before .before .before .before .before .before .before .before .pre .ids-all)
+
+-- src/lib.rt:106:17
+mul-t53 : tie.Need-mul-t53
+mul-t53 c = let w = (sent-index _ _ _ (c .before .before .before .before .before .before .before .before .before .before .before .before .before .before .before .before .before .before .before .before .before .before .before .before .before .before .before .before .pre) _ _ _ (c .before .before .before .before .before .before .serve-within .ensures) (c .before .before .before .before .if1 .left)) in omega (arith, w .0, w .1)
+
+-- src/lib.rt:106:17
+shared-slice-read-t55 : tie.Need-shared-slice-read-t55
+shared-slice-read-t55 c = let w = (sent-index _ _ _ (c .before .before .before .before .before .before .before .before .before .before .before .before .before .before .before .before .before .before .before .before .before .before .before .before .before .before .before .before .before .pre) _ _ _ (c .before .before .before .before .before .before .before .serve-within .ensures) (c .before .before .before .before .before .if1 .left)) in omega (arith, w .1, c .before .before .before .before .before .before .before .before .before .before .before .before .before .before .before .before .before .before .before .before .before .before .before .before .before .before .before .before .before .pre .lens-all)
+
+-- src/lib.rt:66:1
+returns-2 : tie.Need-returns-2
+returns-2 c = serve-goes _ _ _ (c .before .before .before .before .before .before .before .before .before .before .before .before .before .before .before .before .before .before .before .before .before .before .before .before .before .before .before .before .before .pre) 65536 (omega arith) _ (c .before .before .before .before .before .before .before .serve-within .ensures) (c .before .before .before .before .before .if1 .left) _ (c .before .before .before .rebuilt .ensures)
+
+pub serve-board-spec : {M : Type 1} → statement M
+serve-board-spec =
+    tie.close
+    (tie.spec
+    serve-within-requires
+    returns
+    rebuilt-requires
+    mul-t48
+    element-copy-out-t31
+    mul-t51
+    shared-slice-read-t28
+    mul-t53
+    shared-slice-read-t55
+    returns-2)

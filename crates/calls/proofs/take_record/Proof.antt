@@ -1,0 +1,19 @@
+use Rattle.calls.proofs.Known.{record-needs, record-known}
+use borrow.Author.Needs.{needs}
+use Rattle.calls.proofs.take_record.Statement.{statement}
+use Rattle.calls.proofs.take_record.Tie as tie
+
+record-in-requires : tie.Need-record-in-requires
+record-in-requires c κs = record-needs _ _ _ (c .before .before .before .before .before .before .before .before .before .before .before .before .before .before .before .before .before .before .before .before .pre)
+
+same-length : tie.Need-same-length
+same-length c = search needs
+
+same-length-2 : tie.Need-same-length-2
+same-length-2 c = search needs
+
+returns : tie.Need-returns
+returns c = record-known _ _ _ (c .before .before .before .before .before .before .before .before .before .before .before .before .before .before .before .before .before .before .before .before .before .before .before .before .before .pre) _ _ _ _ (c .before .before .before .before .record-in .ensures)
+
+pub take-record-spec : {M : Type 1} → statement M
+take-record-spec = tie.close (tie.spec record-in-requires same-length same-length-2 returns)

@@ -1,0 +1,499 @@
+// The calls of the box, on a board by value and the two lent tables.
+ghost use mathlib.Core.Path.{_≡_};
+ghost use Rattle.rules.specs.Calls.{open!, rename!, close!, record! };
+ghost use Rattle.calls.specs.Serving.{engineNow, withEngine};
+ghost use Rattle.calls.specs.Contract.{goodServe, burstNow, goodBurst, calledServe, calledBurst};
+ghost use Rattle.calls.specs.Promises.{called, earlyCode, returned, Known, ruled, made};
+use board::Board;
+use engine::After;
+use units::Bytes;
+
+mod engine;
+
+// What a call gives back: its code, and the board.
+pub struct Reply {
+    pub code: u8,
+    pub board: Board,
+}
+
+// The answer of a serve: its code; the block that is served, the number and the length of the record sent, and the slot's clock.
+pub struct Served {
+    pub code: u8,
+    pub block: u32,
+    pub number: u32,
+    pub length: u16,
+    pub clock: u64,
+    pub board: Board,
+}
+
+// The answer of a burst: how many records it sent, the bytes they total, and the code that stopped it.
+pub struct Bursted {
+    pub count: usize,
+    pub bytes: u64,
+    pub code: u8,
+    pub board: Board,
+}
+
+// ---- The calls on a board that is known to be good and isn't tested again
+
+// A record comes for the block with this number.
+fn take_record(
+    ids: &mut [u32],
+    lens: &mut [u16],
+    number: u32,
+    id: u32,
+    length: u16,
+    b: Board,
+) -> Reply
+    requires { ⌜ Known b (now ids) (now lens) ⌝ }
+    ensures { λ r. ⌜ returned r (now (ids .exit)) (now (lens .exit)) ≡ ruled b (now (ids .entry)) (now (lens .entry)) (record! number (record { number = id; bytes = length })) ⌝ }
+{
+    let numbers = b.numbers;
+    let shares = b.shares;
+    let starts = b.starts;
+    let mut counts = b.counts;
+    let mut next = b.next;
+    let mut heads = b.heads;
+    let mut tails = b.tails;
+    let mut ready = b.ready;
+    let took = engine::record_in(
+        number,
+        id,
+        length,
+        b.largest,
+        b.clock,
+        b.active,
+        &numbers,
+        &shares,
+        &starts,
+        &mut counts,
+        &mut next,
+        &mut heads,
+        &mut tails,
+        &mut ready,
+        ids,
+        lens,
+    );
+    let mut n = b;
+    n.counts = counts;
+    n.next = next;
+    n.heads = heads;
+    n.tails = tails;
+    n.ready = ready;
+    n.active = took.active;
+    Reply {
+        code: took.code,
+        board: n,
+    }
+}
+
+// The block with the old number takes the new one.
+fn rename_block(ids: &[u32], lens: &[u16], old: u32, new: u32, b: Board) -> Reply
+    requires { ⌜ Known b (now ids) (now lens) ⌝ }
+    ensures { λ r. ⌜ returned r (now (ids .exit)) (now (lens .exit)) ≡ ruled b (now (ids .entry)) (now (lens .entry)) (rename! old new) ⌝ }
+{
+    let mut numbers = b.numbers;
+    let code = engine::rename_in(old, new, &mut numbers);
+    let mut n = b;
+    n.numbers = numbers;
+    Reply {
+        code: code,
+        board: n,
+    }
+}
+
+// A block opens with this number and share.
+fn open_block(ids: &[u32], lens: &[u16], number: u32, share: u32, b: Board) -> Reply
+    requires { ⌜ Known b (now ids) (now lens) ⌝ }
+    ensures { λ r. ⌜ returned r (now (ids .exit)) (now (lens .exit)) ≡ ruled b (now (ids .entry)) (now (lens .entry)) (open! number share) ⌝ }
+{
+    let held = b.held;
+    let mut numbers = b.numbers;
+    let mut shares = b.shares;
+    let code = engine::open_in(number, share, &mut numbers, &mut shares, &held);
+    let mut n = b;
+    n.numbers = numbers;
+    n.shares = shares;
+    Reply {
+        code: code,
+        board: n,
+    }
+}
+
+// The block with this number closes.
+fn close_block(ids: &[u32], lens: &[u16], number: u32, b: Board) -> Reply
+    requires { ⌜ Known b (now ids) (now lens) ⌝ }
+    ensures { λ r. ⌜ returned r (now (ids .exit)) (now (lens .exit)) ≡ ruled b (now (ids .entry)) (now (lens .entry)) (close! number) ⌝ }
+{
+    let counts = b.counts;
+    let mut numbers = b.numbers;
+    let mut shares = b.shares;
+    let mut starts = b.starts;
+    let mut held = b.held;
+    let code = engine::close_in(
+        number,
+        b.active,
+        &counts,
+        &mut numbers,
+        &mut shares,
+        &mut starts,
+        &mut held,
+    );
+    let mut n = b;
+    n.numbers = numbers;
+    n.shares = shares;
+    n.starts = starts;
+    n.held = held;
+    Reply {
+        code: code,
+        board: n,
+    }
+}
+
+// More bytes than any record is charged.
+const ANY_LENGTH: u64 = 65536;
+
+// The board made again of what serving changes.
+fn rebuilt(
+    starts: [u8; 64],
+    counts: [u8; 64],
+    deficits: [u64; 64],
+    ready: [u64; 64],
+    next: [u8; 64],
+    heads: [u8; 17],
+    tails: [u8; 17],
+    held: [u32; 17],
+    now: After,
+    b: Board,
+) -> Board
+    ensures { λ r. ⌜ r ≡ withEngine b (engineNow starts counts deficits ready next heads tails held now) ⌝ }
+{
+    let mut n = b;
+    n.starts = starts;
+    n.counts = counts;
+    n.deficits = deficits;
+    n.ready = ready;
+    n.next = next;
+    n.heads = heads;
+    n.tails = tails;
+    n.held = held;
+    n.clock = now.clock;
+    n.active = now.active;
+    n.pending = now.pending;
+    n.slot = now.slot;
+    let left = now.left;
+    n.left = left;
+    n
+}
+
+// One serve: it needs room for one record and bytes for any.
+fn serve_board(ids: &[u32], lens: &[u16], b: Board) -> Served
+    requires { ⌜ Known b (now ids) (now lens) ⌝ }
+    ensures { λ r. ⌜ r ≡ goodServe b (now (ids .entry)) (now (lens .entry)) ⌝ }
+{
+    let shares = b.shares;
+    let mut starts = b.starts;
+    let mut counts = b.counts;
+    let mut deficits = b.deficits;
+    let mut ready = b.ready;
+    let mut next = b.next;
+    let mut heads = b.heads;
+    let mut tails = b.tails;
+    let mut held = b.held;
+    let left = b.left;
+    let s = engine::serve_within(
+        Bytes(ANY_LENGTH),
+        1,
+        b.clock,
+        b.active,
+        b.pending,
+        b.slot,
+        left,
+        b.largest,
+        &shares,
+        &mut starts,
+        &mut counts,
+        &mut deficits,
+        &mut ready,
+        &mut next,
+        &mut heads,
+        &mut tails,
+        &mut held,
+        lens,
+    );
+    if s.code != 0 {
+        return Served {
+            code: s.code,
+            block: 0,
+            number: 0,
+            length: 0,
+            clock: 0,
+            board: b,
+        };
+    }
+    let place = s.place;
+    let entry = s.entry;
+    let rest = s.left;
+    let after = After {
+        clock: s.clock,
+        active: s.active,
+        pending: s.pending,
+        slot: s.slot,
+        left: rest,
+    };
+    let board = rebuilt(
+        starts,
+        counts,
+        deficits,
+        ready,
+        next,
+        heads,
+        tails,
+        held,
+        after,
+        b,
+    );
+    Served {
+        code: 0,
+        block: b.numbers[place],
+        number: ids[entry],
+        length: lens[entry],
+        clock: s.time,
+        board: board,
+    }
+}
+
+// Serves as long as the next record is no longer than what remains of the bytes and the list has room.
+fn burst_board(bytes: u64, list: &mut [u32], ids: &[u32], lens: &[u16], b: Board) -> Bursted
+    requires { ⌜ Known b (now ids) (now lens) ⌝ }
+    ensures { λ r. ⌜ burstNow r (now (list .exit)) ≡ goodBurst b (now (ids .entry)) (now (lens .entry)) bytes (now (list .entry)) ⌝ }
+{
+    let shares = b.shares;
+    let mut starts = b.starts;
+    let mut counts = b.counts;
+    let mut deficits = b.deficits;
+    let mut ready = b.ready;
+    let mut next = b.next;
+    let mut heads = b.heads;
+    let mut tails = b.tails;
+    let mut held = b.held;
+    let mut clock = b.clock;
+    let mut active = b.active;
+    let mut pending = b.pending;
+    let mut slot = b.slot;
+    let mut left = b.left;
+    let mut count: usize = 0;
+    let mut total: u64 = 0;
+    loop {
+        let s = engine::serve_within(
+            Bytes(bytes - total),
+            list.len() - count,
+            clock,
+            active,
+            pending,
+            slot,
+            left,
+            b.largest,
+            &shares,
+            &mut starts,
+            &mut counts,
+            &mut deficits,
+            &mut ready,
+            &mut next,
+            &mut heads,
+            &mut tails,
+            &mut held,
+            lens,
+        );
+        let rest = s.left;
+        if s.code != 0 {
+            let after = After {
+                clock: s.clock,
+                active: s.active,
+                pending: s.pending,
+                slot: s.slot,
+                left: rest,
+            };
+            let board = rebuilt(
+                starts,
+                counts,
+                deficits,
+                ready,
+                next,
+                heads,
+                tails,
+                held,
+                after,
+                b,
+            );
+            return Bursted {
+                count: count,
+                bytes: total,
+                code: s.code,
+                board: board,
+            };
+        }
+        clock = s.clock;
+        active = s.active;
+        pending = s.pending;
+        slot = s.slot;
+        left = rest;
+        let charge = s.bytes;
+        total += charge.0;
+        let at = count;
+        count += 1;
+        let entry = s.entry;
+        list[at] = ids[entry];
+    }
+}
+
+// ---- The public calls
+
+// The code that comes before all others: 3, 2, or 0 where the board is known to be good.
+fn early(ids: &[u32], lens: &[u16], b: Board) -> u8
+    ensures { λ r. ⌜ (r ≡ earlyCode b (now (ids .entry)) (now (lens .entry))) × (r ≡ 0 → Known b (now (ids .entry)) (now (lens .entry))) ⌝ }
+{
+    if ids.len() != 2048 {
+        return 3;
+    }
+    if lens.len() != 2048 {
+        return 3;
+    }
+    if sound::sound(ids, lens, b) {
+        return 0;
+    }
+    2
+}
+
+// A block opens with this number and share.
+pub fn open(ids: &[u32], lens: &[u16], number: u32, share: u32, b: Board) -> Reply
+    ensures { λ r. ⌜ returned r (now (ids .exit)) (now (lens .exit)) ≡ called b (now (ids .entry)) (now (lens .entry)) (open! number share) ⌝ }
+{
+    let code = early(ids, lens, b);
+    if code != 0 {
+        return Reply {
+            code: code,
+            board: b,
+        };
+    }
+    open_block(ids, lens, number, share, b)
+}
+
+// The block with the old number takes the new one.
+pub fn rename(ids: &[u32], lens: &[u16], old: u32, new: u32, b: Board) -> Reply
+    ensures { λ r. ⌜ returned r (now (ids .exit)) (now (lens .exit)) ≡ called b (now (ids .entry)) (now (lens .entry)) (rename! old new) ⌝ }
+{
+    let code = early(ids, lens, b);
+    if code != 0 {
+        return Reply {
+            code: code,
+            board: b,
+        };
+    }
+    rename_block(ids, lens, old, new, b)
+}
+
+// The block with this number closes.
+pub fn close(ids: &[u32], lens: &[u16], number: u32, b: Board) -> Reply
+    ensures { λ r. ⌜ returned r (now (ids .exit)) (now (lens .exit)) ≡ called b (now (ids .entry)) (now (lens .entry)) (close! number) ⌝ }
+{
+    let code = early(ids, lens, b);
+    if code != 0 {
+        return Reply {
+            code: code,
+            board: b,
+        };
+    }
+    close_block(ids, lens, number, b)
+}
+
+// A record comes for the block with this number.
+pub fn record(
+    ids: &mut [u32],
+    lens: &mut [u16],
+    number: u32,
+    id: u32,
+    length: u16,
+    b: Board,
+) -> Reply
+    ensures { λ r. ⌜ returned r (now (ids .exit)) (now (lens .exit)) ≡ called b (now (ids .entry)) (now (lens .entry)) (record! number (record { number = id; bytes = length })) ⌝ }
+{
+    let code = early(&ids[..], &lens[..], b);
+    if code != 0 {
+        return Reply {
+            code: code,
+            board: b,
+        };
+    }
+    take_record(ids, lens, number, id, length, b)
+}
+
+// A board is made, and both tables are cleared.
+pub fn make(ids: &mut [u32], lens: &mut [u16], largest: u32) -> Reply
+    ensures { λ r. ⌜ returned r (now (ids .exit)) (now (lens .exit)) ≡ made (now (ids .entry)) (now (lens .entry)) largest ⌝ }
+{
+    if ids.len() != 2048 {
+        return Reply {
+            code: 3,
+            board: engine::blank(0),
+        };
+    }
+    if lens.len() != 2048 {
+        return Reply {
+            code: 3,
+            board: engine::blank(0),
+        };
+    }
+    if largest < 64 {
+        return Reply {
+            code: 4,
+            board: engine::blank(0),
+        };
+    }
+    if 2048 < largest {
+        return Reply {
+            code: 4,
+            board: engine::blank(0),
+        };
+    }
+    engine::clear_ids(ids);
+    engine::clear_lens(lens);
+    Reply {
+        code: 0,
+        board: engine::blank(largest),
+    }
+}
+
+// The next record is sent.
+pub fn serve(ids: &[u32], lens: &[u16], b: Board) -> Served
+    ensures { λ r. ⌜ r ≡ calledServe b (now (ids .entry)) (now (lens .entry)) ⌝ }
+{
+    let code = early(ids, lens, b);
+    if code != 0 {
+        return Served {
+            code: code,
+            block: 0,
+            number: 0,
+            length: 0,
+            clock: 0,
+            board: b,
+        };
+    }
+    serve_board(ids, lens, b)
+}
+
+// Records are sent as long as the next one is no longer than what remains of the bytes and the list has room.
+pub fn burst(ids: &[u32], lens: &[u16], bytes: u64, list: &mut [u32], b: Board) -> Bursted
+    ensures { λ r. ⌜ burstNow r (now (list .exit)) ≡ calledBurst b (now (ids .entry)) (now (lens .entry)) bytes (now (list .entry)) ⌝ }
+{
+    let code = early(ids, lens, b);
+    if code != 0 {
+        return Bursted {
+            count: 0,
+            bytes: 0,
+            code: code,
+            board: b,
+        };
+    }
+    burst_board(bytes, list, ids, lens, b)
+}

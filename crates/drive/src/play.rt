@@ -1,0 +1,179 @@
+// The steps: each reads its operands and works on what the step before left.
+use crate::answers;
+use crate::fields;
+use crate::input;
+use crate::output;
+use crate::steps;
+use crate::tables;
+use board::Board;
+use units::Parts;
+ghost use Prim.Native.Nat.{_≤_};
+ghost use lib.ListN.{length};
+ghost use Rattle.drive.specs.Tables.{Lendable};
+
+// What the steps so far have left besides the tables: how many entries of each are lent, and the board.
+pub struct State {
+    pub numbers: usize,
+    pub lengths: usize,
+    pub board: Board,
+}
+
+// The board of all zeros and two tables of 2,048 entries.
+pub fn fresh() -> State
+    ensures { λ r. ⌜ Lendable (r .numbers) (r .lengths) ⌝ }
+{
+    let words = [0u32; 64];
+    let longs = [0u64; 64];
+    let bytes = [0u8; 64];
+    let links = [0u8; 17];
+    let held = [0u32; 17];
+    let left = Parts(0);
+    let board = Board {
+        numbers: words,
+        shares: words,
+        deficits: longs,
+        starts: bytes,
+        counts: bytes,
+        ready: longs,
+        next: bytes,
+        heads: links,
+        tails: links,
+        held: held,
+        largest: 0,
+        clock: 0,
+        active: 0,
+        pending: 0,
+        slot: 0,
+        left: left,
+    };
+    State {
+        numbers: tables::ENTRIES,
+        lengths: tables::ENTRIES,
+        board: board,
+    }
+}
+
+// A case begins with the board and the tables all zeros.
+fn begin(ids: &mut [u32], lens: &mut [u16], whole: &mut bool) -> State
+    ensures { λ r. ⌜ Lendable (r .numbers) (r .lengths) ⌝ }
+{
+    let number = input::number(u64::MAX, &mut *whole);
+    tables::cut(ids, lens, 0, 0);
+    if *whole {
+        output::text(b"case");
+        output::number(number);
+        output::text(b"\n");
+    }
+    fresh()
+}
+
+fn resize(ids: &mut [u32], lens: &mut [u16], whole: &mut bool, b: Board) -> State
+    ensures { λ r. ⌜ Lendable (r .numbers) (r .lengths) ⌝ }
+{
+    let numbers = input::index(tables::MOST, &mut *whole);
+    let lengths = input::index(tables::MOST, whole);
+    tables::cut(ids, lens, numbers, lengths);
+    State {
+        numbers: numbers,
+        lengths: lengths,
+        board: b,
+    }
+}
+
+// A step that sets one field of the board; any other byte names no step.
+fn set(step: u8, whole: &mut bool, b: Board) -> Board {
+    match step {
+        steps::LARGEST | steps::ACTIVE | steps::PENDING => fields::word(step, whole, b),
+        steps::CLOCK => fields::clock(whole, b),
+        steps::SLOT => fields::slot(whole, b),
+        steps::LEFT => fields::left(whole, b),
+        steps::NUMBER | steps::SHARE => fields::place_word(step, whole, b),
+        steps::DEFICIT | steps::READY => fields::place_number(step, whole, b),
+        steps::START | steps::COUNT | steps::NEXT => fields::place_byte(step, whole, b),
+        steps::HEAD | steps::TAIL => fields::class_byte(step, whole, b),
+        steps::HELD => fields::held(whole, b),
+        _ => {
+            *whole = false;
+            b
+        }
+    }
+}
+
+// A step on the tables as they are lent. The board and the tables of a step that is not whole are not used again.
+fn on_lent(step: u8, ids: &mut [u32], lens: &mut [u16], whole: &mut bool, b: Board) -> Board {
+    match step {
+        steps::ENTRY => {
+            tables::set_entry(ids, lens, whole);
+            b
+        }
+        steps::MAKE | steps::OPEN | steps::RENAME | steps::CLOSE | steps::RECORD => answers::coded(
+            step,
+            ids,
+            lens,
+            whole,
+            b,
+        ),
+        steps::SERVE => answers::serve(ids, lens, b),
+        steps::BURST => answers::burst(ids, lens, whole, b),
+        steps::SPOILT => {
+            answers::spoilt(ids, lens, b);
+            b
+        }
+        steps::SHOW => {
+            answers::show(ids, lens, b);
+            b
+        }
+        _ => set(step, whole, b),
+    }
+}
+
+fn play(step: u8, ids: &mut [u32], lens: &mut [u16], whole: &mut bool, s: State) -> State
+    requires { ⌜ (s .numbers ≤ length (now ids)) × (s .lengths ≤ length (now lens)) ⌝ }
+    requires { ⌜ Lendable (s .numbers) (s .lengths) ⌝ }
+    ensures { λ r. ⌜ Lendable (r .numbers) (r .lengths) ⌝ }
+{
+    let board = s.board;
+    if step == steps::CASE {
+        return begin(ids, lens, whole);
+    }
+    if step == steps::TABLES {
+        return resize(ids, lens, whole, board);
+    }
+    let numbers = s.numbers;
+    let lengths = s.lengths;
+    let next = on_lent(
+        step,
+        &mut ids[..numbers],
+        &mut lens[..lengths],
+        whole,
+        board,
+    );
+    State {
+        numbers: numbers,
+        lengths: lengths,
+        board: next,
+    }
+}
+
+// Reads and plays one step. `more` falls where the input ends, and where a step is refused.
+pub fn turn(
+    ids: &mut [u32; tables::MOST],
+    lens: &mut [u16; tables::MOST],
+    more: &mut bool,
+    s: State,
+) -> State
+    requires { ⌜ Lendable (s .numbers) (s .lengths) ⌝ }
+    ensures { λ r. ⌜ Lendable (r .numbers) (r .lengths) ⌝ }
+{
+    let step = input::step(&mut *more);
+    if !*more {
+        return s;
+    }
+    let mut whole = true;
+    let next = play(step, ids, lens, &mut whole, s);
+    if !whole {
+        output::text(b"refused\n");
+        *more = false;
+    }
+    next
+}
