@@ -26,14 +26,14 @@ use Rattle.board.specs.Reading.{encode}
 use Rattle.board.proofs.Reading.{Fit}
 use Rattle.calls.specs.declared.Reply.{Reply}
 use Rattle.calls.specs.Promises.{Returned, returned, replied, written}
-use Rattle.calls.specs.Steps.{foundIn, takenAt, takingOf, withTaking, blocksOf, Recording, recording, entryAt, recordedIn}
-use Rattle.calls.specs.Opening.{Renaming, renaming, isUnknown, renamedIn, withRenaming, totalOf, Opening, opening, openedIn, withOpening, heldWith, Closing, closing, closedIn, withClosing}
-use Rattle.calls.proofs.Finding.{not-zeroth, where-is, free-is, none-is}
-use Rattle.calls.proofs.Sums.{total-map, total-tab}
-use Rattle.calls.proofs.Taking.{take-is}
-use Rattle.calls.proofs.Opening.{rename-is, open-is, close-is, quiet-active}
+use Rattle.engine.specs.Steps.{foundIn, takenAt, takingOf, withTaking, blocksOf, Recording, recording, entryAt, recordedIn}
+use Rattle.engine.specs.Opening.{Renaming, renaming, isUnknown, renamedIn, withRenaming, totalOf, Opening, opening, openedIn, withOpening, heldWith, Closing, closing, closedIn, withClosing}
+use Rattle.engine.proofs.Finding.{not-zeroth, where-is, free-is, none-is}
+use Rattle.engine.proofs.Sums.{total-map, total-tab}
+use Rattle.engine.proofs.Taking.{take-is}
+use Rattle.engine.proofs.Opening.{rename-is, open-is, close-is, quiet-active}
 use Rattle.rules.specs.Spoilt.{isQueued}
-use Rattle.calls.proofs.Fields.{count-is, share-is, start-is}
+use Rattle.engine.proofs.Fields.{count-is, share-is, start-is}
 
 -- what a turn of the rules leaves in memory
 abbrev pub turned : struct.Board → List ℕ → List ℕ → Board.Board → Single → Turn → Returned Reply

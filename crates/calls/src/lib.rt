@@ -1,14 +1,12 @@
 // The calls of the box, on a board by value and the two lent tables.
 ghost use mathlib.Core.Path.{_≡_};
 ghost use Rattle.rules.specs.Calls.{open!, rename!, close!, record! };
-ghost use Rattle.calls.specs.Serving.{engineNow, withEngine};
+ghost use Rattle.engine.specs.Serving.{engineNow, withEngine};
 ghost use Rattle.calls.specs.Contract.{goodServe, burstNow, goodBurst, calledServe, calledBurst};
 ghost use Rattle.calls.specs.Promises.{called, earlyCode, returned, Known, ruled, made};
 use board::Board;
 use engine::After;
 use units::Bytes;
-
-mod engine;
 
 // What a call gives back: its code, and the board.
 pub struct Reply {

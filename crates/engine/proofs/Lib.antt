@@ -1,0 +1,13 @@
+pub mod Fields
+pub mod Finding
+pub mod Taking
+pub mod Sums
+pub mod Opening
+pub mod Cases
+pub mod Sets
+pub mod Clock
+pub mod Choosing
+pub mod Beginning
+pub mod Sending
+pub mod Serves
+pub mod Within

@@ -1,0 +1,94 @@
+use Rattle.engine.proofs.Cases.{set-bound}
+use Rattle.engine.specs.Serving.{Links, leftLinks, beganAt}
+use Rattle.rules.proofs.Shape.{most-pos}
+use Rattle.units.proofs.Credits.{credit-under, charge-small}
+use Rattle.units.proofs.Classes.{class-le}
+use lib.ListN.{getD}
+use native.Mathlib.Omega.{arith}
+use mathlib.Core.Path.{ap}
+use Prim.Native.Nat.{_<_}
+use borrow.Author.Needs.{needs}
+use Rattle.engine.proofs.begin.Statement.{statement}
+use Rattle.engine.proofs.begin.Tie as tie
+
+-- src/engine.rt:195:9
+advance-requires : tie.Need-advance-requires
+advance-requires c κs = search needs
+
+-- src/engine.rt:196:5
+leave-requires : tie.Need-leave-requires
+leave-requires c κs = (c .before .before .before .before .before .before .pre .inside, omega (arith, c .before .before .before .before .before .before .pre .class, class-le (getD (c .before .before .before .before .before .before .args .shares .now) (c .before .before .before .before .before .before .args .place) 0)))
+
+-- src/engine.rt:197:5
+mul-ready : tie.Need-mul-ready
+mul-ready c = search needs
+
+-- src/engine.rt:197:5
+element-write-ready : tie.Need-element-write-ready
+element-write-ready c = search needs
+
+-- src/engine.rt:198:9
+still-pending-requires : tie.Need-still-pending-requires
+unfolding leftLinks
+still-pending-requires c κs = (omega (arith, c .before .before .before .before .before .before .before .before .before .pre .class, class-le (getD (c .before .before .before .before .before .before .before .before .before .args .shares .now) (c .before .before .before .before .before .before .before .before .before .args .place) 0)), rw (ap (λ (l : Links). l .heads) (c .before .before .leave .ensures)) (set-bound (c .before .before .before .before .before .before .before .before .before .args .heads .now) (c .before .before .before .before .before .before .before .before .before .args .k) _ 64 (c .before .before .before .before .before .before .before .before .before .pre .behind)))
+
+-- src/engine.rt:199:32
+mul-credit : tie.Need-mul-credit
+mul-credit c = search needs
+
+-- src/engine.rt:199:32
+element-copy-out-credit : tie.Need-element-copy-out-credit
+element-copy-out-credit c = search needs
+
+-- src/engine.rt:199:47
+cast-credit : tie.Need-cast-credit
+cast-credit c = let h : c .before .before .before .before .before .before .before .before .before .before .before .args .k < 17 = omega (arith, c .before .before .before .before .before .before .before .before .before .before .before .pre .class, class-le (getD (c .before .before .before .before .before .before .before .before .before .before .before .args .shares .now) (c .before .before .before .before .before .before .before .before .before .before .before .args .place) 0)) in omega arith
+
+-- src/engine.rt:199:9
+credit-requires : tie.Need-credit-requires
+credit-requires c κs = search needs
+
+-- src/engine.rt:200:22
+mul-t24 : tie.Need-mul-t24
+mul-t24 c = search needs
+
+-- src/engine.rt:200:22
+element-copy-out-t33 : tie.Need-element-copy-out-t33
+element-copy-out-t33 c = search needs
+
+-- src/engine.rt:200:22
+add-t37 : tie.Need-add-t37
+add-t37 c = let a = credit-under (c .before .before .before .before .before .before .before .before .before .before .before .before .before .before .args .largest) (getD (c .before .before .before .before .before .before .before .before .before .before .before .before .before .before .args .shares .now) (c .before .before .before .before .before .before .before .before .before .before .before .before .before .before .args .place) 0) (c .before .before .before .before .before .before .before .before .before .before .before .before .before .before .pre .high) (most-pos (c .before .before .before .before .before .before .before .before .before .before .before .before .before .before .args .largest) (c .before .before .before .before .before .before .before .before .before .before .before .before .before .before .pre .least)) in let b = charge-small (c .before .before .before .before .before .before .before .before .before .before .before .before .before .before .args .largest) (c .before .before .before .before .before .before .before .before .before .before .before .before .before .before .pre .most) in omega (arith, a, b, c .before .before .credit .ensures, c .before .before .before .before .before .before .before .before .before .before .before .before .before .before .pre .owed)
+
+-- src/engine.rt:201:5
+mul-deficits : tie.Need-mul-deficits
+mul-deficits c = search needs
+
+-- src/engine.rt:201:5
+element-write-deficits : tie.Need-element-write-deficits
+element-write-deficits c = search needs
+
+-- src/engine.rt:177:1
+returns : tie.Need-returns
+unfolding beganAt
+returns c = rw (← c .before .before .before .before .before .before .before .before .before .before .before .advance .ensures, ← c .before .before .before .before .before .before .before .leave .ensures, c .before .before .before .before .still-pending .ensures, c .before .before .credit .ensures)
+
+pub begin-spec : {M : Type 1} → statement M
+begin-spec =
+    tie.close
+    (tie.spec
+    advance-requires
+    leave-requires
+    mul-ready
+    element-write-ready
+    still-pending-requires
+    mul-credit
+    element-copy-out-credit
+    cast-credit
+    credit-requires
+    mul-t24
+    element-copy-out-t33
+    add-t37
+    mul-deficits
+    element-write-deficits
+    returns)

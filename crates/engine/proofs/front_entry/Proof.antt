@@ -1,0 +1,21 @@
+use mathlib.Core.Path.{refl}
+use Rattle.engine.specs.Serving.{frontEntry}
+use borrow.Author.Needs.{needs}
+use Rattle.engine.proofs.front_entry.Statement.{statement}
+use Rattle.engine.proofs.front_entry.Tie as tie
+
+-- src/engine.rt:266:5
+mul-result : tie.Need-mul-result
+mul-result c = search needs
+
+-- src/engine.rt:266:5
+add-result : tie.Need-add-result
+add-result c = search needs
+
+-- src/engine.rt:262:1
+returns : tie.Need-returns
+unfolding frontEntry
+returns c = refl
+
+pub front-entry-spec : {M : Type 1} → statement M
+front-entry-spec = tie.close (tie.spec mul-result add-result returns)

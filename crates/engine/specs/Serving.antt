@@ -1,0 +1,307 @@
+-- The engine's steps of a serving call, on the board's lists. (A promise names none of them.)
+use mathlib.Core.Path.{_≡_}
+use mathlib.Core.Bool.{cond}
+use mathlib.Core.List.{List}
+use Prim.Native.Nat.{ℕ, zero, suc, _+_, _-_, _*_, _/_, _%_, _^_, _≤_, _<_}
+use lib.Dec.{ltb, leb, eqb}
+use lib.ListN.{getD, set, length, replicate}
+use Rattle.bits.specs.Sets.{withBit, withoutBit, lowestBit}
+use Rattle.units.specs.Classes.{classOf, nextStart}
+use Rattle.units.specs.Credit.{charged, chargeOf, creditOf}
+use Rattle.board.specs.declared.Board.{Board}
+use Rattle.engine.specs.declared.After.{After}
+use Rattle.engine.specs.declared.Begun.{Begun}
+use Rattle.engine.specs.declared.Step.{Step}
+use Rattle.engine.specs.declared.Choice.{Choice}
+use Rattle.engine.specs.declared.Choice.the-variants.{Stop, Go}
+use Rattle.engine.specs.Steps.{ordersNow, joinedOrders}
+
+-- ---- What serving changes of a board
+
+-- the arrays that a slot's beginning and its end change
+pub record Queues : Type 0 where
+  pub deficits : List ℕ
+  pub ready : List ℕ
+  pub next : List ℕ
+  pub heads : List ℕ
+  pub tails : List ℕ
+  pub held : List ℕ
+
+abbrev pub queuesNow : List ℕ → List ℕ → List ℕ → List ℕ → List ℕ → List ℕ → Queues
+queuesNow deficits ready next heads tails held = record { deficits = deficits; ready = ready; next = next; heads = heads; tails = tails; held = held }
+
+-- all its arrays, and its numbers
+pub record Engine : Type 0 where
+  pub starts : List ℕ
+  pub counts : List ℕ
+  pub queues : Queues
+  pub now : After
+
+abbrev pub engineNow : List ℕ → List ℕ → List ℕ → List ℕ → List ℕ → List ℕ → List ℕ → List ℕ → After → Engine
+engineNow starts counts deficits ready next heads tails held now =
+    record { starts = starts; counts = counts; queues = queuesNow deficits ready next heads tails held; now = now }
+
+abbrev pub numbersNow : ℕ → ℕ → ℕ → ℕ → ℕ → After
+numbersNow clock active pending slot left = record { clock = clock; active = active; pending = pending; slot = slot; left = record { 0 = left } }
+
+abbrev pub engineOf : Board → Engine
+engineOf b = engineNow (b .starts) (b .counts) (b .deficits) (b .ready) (b .next) (b .heads) (b .tails) (b .held) (numbersNow (b .clock) (b .active) (b .pending) (b .slot) (b .left .0))
+
+abbrev pub withEngine : Board → Engine → Board
+withEngine b e =
+    record {
+      numbers = b .numbers;
+      shares = b .shares;
+      deficits = e .queues .deficits;
+      starts = e .starts;
+      counts = e .counts;
+      ready = e .queues .ready;
+      next = e .queues .next;
+      heads = e .queues .heads;
+      tails = e .queues .tails;
+      held = e .queues .held;
+      largest = b .largest;
+      clock = e .now .clock;
+      active = e .now .active;
+      pending = e .now .pending;
+      slot = e .now .slot;
+      left = e .now .left;
+    }
+
+-- ---- The clock goes on
+
+-- the pending classes and the held shares
+pub record Turned : Type 0 where
+  pub pending : ℕ
+  pub held : List ℕ
+
+abbrev pub turnedNow : ℕ → List ℕ → Turned
+turnedNow pending held = record { pending = pending; held = held }
+
+-- a start of class k is passed: its held share goes, and it is pending if its order has a block
+abbrev pub passed : ℕ → List ℕ → Turned → Turned
+passed k heads s = turnedNow (cond (eqb (getD heads k 0) 0) (s .pending) (withBit (s .pending) k)) (set (s .held) k 0)
+
+-- n classes from class k on, up to the first of which no start is passed
+unfoldable pub turnedFrom : ℕ → ℕ → ℕ → ℕ → List ℕ → Turned → Turned
+turnedFrom zero k from to heads s = s
+turnedFrom (suc n) k from to heads s =
+    let on = turnedFrom n (k + 1) from to heads (passed k heads s) in
+    cond (eqb (from / 2 ^ k) (to / 2 ^ k)) s on
+
+unfoldable pub turned : ℕ → ℕ → List ℕ → Turned → Turned
+turned from to heads s = turnedFrom 17 0 from to heads s
+
+-- ---- The choice
+
+-- the lowest pending class; where none is pending, the lowest active one
+unfoldable pub chosenClass : ℕ → ℕ → ℕ
+chosenClass active pending = lowestBit (cond (eqb pending 0) active pending)
+
+unfoldable pub slotClock : ℕ → ℕ → ℕ → ℕ
+slotClock clock pending k = cond (eqb pending 0) (nextStart k clock) clock
+
+unfoldable pub choice : ℕ → ℕ → ℕ → ℕ → List ℕ → Choice
+choice clock active pending slot heads =
+    let k = chosenClass active pending in
+    let time = slotClock clock pending k in
+    cond (eqb slot 0) (cond (eqb active 0) (Stop 1) (cond (leb (2 ^ 62) time) (Stop 11) (Go (getD heads k 0 - 1) time))) (Go (slot - 1) clock)
+
+abbrev pub choiceOf : Engine → Choice
+choiceOf e = choice (e .now .clock) (e .now .active) (e .now .pending) (e .now .slot) (e .queues .heads)
+
+-- what a choice among the classes asks
+pub record CanChoose (clock active pending slot : ℕ) (heads : List ℕ) : Type 0 where
+  pub time : clock ≤ 2 ^ 62
+  pub class : slot ≡ 0 → (active ≡ 0 → ⊥) → chosenClass active pending < 17
+  pub first : slot ≡ 0 → (active ≡ 0 → ⊥) → 1 ≤ getD heads (chosenClass active pending) 0
+
+-- ---- A slot begins
+
+pub record Links : Type 0 where
+  pub next : List ℕ
+  pub heads : List ℕ
+  pub tails : List ℕ
+
+abbrev pub linksNow : List ℕ → List ℕ → List ℕ → Links
+linksNow next heads tails = record { next = next; heads = heads; tails = tails }
+
+-- the first of class k's order leaves it
+unfoldable pub leftLinks : ℕ → ℕ → Links → Links
+leftLinks place k l =
+    let behind = getD (l .next) place 0 in
+    linksNow (set (l .next) place 0) (set (l .heads) k behind) (cond (eqb behind 0) (set (l .tails) k 0) (l .tails))
+
+-- a pending class of which one block went stays pending if the first of its order is ready
+unfoldable pub stillPending : ℕ → ℕ → ℕ → List ℕ → List ℕ → ℕ
+stillPending set k clock heads ready =
+    let first = getD heads k 0 in
+    cond (eqb first 0) (withoutBit set k) (cond (ltb clock (getD ready (first - 1) 0)) (withoutBit set k) set)
+
+pub record Beginning : Type 0 where
+  pub begun : Begun
+  pub queues : Queues
+
+abbrev pub beginningNow : Begun → Queues → Beginning
+beginningNow begun queues = record { begun = begun; queues = queues }
+
+unfoldable pub beganAt : List ℕ → ℕ → ℕ → ℕ → ℕ → ℕ → ℕ → Queues → Beginning
+beganAt shares largest place k time clock pending q =
+    let on = turned clock time (q .heads) (turnedNow pending (q .held)) in
+    let links = leftLinks place k (linksNow (q .next) (q .heads) (q .tails)) in
+    let ready = set (q .ready) place 0 in
+    beginningNow
+    (record { left = record { 0 = getD (q .deficits) place 0 + creditOf largest (getD shares place 0) }; pending = stillPending (on .pending) k time (links .heads) ready })
+    (queuesNow (set (q .deficits) place 0) ready (links .next) (links .heads) (links .tails) (on .held))
+
+pub record CanBegin (shares : List ℕ) (largest place k : ℕ) (q : Queues) : Type 0 where
+  pub inside : place < 64
+  pub class : k ≡ classOf (getD shares place 0)
+  pub low : 1 ≤ getD shares place 0
+  pub high : getD shares place 0 ≤ 65536
+  pub least : 64 ≤ largest
+  pub most : largest ≤ 2048
+  pub behind : getD (q .next) place 0 ≤ 64
+  pub owed : getD (q .deficits) place 0 < 2 ^ 32
+
+-- the slot that serves: the open one, or one that begins
+unfoldable pub openedSlot : List ℕ → ℕ → ℕ → ℕ → ℕ → ℕ → ℕ → ℕ → Queues → Beginning
+openedSlot shares largest place time clock pending slot left q =
+    cond (eqb slot 0) (beganAt shares largest place (classOf (getD shares place 0)) time clock pending q) (beginningNow (record { left = record { 0 = left }; pending = pending }) q)
+
+unfoldable pub opened : List ℕ → ℕ → ℕ → ℕ → Engine → Engine
+opened shares largest place time e =
+    let b = openedSlot shares largest place time (e .now .clock) (e .now .pending) (e .now .slot) (e .now .left .0) (e .queues) in
+    record { starts = e .starts; counts = e .counts; queues = b .queues; now = numbersNow time (e .now .active) (b .begun .pending) (place + 1) (b .begun .left .0) }
+
+-- ---- A slot ends: the clock is one more
+
+-- a class of which one block waits no more stays active if its order has a block
+unfoldable pub stillActive : ℕ → ℕ → List ℕ → ℕ
+stillActive set k heads = cond (eqb (getD heads k 0) 0) (withoutBit set k) set
+
+-- the lane is empty
+pub record EmptyEnd : Type 0 where
+  pub now : After
+  pub held : List ℕ
+
+abbrev pub emptyEndNow : After → List ℕ → EmptyEnd
+emptyEndNow now held = record { now = now; held = held }
+
+unfoldable pub endedEmpty : ℕ → ℕ → ℕ → ℕ → List ℕ → List ℕ → EmptyEnd
+endedEmpty k clock active pending heads held =
+    let rest = stillActive active k heads in
+    let on = turned clock (clock + 1) heads (turnedNow pending held) in
+    emptyEndNow (numbersNow (clock + 1) rest (on .pending) 0 0) (cond (eqb rest 0) (replicate 17 0) (on .held))
+
+-- the block still waits: it joins its order again, and what is left is its deficit
+pub record WaitingEnd : Type 0 where
+  pub now : After
+  pub queues : Queues
+
+abbrev pub waitingEndNow : After → Queues → WaitingEnd
+waitingEndNow now queues = record { now = now; queues = queues }
+
+unfoldable pub endedWaiting : ℕ → ℕ → ℕ → ℕ → ℕ → ℕ → Queues → WaitingEnd
+endedWaiting place k rest clock active pending q =
+    let o = joinedOrders (ordersNow (q .next) (q .heads) (q .tails) (q .ready) active) place k (nextStart k clock) in
+    let on = turned clock (clock + 1) (o .heads) (turnedNow pending (q .held)) in
+    waitingEndNow (numbersNow (clock + 1) (o .active) (on .pending) 0 0) (queuesNow (set (q .deficits) place rest) (o .ready) (o .next) (o .heads) (o .tails) (on .held))
+
+-- ---- The front record is sent
+
+-- the entry of the record at the front of a ring that starts there, and the start of the ring after a send
+unfoldable pub frontEntry : ℕ → ℕ → ℕ
+frontEntry place start = 32 * place + start
+
+unfoldable pub startAfter : ℕ → ℕ
+startAfter start = (start + 1) % 32
+
+unfoldable pub sentFrom : List ℕ → List ℕ → ℕ → Engine → Engine
+sentFrom shares lens place e =
+    let start = getD (e .starts) place 0 in
+    let count = getD (e .counts) place 0 - 1 in
+    let starts = set (e .starts) place (startAfter start) in
+    let counts = set (e .counts) place count in
+    let k = classOf (getD shares place 0) in
+    let rest = e .now .left .0 - chargeOf (getD lens (frontEntry place start) 0) in
+    let need = chargeOf (getD lens (frontEntry place (startAfter start)) 0) in
+    let empty = endedEmpty k (e .now .clock) (e .now .active) (e .now .pending) (e .queues .heads) (e .queues .held) in
+    let waiting = endedWaiting place k rest (e .now .clock) (e .now .active) (e .now .pending) (e .queues) in
+    cond (eqb count 0)
+    (engineNow starts counts (e .queues .deficits) (e .queues .ready) (e .queues .next) (e .queues .heads) (e .queues .tails) (empty .held) (empty .now))
+    (cond (leb need rest)
+    (record { starts = starts; counts = counts; queues = e .queues; now = numbersNow (e .now .clock) (e .now .active) (e .now .pending) (place + 1) rest })
+    (record { starts = starts; counts = counts; queues = waiting .queues; now = waiting .now }))
+
+pub record CanSend (shares lens : List ℕ) (place : ℕ) (e : Engine) : Type 0 where
+  pub inside : place < 64
+  pub table : length lens ≡ 2048
+  pub ring : getD (e .starts) place 0 < 32
+  pub some : 1 ≤ getD (e .counts) place 0
+  pub low : 1 ≤ getD shares place 0
+  pub high : getD shares place 0 ≤ 65536
+  pub tail : getD (e .queues .tails) (classOf (getD shares place 0)) 0 ≤ 64
+  pub time : e .now .clock < 2 ^ 62
+  pub fits : chargeOf (getD lens (frontEntry place (getD (e .starts) place 0)) 0) ≤ e .now .left .0
+
+unfoldable pub enacted : List ℕ → List ℕ → ℕ → ℕ → ℕ → Engine → Engine
+enacted shares lens largest place time e = sentFrom shares lens place (opened shares largest place time e)
+
+-- where no slot is open one can begin; and the slot that serves can send
+pub record CanEnact (shares lens : List ℕ) (largest place time : ℕ) (e : Engine) : Type 0 where
+  pub begins : e .now .slot ≡ 0 → CanBegin shares largest place (classOf (getD shares place 0)) (e .queues)
+  pub sends : CanSend shares lens place (opened shares largest place time e)
+
+-- ---- One record is served, within a number of bytes and the room of a list
+
+pub record Within : Type 0 where
+  pub step : Step
+  pub starts : List ℕ
+  pub counts : List ℕ
+  pub queues : Queues
+
+abbrev pub withinNow : Step → List ℕ → List ℕ → List ℕ → List ℕ → List ℕ → List ℕ → List ℕ → List ℕ → Within
+withinNow step starts counts deficits ready next heads tails held = record { step = step; starts = starts; counts = counts; queues = queuesNow deficits ready next heads tails held }
+
+-- nothing is served
+abbrev pub stayed : ℕ → After → Step
+stayed code now =
+    record { code = code; place = 0; entry = 0; bytes = record { 0 = 0 }; time = 0; clock = now .clock; active = now .active; pending = now .pending; slot = now .slot; left = now .left }
+
+-- a code, the place, the entry and the charge of the record sent, and the slot's clock; the rest is the engine's
+abbrev pub withinOf : ℕ → ℕ → ℕ → ℕ → ℕ → Engine → Within
+withinOf code place entry bytes time e =
+    record {
+      step = record {
+        code = code;
+        place = place;
+        entry = entry;
+        bytes = record { 0 = bytes };
+        time = time;
+        clock = e .now .clock;
+        active = e .now .active;
+        pending = e .now .pending;
+        slot = e .now .slot;
+        left = e .now .left;
+      };
+      starts = e .starts;
+      counts = e .counts;
+      queues = e .queues;
+    }
+
+-- codes 1 and 11 as chosen; 14 without room; 13 where the record exceeds the bytes
+abbrev pub servedBy : List ℕ → List ℕ → ℕ → ℕ → ℕ → Engine → Choice → Within
+servedBy shares lens largest bytes room e (Stop code) = withinOf code 0 0 0 0 e
+servedBy shares lens largest bytes room e (Go place time) =
+    let entry = frontEntry place (getD (e .starts) place 0) in
+    cond (eqb room 0) (withinOf 14 0 0 0 0 e)
+    (cond (ltb bytes (charged (getD lens entry 0))) (withinOf 13 0 0 0 0 e)
+    (withinOf 0 place entry (charged (getD lens entry 0)) time (enacted shares lens largest place time e)))
+
+unfoldable pub servedWithin : List ℕ → List ℕ → ℕ → ℕ → ℕ → Engine → Within
+servedWithin shares lens largest bytes room e = servedBy shares lens largest bytes room e (choiceOf e)
+
+pub record CanServe (shares lens : List ℕ) (largest : ℕ) (e : Engine) : Type 0 where
+  pub chooses : CanChoose (e .now .clock) (e .now .active) (e .now .pending) (e .now .slot) (e .queues .heads)
+  pub enacts : (place time : ℕ) → choiceOf e ≡ Go place time → CanEnact shares lens largest place time e

@@ -1,0 +1,846 @@
+// The engine: the steps of the calls over arrays that are lent one by one, so that no board is copied. Each is proved equal to a definition on the
+// board's lists, and laws tie each definition to the rules. A function here may ask what only a board that is not spoilt gives; the calls know it of theirs.
+ghost use mathlib.Core.Path.{_≡_};
+ghost use mathlib.Core.Bool.{_||_};
+ghost use Prim.Native.Nat.{ℕ, _+_, _-_, _*_, _^_, _<_, _≤_};
+ghost use lib.Dec.{eqb, ltb};
+ghost use lib.ListN.{length, getD, set, replicate};
+ghost use Rattle.rules.specs.Board.{fresh};
+ghost use Rattle.board.specs.Reading.{encode};
+ghost use Rattle.engine.specs.Steps.{foundIn, ordersNow, joinedOrders, taking, takenAt, TakeNeeds, blocks, RecordNeeds, recording, recordedIn};
+ghost use Rattle.engine.specs.Opening.{renaming, renamedIn, totalOf, opening, openedIn, heldWith, closing, closedIn, CloseNeeds};
+ghost use Rattle.units.specs.Classes.{classOf};
+ghost use Rattle.engine.specs.Serving.{queuesNow, engineNow, numbersNow, turnedNow, turned, chosenClass, slotClock, choice, CanChoose, linksNow, leftLinks, stillPending, stillActive, beginningNow, beganAt, CanBegin, openedSlot, emptyEndNow, endedEmpty, waitingEndNow, endedWaiting, frontEntry, startAfter, sentFrom, CanSend, enacted, CanEnact, stayed, withinNow, servedWithin, CanServe};
+use board::Board;
+use units::Bytes;
+use units::Parts;
+
+// The first place with this number, or 64.
+pub fn find(numbers: &[u32; 64], number: u32) -> usize
+    ensures { λ r. ⌜ r ≡ foundIn (now (numbers .entry)) number ⌝ }
+{
+    let mut i: usize = 0;
+    while i < 64 {
+        if numbers[i] == number {
+            return i;
+        }
+        i += 1;
+    }
+    i
+}
+
+// A number of 0, or an amount that is 0 or above the most.
+pub fn outside(number: u32, amount: u32, most: u32) -> bool
+    ensures { λ r. ⌜ r ≡ eqb number 0 || (eqb amount 0 || ltb most amount) ⌝ }
+{
+    if number == 0 {
+        return true;
+    }
+    if amount == 0 {
+        return true;
+    }
+    most < amount
+}
+
+// ---- taking a record
+
+// The block of a place joins the end of the order of class k; the answer is the set of active classes.
+pub fn join_in(
+    next: &mut [u8; 64],
+    heads: &mut [u8; 17],
+    tails: &mut [u8; 17],
+    ready: &mut [u64; 64],
+    active: u32,
+    place: usize,
+    k: usize,
+    time: u64,
+) -> u32
+    requires { ⌜ (place < 64) × ((k < 17) × (getD (now tails) k 0 ≤ 64)) ⌝ }
+    ensures { λ r. ⌜ ordersNow (now (next .exit)) (now (heads .exit)) (now (tails .exit)) (now (ready .exit)) r ≡ joinedOrders (ordersNow (now (next .entry)) (now (heads .entry)) (now (tails .entry)) (now (ready .entry)) active) place k time ⌝ }
+{
+    let link = (place + 1) as u8;
+    let last = tails[k];
+    if last == 0 {
+        heads[k] = link;
+    } else {
+        let at = last as usize - 1;
+        next[at] = link;
+    }
+    tails[k] = link;
+    next[place] = 0;
+    ready[place] = time;
+    bits::with_bit(active, k as u32)
+}
+
+// Place i has one record more; where its lane was empty, its block joins its class's order, ready at the next start.
+pub fn take_in(
+    i: usize,
+    clock: u64,
+    active: u32,
+    shares: &[u32; 64],
+    counts: &mut [u8; 64],
+    next: &mut [u8; 64],
+    heads: &mut [u8; 17],
+    tails: &mut [u8; 17],
+    ready: &mut [u64; 64],
+) -> u32
+    requires { ⌜ TakeNeeds (now shares) (now counts) (now tails) clock i ⌝ }
+    ensures { λ r. ⌜ taking (now (counts .exit)) (ordersNow (now (next .exit)) (now (heads .exit)) (now (tails .exit)) (now (ready .exit)) r) ≡ takenAt (now (shares .entry)) clock i (taking (now (counts .entry)) (ordersNow (now (next .entry)) (now (heads .entry)) (now (tails .entry)) (now (ready .entry)) active)) ⌝ }
+{
+    let count = counts[i];
+    counts[i] = count + 1;
+    if count != 0 {
+        return active;
+    }
+    let k = units::class_of(shares[i]);
+    let time = units::next_start(clock, k);
+    join_in(next, heads, tails, ready, active, i, k as usize, time)
+}
+
+// What taking a record leaves besides the arrays: the code, and the set of active classes.
+pub struct Took {
+    pub code: u8,
+    pub active: u32,
+}
+
+// A record comes for the block with this number.
+pub fn record_in(
+    number: u32,
+    id: u32,
+    length: u16,
+    largest: u32,
+    clock: u64,
+    active: u32,
+    numbers: &[u32; 64],
+    shares: &[u32; 64],
+    starts: &[u8; 64],
+    counts: &mut [u8; 64],
+    next: &mut [u8; 64],
+    heads: &mut [u8; 17],
+    tails: &mut [u8; 17],
+    ready: &mut [u64; 64],
+    ids: &mut [u32],
+    lens: &mut [u16],
+) -> Took
+    requires { ⌜ RecordNeeds (blocks (now numbers) (now shares) (now starts)) (now tails) clock (now ids) (now lens) ⌝ }
+    ensures { λ r. ⌜ recording (r .code) (taking (now (counts .exit)) (ordersNow (now (next .exit)) (now (heads .exit)) (now (tails .exit)) (now (ready .exit)) (r .active))) (now (ids .exit)) (now (lens .exit)) ≡ recordedIn (blocks (now (numbers .entry)) (now (shares .entry)) (now (starts .entry))) largest clock number id length (taking (now (counts .entry)) (ordersNow (now (next .entry)) (now (heads .entry)) (now (tails .entry)) (now (ready .entry)) active)) (now (ids .entry)) (now (lens .entry)) ⌝ }
+{
+    if outside(number, length as u32, largest) {
+        return Took {
+            code: 4,
+            active: active,
+        };
+    }
+    let i = find(numbers, number);
+    if i == 64 {
+        return Took {
+            code: 6,
+            active: active,
+        };
+    }
+    let count = counts[i];
+    if 32 <= count {
+        return Took {
+            code: 9,
+            active: active,
+        };
+    }
+    let first = starts[i] as usize;
+    let at = 32 * i + (first + count as usize) % 32;
+    ids[at] = id;
+    lens[at] = length;
+    let set = take_in(i, clock, active, shares, counts, next, heads, tails, ready);
+    Took {
+        code: 0,
+        active: set,
+    }
+}
+
+// ---- renaming, opening, closing
+
+// A block takes another number; the answer is the code.
+pub fn rename_in(old: u32, new: u32, numbers: &mut [u32; 64]) -> u8
+    ensures { λ r. ⌜ renaming r (now (numbers .exit)) ≡ renamedIn (now (numbers .entry)) old new ⌝ }
+{
+    if new == 0 {
+        return 4;
+    }
+    if old == 0 {
+        return 6;
+    }
+    let i = find(numbers, old);
+    if i == 64 {
+        return 6;
+    }
+    if find(numbers, new) != 64 {
+        return 5;
+    }
+    numbers[i] = new;
+    0
+}
+
+// The sum of an array's numbers.
+pub fn total(shares: &[u32]) -> u64
+    requires { ⌜ length (now shares) ≤ 64 ⌝ }
+    ensures { λ r. ⌜ (r ≡ totalOf (now (shares .entry))) × (r ≤ 64 * 2 ^ 32) ⌝ }
+{
+    let mut sum: u64 = 0;
+    let mut i: usize = 0;
+    while i < shares.len() {
+        sum += shares[i] as u64;
+        i += 1;
+    }
+    sum
+}
+
+// A block opens at the lowest free place; the answer is the code.
+pub fn open_in(
+    number: u32,
+    share: u32,
+    numbers: &mut [u32; 64],
+    shares: &mut [u32; 64],
+    held: &[u32; 17],
+) -> u8
+    ensures { λ r. ⌜ opening r (now (numbers .exit)) (now (shares .exit)) ≡ openedIn (now (numbers .entry)) (now (shares .entry)) (now (held .entry)) number share ⌝ }
+{
+    if outside(number, share, 65536) {
+        return 4;
+    }
+    if find(numbers, number) != 64 {
+        return 5;
+    }
+    let i = find(numbers, 0);
+    if i == 64 {
+        return 7;
+    }
+    if 65536 < total(shares) + total(held) + share as u64 {
+        return 8;
+    }
+    numbers[i] = number;
+    shares[i] = share;
+    0
+}
+
+// A closed block's share is held with its class's, unless no class is active.
+pub fn hold_in(active: u32, share: u32, held: &mut [u32; 17])
+    requires { ⌜ (1 ≤ share) × ((share ≤ 65536) × ((k : ℕ) → getD (now held) k 0 ≤ 65536)) ⌝ }
+    ensures { λ _. ⌜ now (held .exit) ≡ heldWith active share (now (held .entry)) ⌝ }
+{
+    if active == 0 {
+        return;
+    }
+    let k = units::class_of(share) as usize;
+    let sum = held[k] + share;
+    held[k] = sum;
+}
+
+// A block with an empty lane closes; the answer is the code.
+pub fn close_in(
+    number: u32,
+    active: u32,
+    counts: &[u8; 64],
+    numbers: &mut [u32; 64],
+    shares: &mut [u32; 64],
+    starts: &mut [u8; 64],
+    held: &mut [u32; 17],
+) -> u8
+    requires { ⌜ CloseNeeds (now numbers) (now shares) (now held) ⌝ }
+    ensures { λ r. ⌜ closing r (now (numbers .exit)) (now (shares .exit)) (now (starts .exit)) (now (held .exit)) ≡ closedIn active (now (numbers .entry)) (now (shares .entry)) (now (starts .entry)) (now (counts .entry)) (now (held .entry)) number ⌝ }
+{
+    if number == 0 {
+        return 6;
+    }
+    let i = find(numbers, number);
+    if i == 64 {
+        return 6;
+    }
+    if 0 < counts[i] {
+        return 10;
+    }
+    hold_in(active, shares[i], held);
+    numbers[i] = 0;
+    shares[i] = 0;
+    starts[i] = 0;
+    0
+}
+
+// ---- making
+
+pub fn clear_ids(ids: &mut [u32])
+    ensures { λ _. ⌜ now (ids .exit) ≡ replicate (length (now (ids .entry))) 0 ⌝ }
+{
+    let mut i: usize = 0;
+    while i < ids.len() {
+        ids[i] = 0;
+        i += 1;
+    }
+}
+
+pub fn clear_lens(lens: &mut [u16])
+    ensures { λ _. ⌜ now (lens .exit) ≡ replicate (length (now (lens .entry))) 0 ⌝ }
+{
+    let mut i: usize = 0;
+    while i < lens.len() {
+        lens[i] = 0;
+        i += 1;
+    }
+}
+
+// The board of all zeros but for L.
+pub fn blank(largest: u32) -> Board
+    ensures { λ r. ⌜ r ≡ encode (fresh largest) ⌝ }
+{
+    let words = [0u32; 64];
+    let longs = [0u64; 64];
+    let bytes = [0u8; 64];
+    let links = [0u8; 17];
+    let held = [0u32; 17];
+    let none = Parts(0);
+    Board {
+        numbers: words,
+        shares: words,
+        deficits: longs,
+        starts: bytes,
+        counts: bytes,
+        ready: longs,
+        next: bytes,
+        heads: links,
+        tails: links,
+        held: held,
+        largest: largest,
+        clock: 0,
+        active: 0,
+        pending: 0,
+        slot: 0,
+        left: none,
+    }
+}
+
+// ---- Serving
+
+// The numbers of a board that serving changes.
+pub struct After {
+    pub clock: u64,
+    pub active: u32,
+    pub pending: u32,
+    pub slot: u8,
+    pub left: Parts,
+}
+
+// What is served next: the place and the clock of its slot; or the code of a refusal.
+pub enum Choice {
+    Stop(u8),
+    Go(usize, u64),
+}
+
+// What is left of a slot that begins, and the classes that stay pending.
+pub struct Begun {
+    pub left: Parts,
+    pub pending: u32,
+}
+
+// The code of one serve; the place, the table entry and the charge of the record sent; the slot's clock; and the numbers after it.
+pub struct Step {
+    pub code: u8,
+    pub place: usize,
+    pub entry: usize,
+    pub bytes: Bytes,
+    pub time: u64,
+    pub clock: u64,
+    pub active: u32,
+    pub pending: u32,
+    pub slot: u8,
+    pub left: Parts,
+}
+
+const LAST_CLOCK: u64 = 4611686018427387904;
+
+// The first block of an order leaves it.
+pub fn leave(
+    place: usize,
+    k: usize,
+    next: &mut [u8; 64],
+    heads: &mut [u8; 17],
+    tails: &mut [u8; 17],
+)
+    requires { ⌜ (place < 64) × (k < 17) ⌝ }
+    ensures { λ r. ⌜ linksNow (now (next .exit)) (now (heads .exit)) (now (tails .exit)) ≡ leftLinks place k (linksNow (now (next .entry)) (now (heads .entry)) (now (tails .entry))) ⌝ }
+{
+    let behind = next[place];
+    next[place] = 0;
+    heads[k] = behind;
+    if behind == 0 {
+        tails[k] = 0;
+    }
+}
+
+// The clock goes on: the held share of each class of which a start is passed goes, and the class is pending if its order has a block.
+// Starts of a class are starts of every lower one, so the first class of which none is passed is the last to look at.
+pub fn advance(from: u64, to: u64, pending: u32, heads: &[u8; 17], held: &mut [u32; 17]) -> u32
+    ensures { λ r. ⌜ turnedNow r (now (held .exit)) ≡ turned from to (now (heads .entry)) (turnedNow pending (now (held .entry))) ⌝ }
+{
+    let mut set = pending;
+    let mut k: usize = 0;
+    while k < 17 {
+        if from >> k == to >> k {
+            return set;
+        }
+        held[k] = 0;
+        if heads[k] != 0 {
+            set = bits::with_bit(set, k as u32);
+        }
+        k += 1;
+    }
+    set
+}
+
+// Whether class k stays pending when the first block of its order left it.
+pub fn still_pending(set: u32, k: usize, clock: u64, heads: &[u8; 17], ready: &[u64; 64]) -> u32
+    requires { ⌜ (k < 17) × (getD (now heads) k 0 ≤ 64) ⌝ }
+    ensures { λ r. ⌜ r ≡ stillPending set k clock (now (heads .entry)) (now (ready .entry)) ⌝ }
+{
+    let first = heads[k];
+    if first == 0 {
+        return bits::without_bit(set, k as u32);
+    }
+    let at = first as usize - 1;
+    if clock < ready[at] {
+        return bits::without_bit(set, k as u32);
+    }
+    set
+}
+
+// Whether class k stays active when a block that was in no order waits no more.
+pub fn still_active(set: u32, k: usize, heads: &[u8; 17]) -> u32
+    requires { ⌜ k < 17 ⌝ }
+    ensures { λ r. ⌜ r ≡ stillActive set k (now (heads .entry)) ⌝ }
+{
+    if heads[k] == 0 {
+        return bits::without_bit(set, k as u32);
+    }
+    set
+}
+
+// No share is held.
+pub fn clear_held(held: &mut [u32; 17])
+    ensures { λ r. ⌜ now (held .exit) ≡ replicate 17 0 ⌝ }
+{
+    *held = [0; 17];
+}
+
+// A link as an index.
+pub fn wide(link: u8) -> usize
+    ensures { λ r. ⌜ r ≡ link ⌝ }
+{
+    link as usize
+}
+
+// The place of the first block of class k's order.
+pub fn first_of(k: usize, heads: &[u8; 17]) -> usize
+    requires { ⌜ (k < 17) × (1 ≤ getD (now heads) k 0) ⌝ }
+    ensures { λ r. ⌜ r ≡ getD (now (heads .entry)) k 0 - 1 ⌝ }
+{
+    wide(heads[k]) - 1
+}
+
+// The class that is served where no slot is open.
+pub fn chosen_class(active: u32, pending: u32) -> u32
+    ensures { λ r. ⌜ r ≡ chosenClass active pending ⌝ }
+{
+    if pending == 0 {
+        return bits::lowest(active);
+    }
+    bits::lowest(pending)
+}
+
+// The clock at which a slot of class k begins.
+pub fn slot_clock(clock: u64, pending: u32, k: u32) -> u64
+    requires { ⌜ (k < 17) × (clock ≤ 2 ^ 62) ⌝ }
+    ensures { λ r. ⌜ r ≡ slotClock clock pending k ⌝ }
+{
+    if pending == 0 {
+        return units::next_start(clock, k);
+    }
+    clock
+}
+
+// Whose record is next and at which clock, or code 1 or 11; nothing is changed.
+pub fn choose(clock: u64, active: u32, pending: u32, slot: u8, heads: &[u8; 17]) -> Choice
+    requires { ⌜ CanChoose clock active pending slot (now heads) ⌝ }
+    ensures { λ r. ⌜ r ≡ choice clock active pending slot (now (heads .entry)) ⌝ }
+{
+    if slot != 0 {
+        let place = slot as usize - 1;
+        return Choice::Go(place, clock);
+    }
+    if active == 0 {
+        return Choice::Stop(1);
+    }
+    let k = chosen_class(active, pending);
+    let time = slot_clock(clock, pending, k);
+    if LAST_CLOCK <= time {
+        return Choice::Stop(11);
+    }
+    let place = first_of(k as usize, heads);
+    Choice::Go(place, time)
+}
+
+// A slot of class k begins at a clock: its block leaves its order.
+pub fn begin(
+    place: usize,
+    k: usize,
+    time: u64,
+    clock: u64,
+    pending: u32,
+    largest: u32,
+    shares: &[u32; 64],
+    deficits: &mut [u64; 64],
+    ready: &mut [u64; 64],
+    next: &mut [u8; 64],
+    heads: &mut [u8; 17],
+    tails: &mut [u8; 17],
+    held: &mut [u32; 17],
+) -> Begun
+    requires { ⌜ CanBegin (now shares) largest place k (queuesNow (now deficits) (now ready) (now next) (now heads) (now tails) (now held)) ⌝ }
+    ensures { λ r. ⌜ beginningNow r (queuesNow (now (deficits .exit)) (now (ready .exit)) (now (next .exit)) (now (heads .exit)) (now (tails .exit)) (now (held .exit))) ≡ beganAt (now (shares .entry)) largest place k time clock pending (queuesNow (now (deficits .entry)) (now (ready .entry)) (now (next .entry)) (now (heads .entry)) (now (tails .entry)) (now (held .entry))) ⌝ }
+{
+    let set = advance(clock, time, pending, heads, held);
+    leave(place, k, next, heads, tails);
+    ready[place] = 0;
+    let rest = still_pending(set, k, time, heads, ready);
+    let credit = units::credit(shares[place], k as u32, Bytes(largest as u64));
+    let left = Parts(deficits[place] + credit.0);
+    deficits[place] = 0;
+    Begun {
+        left: left,
+        pending: rest,
+    }
+}
+
+// The slot of a block that waits no more ends.
+pub fn end_empty(
+    k: usize,
+    clock: u64,
+    active: u32,
+    pending: u32,
+    heads: &[u8; 17],
+    held: &mut [u32; 17],
+) -> After
+    requires { ⌜ (k < 17) × (clock < 2 ^ 62) ⌝ }
+    ensures { λ r. ⌜ emptyEndNow r (now (held .exit)) ≡ endedEmpty k clock active pending (now (heads .entry)) (now (held .entry)) ⌝ }
+{
+    let set = advance(clock, clock + 1, pending, heads, held);
+    let rest = still_active(active, k, heads);
+    if rest == 0 {
+        clear_held(held);
+    }
+    After {
+        clock: clock + 1,
+        active: rest,
+        pending: set,
+        slot: 0,
+        left: Parts(0),
+    }
+}
+
+// The slot of a block that still waits ends: it joins its order again, and what is left is its deficit.
+pub fn end_waiting(
+    place: usize,
+    k: usize,
+    rest: Parts,
+    clock: u64,
+    active: u32,
+    pending: u32,
+    deficits: &mut [u64; 64],
+    ready: &mut [u64; 64],
+    next: &mut [u8; 64],
+    heads: &mut [u8; 17],
+    tails: &mut [u8; 17],
+    held: &mut [u32; 17],
+) -> After
+    requires { ⌜ (place < 64) × ((k < 17) × ((clock < 2 ^ 62) × (getD (now tails) k 0 ≤ 64))) ⌝ }
+    ensures { λ r. ⌜ waitingEndNow r (queuesNow (now (deficits .exit)) (now (ready .exit)) (now (next .exit)) (now (heads .exit)) (now (tails .exit)) (now (held .exit))) ≡ endedWaiting place k (rest .0) clock active pending (queuesNow (now (deficits .entry)) (now (ready .entry)) (now (next .entry)) (now (heads .entry)) (now (tails .entry)) (now (held .entry))) ⌝ }
+{
+    deficits[place] = rest.0;
+    let time = units::next_start(clock, k as u32);
+    let waiting = join_in(next, heads, tails, ready, active, place, k, time);
+    let set = advance(clock, clock + 1, pending, heads, held);
+    After {
+        clock: clock + 1,
+        active: waiting,
+        pending: set,
+        slot: 0,
+        left: Parts(0),
+    }
+}
+
+// The table entry of the record at the front of a ring that starts there.
+pub fn front_entry(place: usize, start: u8) -> usize
+    requires { ⌜ (place < 64) × (start < 32) ⌝ }
+    ensures { λ r. ⌜ r ≡ frontEntry place start ⌝ }
+{
+    32 * place + start as usize
+}
+
+// The start of the ring after a send.
+pub fn start_after(start: u8) -> u8
+    requires { ⌜ start < 32 ⌝ }
+    ensures { λ r. ⌜ r ≡ startAfter start ⌝ }
+{
+    (start + 1) % 32
+}
+
+// The front record of the open slot's block is sent.
+pub fn send(
+    place: usize,
+    clock: u64,
+    active: u32,
+    pending: u32,
+    left: Parts,
+    shares: &[u32; 64],
+    starts: &mut [u8; 64],
+    counts: &mut [u8; 64],
+    deficits: &mut [u64; 64],
+    ready: &mut [u64; 64],
+    next: &mut [u8; 64],
+    heads: &mut [u8; 17],
+    tails: &mut [u8; 17],
+    held: &mut [u32; 17],
+    lens: &[u16],
+) -> After
+    requires { ⌜ CanSend (now shares) (now lens) place (engineNow (now starts) (now counts) (now deficits) (now ready) (now next) (now heads) (now tails) (now held) (numbersNow clock active pending (place + 1) (left .0))) ⌝ }
+    ensures { λ r. ⌜ engineNow (now (starts .exit)) (now (counts .exit)) (now (deficits .exit)) (now (ready .exit)) (now (next .exit)) (now (heads .exit)) (now (tails .exit)) (now (held .exit)) r ≡ sentFrom (now (shares .entry)) (now (lens .entry)) place (engineNow (now (starts .entry)) (now (counts .entry)) (now (deficits .entry)) (now (ready .entry)) (now (next .entry)) (now (heads .entry)) (now (tails .entry)) (now (held .entry)) (numbersNow clock active pending (place + 1) (left .0))) ⌝ }
+{
+    let ring = starts[place];
+    let entry = front_entry(place, ring);
+    let charge = units::charge(Bytes(lens[entry] as u64));
+    let on = start_after(ring);
+    let count = counts[place] - 1;
+    starts[place] = on;
+    counts[place] = count;
+    let rest = Parts(left.0 - charge.0);
+    let k = units::class_of(shares[place]) as usize;
+    if count == 0 {
+        return end_empty(k, clock, active, pending, heads, held);
+    }
+    let following = front_entry(place, on);
+    let need = units::charge(Bytes(lens[following] as u64));
+    if need.0 <= rest.0 {
+        return After {
+            clock: clock,
+            active: active,
+            pending: pending,
+            slot: (place + 1) as u8,
+            left: rest,
+        };
+    }
+    end_waiting(
+        place,
+        k,
+        rest,
+        clock,
+        active,
+        pending,
+        deficits,
+        ready,
+        next,
+        heads,
+        tails,
+        held,
+    )
+}
+
+// The slot that serves: the open one, or one that begins.
+pub fn open_slot(
+    place: usize,
+    time: u64,
+    clock: u64,
+    pending: u32,
+    slot: u8,
+    left: Parts,
+    largest: u32,
+    shares: &[u32; 64],
+    deficits: &mut [u64; 64],
+    ready: &mut [u64; 64],
+    next: &mut [u8; 64],
+    heads: &mut [u8; 17],
+    tails: &mut [u8; 17],
+    held: &mut [u32; 17],
+) -> Begun
+    requires { ⌜ (slot ≡ 0 → CanBegin (now shares) largest place (classOf (getD (now shares) place 0)) (queuesNow (now deficits) (now ready) (now next) (now heads) (now tails) (now held))) ⌝ }
+    ensures { λ r. ⌜ beginningNow r (queuesNow (now (deficits .exit)) (now (ready .exit)) (now (next .exit)) (now (heads .exit)) (now (tails .exit)) (now (held .exit))) ≡ openedSlot (now (shares .entry)) largest place time clock pending slot (left .0) (queuesNow (now (deficits .entry)) (now (ready .entry)) (now (next .entry)) (now (heads .entry)) (now (tails .entry)) (now (held .entry))) ⌝ }
+{
+    if slot != 0 {
+        return Begun {
+            left: left,
+            pending: pending,
+        };
+    }
+    let k = units::class_of(shares[place]) as usize;
+    begin(
+        place,
+        k,
+        time,
+        clock,
+        pending,
+        largest,
+        shares,
+        deficits,
+        ready,
+        next,
+        heads,
+        tails,
+        held,
+    )
+}
+
+// The slot that serves sends its front record.
+pub fn enact(
+    place: usize,
+    time: u64,
+    clock: u64,
+    active: u32,
+    pending: u32,
+    slot: u8,
+    left: Parts,
+    largest: u32,
+    shares: &[u32; 64],
+    starts: &mut [u8; 64],
+    counts: &mut [u8; 64],
+    deficits: &mut [u64; 64],
+    ready: &mut [u64; 64],
+    next: &mut [u8; 64],
+    heads: &mut [u8; 17],
+    tails: &mut [u8; 17],
+    held: &mut [u32; 17],
+    lens: &[u16],
+) -> After
+    requires { ⌜ CanEnact (now shares) (now lens) largest place time (engineNow (now starts) (now counts) (now deficits) (now ready) (now next) (now heads) (now tails) (now held) (numbersNow clock active pending slot (left .0))) ⌝ }
+    ensures { λ r. ⌜ engineNow (now (starts .exit)) (now (counts .exit)) (now (deficits .exit)) (now (ready .exit)) (now (next .exit)) (now (heads .exit)) (now (tails .exit)) (now (held .exit)) r ≡ enacted (now (shares .entry)) (now (lens .entry)) largest place time (engineNow (now (starts .entry)) (now (counts .entry)) (now (deficits .entry)) (now (ready .entry)) (now (next .entry)) (now (heads .entry)) (now (tails .entry)) (now (held .entry)) (numbersNow clock active pending slot (left .0))) ⌝ }
+{
+    let begun = open_slot(
+        place,
+        time,
+        clock,
+        pending,
+        slot,
+        left,
+        largest,
+        shares,
+        deficits,
+        ready,
+        next,
+        heads,
+        tails,
+        held,
+    );
+    let parts = begun.left;
+    send(
+        place,
+        time,
+        active,
+        begun.pending,
+        parts,
+        shares,
+        starts,
+        counts,
+        deficits,
+        ready,
+        next,
+        heads,
+        tails,
+        held,
+        lens,
+    )
+}
+
+// One record is served, if it is no longer than so many bytes and a list has room for it.
+pub fn serve_within(
+    bytes: Bytes,
+    room: usize,
+    clock: u64,
+    active: u32,
+    pending: u32,
+    slot: u8,
+    left: Parts,
+    largest: u32,
+    shares: &[u32; 64],
+    starts: &mut [u8; 64],
+    counts: &mut [u8; 64],
+    deficits: &mut [u64; 64],
+    ready: &mut [u64; 64],
+    next: &mut [u8; 64],
+    heads: &mut [u8; 17],
+    tails: &mut [u8; 17],
+    held: &mut [u32; 17],
+    lens: &[u16],
+) -> Step
+    requires { ⌜ CanServe (now shares) (now lens) largest (engineNow (now starts) (now counts) (now deficits) (now ready) (now next) (now heads) (now tails) (now held) (numbersNow clock active pending slot (left .0))) ⌝ }
+    ensures { λ r. ⌜ withinNow r (now (starts .exit)) (now (counts .exit)) (now (deficits .exit)) (now (ready .exit)) (now (next .exit)) (now (heads .exit)) (now (tails .exit)) (now (held .exit)) ≡ servedWithin (now (shares .entry)) (now (lens .entry)) largest (bytes .0) room (engineNow (now (starts .entry)) (now (counts .entry)) (now (deficits .entry)) (now (ready .entry)) (now (next .entry)) (now (heads .entry)) (now (tails .entry)) (now (held .entry)) (numbersNow clock active pending slot (left .0))) ⌝ }
+{
+    let chosen = choose(clock, active, pending, slot, heads);
+    match chosen {
+        Choice::Stop(code) => stay(code, clock, active, pending, slot, left),
+        Choice::Go(place, time) => {
+            if room == 0 {
+                return stay(14, clock, active, pending, slot, left);
+            }
+            let entry = front_entry(place, starts[place]);
+            let charge = units::charged(Bytes(lens[entry] as u64));
+            if bytes.0 < charge.0 {
+                return stay(13, clock, active, pending, slot, left);
+            }
+            let after = enact(
+                place,
+                time,
+                clock,
+                active,
+                pending,
+                slot,
+                left,
+                largest,
+                shares,
+                starts,
+                counts,
+                deficits,
+                ready,
+                next,
+                heads,
+                tails,
+                held,
+                lens,
+            );
+            let rest = after.left;
+            Step {
+                code: 0,
+                place: place,
+                entry: entry,
+                bytes: charge,
+                time: time,
+                clock: after.clock,
+                active: after.active,
+                pending: after.pending,
+                slot: after.slot,
+                left: rest,
+            }
+        }
+    }
+}
+
+// Nothing is served: a code, and the numbers as they were.
+pub fn stay(code: u8, clock: u64, active: u32, pending: u32, slot: u8, left: Parts) -> Step
+    ensures { λ r. ⌜ r ≡ stayed code (numbersNow clock active pending slot (left .0)) ⌝ }
+{
+    Step {
+        code: code,
+        place: 0,
+        entry: 0,
+        bytes: Bytes(0),
+        time: 0,
+        clock: clock,
+        active: active,
+        pending: pending,
+        slot: slot,
+        left: left,
+    }
+}
