@@ -19,11 +19,11 @@ use Rattle.board.specs.Reading.{encode, view}
 use Rattle.board.proofs.Reading.{Fit, Holds, view-encode}
 use Rattle.board.proofs.Sound.{sound-encode, fit-view, holds-view}
 use Rattle.calls.specs.declared.Served.{Served}
-use Rattle.engine.specs.Serving.{engineOf, withEngine, Within, servedWithin, CanServe}
+use Rattle.engine.specs.Serving.{engineOf, withEngine, Within, engineAfter, servedWithin, CanServe}
 use Rattle.calls.specs.Promises.{Known}
 use Rattle.calls.specs.Contract.{notServed, goodServe, BurstOutcome, burstNow, burstBy, goodBurst}
 use Rattle.engine.proofs.Serves.{number-of, ByAnswer, serve-by, can-serve}
-use Rattle.engine.proofs.Within.{engineAfter, fit-serve, Stops, Goes, within-by}
+use Rattle.engine.proofs.Within.{fit-serve, Stops, Goes, within-by}
 
 -- the engine's answer on a value
 abbrev pub within : struct.Board → List ℕ → ℕ → ℕ → Within

@@ -1,11 +1,11 @@
 // The calls of the box, on a board by value and the two lent tables.
 ghost use mathlib.Core.Path.{_≡_};
 ghost use Rattle.rules.specs.Calls.{open!, rename!, close!, record! };
-ghost use Rattle.engine.specs.Serving.{engineNow, withEngine};
+ghost use Rattle.engine.specs.Serving.{withEngine, withinNow, engineAfter};
 ghost use Rattle.calls.specs.Contract.{goodServe, burstNow, goodBurst, calledServe, calledBurst};
 ghost use Rattle.calls.specs.Promises.{called, earlyCode, returned, Known, ruled, made};
 use board::Board;
-use engine::After;
+use engine::Step;
 use units::Bytes;
 
 // What a call gives back: its code, and the board.
@@ -151,7 +151,7 @@ fn close_block(ids: &[u32], lens: &[u16], number: u32, b: Board) -> Reply
 // More bytes than any record is charged.
 const ANY_LENGTH: u64 = 65536;
 
-// The board made again of what serving changes.
+// The board that a step of serving leaves.
 fn rebuilt(
     starts: [u8; 64],
     counts: [u8; 64],
@@ -161,10 +161,10 @@ fn rebuilt(
     heads: [u8; 17],
     tails: [u8; 17],
     held: [u32; 17],
-    now: After,
+    s: Step,
     b: Board,
 ) -> Board
-    ensures { λ r. ⌜ r ≡ withEngine b (engineNow starts counts deficits ready next heads tails held now) ⌝ }
+    ensures { λ r. ⌜ r ≡ withEngine b (engineAfter (withinNow s starts counts deficits ready next heads tails held)) ⌝ }
 {
     let mut n = b;
     n.starts = starts;
@@ -175,11 +175,11 @@ fn rebuilt(
     n.heads = heads;
     n.tails = tails;
     n.held = held;
-    n.clock = now.clock;
-    n.active = now.active;
-    n.pending = now.pending;
-    n.slot = now.slot;
-    let left = now.left;
+    n.clock = s.clock;
+    n.active = s.active;
+    n.pending = s.pending;
+    n.slot = s.slot;
+    let left = s.left;
     n.left = left;
     n
 }
@@ -231,14 +231,6 @@ fn serve_board(ids: &[u32], lens: &[u16], b: Board) -> Served
     }
     let place = s.place;
     let entry = s.entry;
-    let rest = s.left;
-    let after = After {
-        clock: s.clock,
-        active: s.active,
-        pending: s.pending,
-        slot: s.slot,
-        left: rest,
-    };
     let board = rebuilt(
         starts,
         counts,
@@ -248,7 +240,7 @@ fn serve_board(ids: &[u32], lens: &[u16], b: Board) -> Served
         heads,
         tails,
         held,
-        after,
+        s,
         b,
     );
     Served {
@@ -303,15 +295,7 @@ fn burst_board(bytes: u64, list: &mut [u32], ids: &[u32], lens: &[u16], b: Board
             &mut held,
             lens,
         );
-        let rest = s.left;
         if s.code != 0 {
-            let after = After {
-                clock: s.clock,
-                active: s.active,
-                pending: s.pending,
-                slot: s.slot,
-                left: rest,
-            };
             let board = rebuilt(
                 starts,
                 counts,
@@ -321,7 +305,7 @@ fn burst_board(bytes: u64, list: &mut [u32], ids: &[u32], lens: &[u16], b: Board
                 heads,
                 tails,
                 held,
-                after,
+                s,
                 b,
             );
             return Bursted {
@@ -335,6 +319,7 @@ fn burst_board(bytes: u64, list: &mut [u32], ids: &[u32], lens: &[u16], b: Board
         active = s.active;
         pending = s.pending;
         slot = s.slot;
+        let rest = s.left;
         left = rest;
         let charge = s.bytes;
         total += charge.0;

@@ -22,18 +22,8 @@ use Rattle.board.specs.Reading.{encode}
 use Rattle.board.proofs.Reading.{Fit, Holds}
 use Rattle.engine.specs.declared.Choice.{Choice}
 use Rattle.engine.specs.declared.Choice.the-variants.{Go}
-use Rattle.engine.specs.Serving.{Engine, engineOf, withEngine, choiceOf, frontEntry, enacted, Within, withinOf, servedBy, servedWithin}
+use Rattle.engine.specs.Serving.{Engine, engineOf, withEngine, choiceOf, frontEntry, enacted, Within, engineAfter, withinOf, servedBy, servedWithin}
 use Rattle.engine.proofs.Serves.{start-of, Serves, ByAnswer, serve-by}
-
--- the engine that a serve leaves
-abbrev pub engineAfter : Within → Engine
-engineAfter w =
-    record {
-      starts = w .starts;
-      counts = w .counts;
-      queues = w .queues;
-      now = record { clock = w .step .clock; active = w .step .active; pending = w .step .pending; slot = w .step .slot; left = w .step .left };
-    }
 
 -- no board is left unfit by a serve
 pub fit-serve : (m : Board.Board) → Fit m → Fit (serve m .next)

@@ -264,6 +264,16 @@ pub record Within : Type 0 where
 abbrev pub withinNow : Step → List ℕ → List ℕ → List ℕ → List ℕ → List ℕ → List ℕ → List ℕ → List ℕ → Within
 withinNow step starts counts deficits ready next heads tails held = record { step = step; starts = starts; counts = counts; queues = queuesNow deficits ready next heads tails held }
 
+-- the engine that it leaves
+abbrev pub engineAfter : Within → Engine
+engineAfter w =
+    record {
+      starts = w .starts;
+      counts = w .counts;
+      queues = w .queues;
+      now = record { clock = w .step .clock; active = w .step .active; pending = w .step .pending; slot = w .step .slot; left = w .step .left };
+    }
+
 -- nothing is served
 abbrev pub stayed : ℕ → After → Step
 stayed code now =

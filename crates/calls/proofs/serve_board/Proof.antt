@@ -17,32 +17,32 @@ rebuilt-requires : tie.Need-rebuilt-requires
 rebuilt-requires c κs = search needs
 
 -- src/lib.rt:104:16
-mul-t48 : tie.Need-mul-t48
-mul-t48 c = let w = (sent-index _ _ _ (c .before .before .before .before .before .before .before .before .before .before .before .before .before .before .before .before .before .before .before .before .before .before .before .before .before .before .pre) _ _ _ (c .before .before .before .before .serve-within .ensures) (c .before .before .if1 .left)) in omega (arith, w .0, w .1)
+mul-t46 : tie.Need-mul-t46
+mul-t46 c = let w = (sent-index _ _ _ (c .before .before .before .before .before .before .before .before .before .before .before .before .before .before .before .before .before .before .before .before .before .before .before .before .before .pre) _ _ _ (c .before .before .before .serve-within .ensures) (c .before .if1 .left)) in omega (arith, w .0, w .1)
 
 -- src/lib.rt:104:16
-element-copy-out-t31 : tie.Need-element-copy-out-t31
-element-copy-out-t31 c = let w = (sent-index _ _ _ (c .before .before .before .before .before .before .before .before .before .before .before .before .before .before .before .before .before .before .before .before .before .before .before .before .before .before .pre) _ _ _ (c .before .before .before .before .serve-within .ensures) (c .before .before .if1 .left)) in omega (arith, w .0, w .1)
+element-copy-out-t29 : tie.Need-element-copy-out-t29
+element-copy-out-t29 c = let w = (sent-index _ _ _ (c .before .before .before .before .before .before .before .before .before .before .before .before .before .before .before .before .before .before .before .before .before .before .before .before .before .pre) _ _ _ (c .before .before .before .serve-within .ensures) (c .before .if1 .left)) in omega (arith, w .0, w .1)
 
 -- src/lib.rt:105:17
+mul-t49 : tie.Need-mul-t49
+mul-t49 c = let w = (sent-index _ _ _ (c .before .before .before .before .before .before .before .before .before .before .before .before .before .before .before .before .before .before .before .before .before .before .before .before .before .before .pre) _ _ _ (c .before .before .before .before .serve-within .ensures) (c .before .before .if1 .left)) in omega (arith, w .0, w .1)
+
+-- src/lib.rt:105:17
+shared-slice-read-t26 : tie.Need-shared-slice-read-t26
+shared-slice-read-t26 c = let w = (sent-index _ _ _ (c .before .before .before .before .before .before .before .before .before .before .before .before .before .before .before .before .before .before .before .before .before .before .before .before .before .before .before .pre) _ _ _ (c .before .before .before .before .before .serve-within .ensures) (c .before .before .before .if1 .left)) in omega (arith, w .1, c .before .before .before .before .before .before .before .before .before .before .before .before .before .before .before .before .before .before .before .before .before .before .before .before .before .before .before .pre .ids-all)
+
+-- src/lib.rt:106:17
 mul-t51 : tie.Need-mul-t51
 mul-t51 c = let w = (sent-index _ _ _ (c .before .before .before .before .before .before .before .before .before .before .before .before .before .before .before .before .before .before .before .before .before .before .before .before .before .before .before .pre) _ _ _ (c .before .before .before .before .before .serve-within .ensures) (c .before .before .before .if1 .left)) in omega (arith, w .0, w .1)
 
--- src/lib.rt:105:17
-shared-slice-read-t28 : tie.Need-shared-slice-read-t28
-shared-slice-read-t28 c = let w = (sent-index _ _ _ (c .before .before .before .before .before .before .before .before .before .before .before .before .before .before .before .before .before .before .before .before .before .before .before .before .before .before .before .before .pre) _ _ _ (c .before .before .before .before .before .before .serve-within .ensures) (c .before .before .before .before .if1 .left)) in omega (arith, w .1, c .before .before .before .before .before .before .before .before .before .before .before .before .before .before .before .before .before .before .before .before .before .before .before .before .before .before .before .before .pre .ids-all)
-
 -- src/lib.rt:106:17
-mul-t53 : tie.Need-mul-t53
-mul-t53 c = let w = (sent-index _ _ _ (c .before .before .before .before .before .before .before .before .before .before .before .before .before .before .before .before .before .before .before .before .before .before .before .before .before .before .before .before .pre) _ _ _ (c .before .before .before .before .before .before .serve-within .ensures) (c .before .before .before .before .if1 .left)) in omega (arith, w .0, w .1)
-
--- src/lib.rt:106:17
-shared-slice-read-t55 : tie.Need-shared-slice-read-t55
-shared-slice-read-t55 c = let w = (sent-index _ _ _ (c .before .before .before .before .before .before .before .before .before .before .before .before .before .before .before .before .before .before .before .before .before .before .before .before .before .before .before .before .before .pre) _ _ _ (c .before .before .before .before .before .before .before .serve-within .ensures) (c .before .before .before .before .before .if1 .left)) in omega (arith, w .1, c .before .before .before .before .before .before .before .before .before .before .before .before .before .before .before .before .before .before .before .before .before .before .before .before .before .before .before .before .before .pre .lens-all)
+shared-slice-read-t53 : tie.Need-shared-slice-read-t53
+shared-slice-read-t53 c = let w = (sent-index _ _ _ (c .before .before .before .before .before .before .before .before .before .before .before .before .before .before .before .before .before .before .before .before .before .before .before .before .before .before .before .before .pre) _ _ _ (c .before .before .before .before .before .before .serve-within .ensures) (c .before .before .before .before .if1 .left)) in omega (arith, w .1, c .before .before .before .before .before .before .before .before .before .before .before .before .before .before .before .before .before .before .before .before .before .before .before .before .before .before .before .before .pre .lens-all)
 
 -- src/lib.rt:66:1
 returns-2 : tie.Need-returns-2
-returns-2 c = serve-goes _ _ _ (c .before .before .before .before .before .before .before .before .before .before .before .before .before .before .before .before .before .before .before .before .before .before .before .before .before .before .before .before .before .pre) 65536 (omega arith) _ (c .before .before .before .before .before .before .before .serve-within .ensures) (c .before .before .before .before .before .if1 .left) _ (c .before .before .before .rebuilt .ensures)
+returns-2 c = serve-goes _ _ _ (c .before .before .before .before .before .before .before .before .before .before .before .before .before .before .before .before .before .before .before .before .before .before .before .before .before .before .before .before .pre) 65536 (omega arith) _ (c .before .before .before .before .before .before .serve-within .ensures) (c .before .before .before .before .if1 .left) _ (c .before .before .before .rebuilt .ensures)
 
 pub serve-board-spec : {M : Type 1} → statement M
 serve-board-spec =
@@ -51,10 +51,10 @@ serve-board-spec =
     serve-within-requires
     returns
     rebuilt-requires
-    mul-t48
-    element-copy-out-t31
+    mul-t46
+    element-copy-out-t29
+    mul-t49
+    shared-slice-read-t26
     mul-t51
-    shared-slice-read-t28
-    mul-t53
-    shared-slice-read-t55
+    shared-slice-read-t53
     returns-2)
