@@ -49,16 +49,16 @@ credit-requires : tie.Need-credit-requires
 credit-requires c κs = search needs
 
 -- src/engine.rt:200:22
-mul-t24 : tie.Need-mul-t24
-mul-t24 c = search needs
+mul-owed : tie.Need-mul-owed
+mul-owed c = search needs
 
 -- src/engine.rt:200:22
-element-copy-out-t33 : tie.Need-element-copy-out-t33
-element-copy-out-t33 c = search needs
+element-copy-out-owed : tie.Need-element-copy-out-owed
+element-copy-out-owed c = search needs
 
 -- src/engine.rt:200:22
-add-t37 : tie.Need-add-t37
-add-t37 c = let a = credit-under (c .before .before .before .before .before .before .before .before .before .before .before .before .before .before .args .largest) (getD (c .before .before .before .before .before .before .before .before .before .before .before .before .before .before .args .shares .now) (c .before .before .before .before .before .before .before .before .before .before .before .before .before .before .args .place) 0) (c .before .before .before .before .before .before .before .before .before .before .before .before .before .before .pre .high) (most-pos (c .before .before .before .before .before .before .before .before .before .before .before .before .before .before .args .largest) (c .before .before .before .before .before .before .before .before .before .before .before .before .before .before .pre .least)) in let b = charge-small (c .before .before .before .before .before .before .before .before .before .before .before .before .before .before .args .largest) (c .before .before .before .before .before .before .before .before .before .before .before .before .before .before .pre .most) in omega (arith, a, b, c .before .before .credit .ensures, c .before .before .before .before .before .before .before .before .before .before .before .before .before .before .pre .owed)
+add-t34 : tie.Need-add-t34
+add-t34 c = let a = credit-under (c .before .before .before .before .before .before .before .before .before .before .before .before .before .before .args .largest) (getD (c .before .before .before .before .before .before .before .before .before .before .before .before .before .before .args .shares .now) (c .before .before .before .before .before .before .before .before .before .before .before .before .before .before .args .place) 0) (c .before .before .before .before .before .before .before .before .before .before .before .before .before .before .pre .high) (most-pos (c .before .before .before .before .before .before .before .before .before .before .before .before .before .before .args .largest) (c .before .before .before .before .before .before .before .before .before .before .before .before .before .before .pre .least)) in let b = charge-small (c .before .before .before .before .before .before .before .before .before .before .before .before .before .before .args .largest) (c .before .before .before .before .before .before .before .before .before .before .before .before .before .before .pre .most) in omega (arith, a, b, c .before .before .credit .ensures, c .before .before .before .before .before .before .before .before .before .before .before .before .before .before .pre .owed)
 
 -- src/engine.rt:201:5
 mul-deficits : tie.Need-mul-deficits
@@ -86,9 +86,9 @@ begin-spec =
     element-copy-out-credit
     cast-credit
     credit-requires
-    mul-t24
-    element-copy-out-t33
-    add-t37
+    mul-owed
+    element-copy-out-owed
+    add-t34
     mul-deficits
     element-write-deficits
     returns)
