@@ -34,6 +34,7 @@ use Rattle.calls.specs.declared.Served.{Served}
 use Rattle.calls.specs.Promises.{Known, earlyCode, Returned, returned, ruled, made}
 use Rattle.calls.specs.Contract.{servedBy, goodServe, BurstOutcome, burstNow, goodBurst}
 use Rattle.chains.specs.Chains.{Holding, isRecord, replyTells, servedTells, burstTells, Did, byReply, byServe, byBurst, Chain, stops, goes, Made, answersOf}
+use Rattle.chains.specs.Demands.{reads}
 use Rattle.calls.proofs.Next.{Follows, call-follows}
 use Rattle.calls.proofs.Making.{Starts, made-starts}
 use Rattle.calls.proofs.Calling
@@ -67,7 +68,7 @@ sized-of b ids lens s =
     at64 f e = ap (λ (c : struct.Board). length (f c)) (sym (s .spells)) ∙ e ∙ length-tab 64 (placeOf b ids lens)
 
 -- so neither 3 nor 2 is found of it
-early-none : (b : struct.Board) (ids lens : List ℕ) → Known b ids lens → earlyCode b ids lens ≡ 0
+pub early-none : (b : struct.Board) (ids lens : List ℕ) → Known b ids lens → earlyCode b ids lens ≡ 0
 unfolding earlyCode
 early-none b ids lens k = rw (k .ids-all, k .lens-all, sound-decides b ids lens (sized-of b ids lens (k .sound)) (k .ids-all) (k .lens-all) .no (k .sound))
 
@@ -126,23 +127,19 @@ serve-next m = refl
 
 -- ---- one call of a chain
 
--- what a holding reads as
-abbrev reads : Holding → Board.Board
-reads s = view (s .board) (s .ids) (s .lens)
-
 abbrev KnownReturned : Returned Reply → Type 0
 KnownReturned w = Known (w .reply .board) (w .ids) (w .lens)
 
-abbrev KnownHolding : Holding → Type 0
+abbrev pub KnownHolding : Holding → Type 0
 KnownHolding s = Known (s .board) (s .ids) (s .lens)
 
 -- it is known to be good, reads as the rules' board after the call, and was told what the rules tell
-record Agrees (s : Holding) (c : Call) (a : Answer) (m : Holding) : Type 0 where
-  good : KnownHolding m
-  after : reads m ≡ leaves (reads s) c
-  told! : a ≡ done! (reads s) c .answer
+pub record Agrees (s : Holding) (c : Call) (a : Answer) (m : Holding) : Type 0 where
+  pub good : KnownHolding m
+  pub after : reads m ≡ leaves (reads s) c
+  pub told! : a ≡ done! (reads s) c .answer
 
-did-agrees : (s m : Holding) (c : Call) (a : Answer) → KnownHolding s → Did s c a m → Agrees s c a m
+pub did-agrees : (s m : Holding) (c : Call) (a : Answer) → KnownHolding s → Did s c a m → Agrees s c a m
 did-agrees s m c a k (byReply x e r ids lens p) = record {
   good = subst (λ (w : Returned Reply). Known (w .reply .board) (w .ids) (w .lens)) (sym q) (f .good);
   after = ap (λ (w : Returned Reply). view (w .reply .board) (w .ids) (w .lens)) q ∙ f .reads;
@@ -197,7 +194,7 @@ pub record IsRun (L : ℕ) (cs : List Call) (answers : List Answer) (e : Holding
   pub board : view (e .board) (e .ids) (e .lens) ≡ runs (fresh L) cs
   pub answer : answers ≡ answersOf (fresh L) cs
 
-chain-from : {s e : Holding} {cs : List Call} {answers : List Answer} → KnownHolding s → Chain s cs answers e
+pub chain-from : {s e : Holding} {cs : List Call} {answers : List Answer} → KnownHolding s → Chain s cs answers e
     → KnownHolding e × (reads e ≡ runs (reads s) cs) × (answers ≡ answersOf (reads s) cs)
 unfolding runs answersOf
 chain-from k stops = (k, refl, refl)

@@ -1,0 +1,234 @@
+-- THE DEMANDS OVER A CHAIN'S OWN ANSWERS: documents 00 and 01 in words of the calls that were made, the answers that they gave and the values
+-- that they left. A chain may hold bursts anywhere.
+use mathlib.Core.Path.{_≡_}
+use mathlib.Core.Bool.{Bool, true, false, cond, not, _&&_}
+use mathlib.Core.Logic.{_⊎_, _≢_}
+use mathlib.Core.Option.{Option, none, some}
+use mathlib.Core.List.{List, [], _∷_, _++_, map}
+use Prim.Native.Nat.{ℕ, _+_, _*_, _-_, _^_, _≤_, _<_}
+use lib.Dec.{leb, ltb, eqb}
+use lib.ListN.{length, drop}
+use Rattle.base.specs.Sums.{oneIf, sum}
+use Rattle.units.specs.Classes.{Start, classOf}
+use Rattle.units.specs.Credit.{charged, largestCharge}
+use Rattle.rules.specs.Board
+use Rattle.rules.specs.Calls.{Single, open!, rename!, close!, record!, serve!, Call, one, burst!, Sent, Answer, gives, takes, sends, bursts, codeOf}
+use Rattle.rules.specs.Runs.{isFor, recordOf, numberAfter, closes, clockOf, isDone, bytesAt, servesIn, Story, begins, goesOn, tells}
+use Rattle.rules.specs.Promises.{Accounted, InRange, bound, serves}
+use Rattle.board.specs.Reading.{view}
+use Rattle.calls.specs.declared.Bursted.{Bursted}
+use Rattle.calls.specs.Contract.{burstNow, calledBurst}
+use Rattle.chains.specs.Chains.{Holding, burstTells, Did, Chain, Made}
+
+-- the board that a holding spells, and its clock, which is a field of the value
+abbrev pub reads : Holding → Board.Board
+reads s = view (s .board) (s .ids) (s .lens)
+
+abbrev pub clock : Holding → ℕ
+clock s = s .board .clock
+
+-- ---- What a list of answers says
+
+-- the bytes that an answer says were sent, as they are charged: one record's, or a burst's total
+abbrev pub bytesOf : Answer → ℕ
+bytesOf (gives code) = 0
+bytesOf (takes a) = 0
+bytesOf (sends s) = charged (s .bytes)
+bytesOf (bursts r) = r .total
+
+unfoldable pub bytesIn : List Answer → ℕ
+bytesIn [] = 0
+bytesIn (a ∷ told) = bytesOf a + bytesIn told
+
+-- the bytes that were sent in the slot that began at clock t
+unfoldable pub slotBytes : ℕ → List Answer → ℕ
+slotBytes t [] = 0
+slotBytes t (a ∷ told) = bytesAt t a + slotBytes t told
+
+-- none is answered 3 or 2; none is answered 11
+unfoldable pub NoneRefused : List Answer → Type 0
+NoneRefused [] = Unit {0}
+NoneRefused (a ∷ told) = (codeOf a ≢ 3) × (codeOf a ≢ 2) × NoneRefused told
+
+unfoldable pub NotSpent : List Answer → Type 0
+NotSpent [] = Unit {0}
+NotSpent (a ∷ told) = (codeOf a ≢ 11) × NotSpent told
+
+-- ---- Bursts: a burst's answer does not name the blocks that it sent from. So a chain is read beside the chain of single calls that it comes
+-- to: in place of each burst as many serving calls as its count, each of which sends, and whose bytes are the burst's.
+
+pub data Spelt : List Call → List Answer → List Single → List Answer → Type 0 where
+  over : Spelt [] [] [] []
+  single : {cs : List Call} {told said : List Answer} {xs : List Single} (x : Single) (a : Answer) → Spelt cs told xs said → Spelt (one x ∷ cs) (a ∷ told) (x ∷ xs) (a ∷ said)
+  asServes : {cs : List Call} {told said : List Answer} {xs : List Single} (bytes : ℕ) (list : List ℕ) (r : Bursted) (sent : List Sent)
+      → length sent ≡ r .count → sum (λ (s : Sent). charged (s .bytes)) sent ≡ r .bytes
+      → Spelt cs told xs said → Spelt (burst! bytes list ∷ cs) (burstTells r ∷ told) (serves (length sent) ++ xs) (map sends sent ++ said)
+
+-- Both chains go from the same value to the same value.
+pub record Row (s : Holding) (cs : List Call) (told : List Answer) (xs : List Single) (said : List Answer) (e : Holding) : Type 0 where
+  pub chain : Chain s cs told e
+  pub spelt : Spelt cs told xs said
+  pub singles : Chain s (map one xs) said e
+
+-- Every part of a chain from a done making has its row.
+abbrev pub HasRow : Type 0
+HasRow = (L : ℕ) (s m e : Holding) (before cs : List Call) (told₁ told : List Answer) → Made L s → Chain s before told₁ m → Chain m cs told e
+    → (xs : List Single) × (said : List Answer) × Row m cs told xs said e
+
+-- A burst of a chain: the single serving calls that it is, from the value that it was given to the value that it left; the list's first
+-- entries are their records' numbers, and the others are as they were.
+pub record BurstIs (m : Holding) (list : List ℕ) (r : Bursted) (list′ : List ℕ) : Type 0 where
+  pub sent : List Sent
+  pub serving : Chain m (map one (serves (length sent))) (map sends sent) (record { board = r .board; ids = m .ids; lens = m .lens })
+  pub count : length sent ≡ r .count
+  pub bytes : sum (λ (s : Sent). charged (s .bytes)) sent ≡ r .bytes
+  pub numbers : list′ ≡ map (λ (s : Sent). s .number) sent ++ drop (length sent) list
+
+abbrev pub BurstIsServes : Type 0
+BurstIsServes = (L : ℕ) (s m : Holding) (before : List Call) (told₁ : List Answer) → Made L s → Chain s before told₁ m
+    → (bytes : ℕ) (list : List ℕ) (r : Bursted) (list′ : List ℕ) → burstNow r list′ ≡ calledBurst (m .board) (m .ids) (m .lens) bytes list → BurstIs m list r list′
+
+-- ---- Demand 1: no call of a chain after its making is given 3 or 2
+
+abbrev pub NeverRefused : Type 0
+NeverRefused = (L : ℕ) (s e : Holding) (cs : List Call) (told : List Answer) → Made L s → Chain s cs told e → NoneRefused told
+
+-- ---- A block: an opening of the chain, and what the calls after it and their answers tell of it: its number now, the records taken in for it,
+-- those sent under the number that it had when each was sent, and whether it is closed
+
+unfoldable pub story : Story → List Single → List Answer → Story
+story st [] said = st
+story st (x ∷ xs) [] = st
+story st (x ∷ xs) (a ∷ said) = story (tells (st .closed) st x a) xs said
+
+-- the clock of the last send that is told, which is that of its slot
+abbrev pub slotAfter : Option ℕ → Answer → Option ℕ
+slotAfter last (gives code) = last
+slotAfter last (takes a) = last
+slotAfter last (sends s) = some (s .clock)
+slotAfter last (bursts r) = last
+
+unfoldable pub lastSlot : Option ℕ → List Answer → Option ℕ
+lastSlot last [] = last
+lastSlot last (a ∷ said) = lastSlot (slotAfter last a) said
+
+-- o is what the done opening of n left: after a done making with L and any calls
+pub record Opened (L n share : ℕ) (last : Option ℕ) (o : Holding) : Type 0 where
+  pub start : Holding
+  pub made : Made L start
+  pub cs : List Call
+  pub told : List Answer
+  pub xs : List Single
+  pub said : List Answer
+  pub before : Holding
+  pub row : Row start cs told xs said before
+  pub latest : lastSlot none said ≡ last
+  pub opens : Did before (one (open! n share)) (gives 0) o
+
+-- e is what a chain left that tells this story of a block that it opened with that share; its last send, if any, has that clock
+pub record Life (L share : ℕ) (st : Story) (last : Option ℕ) (e : Holding) : Type 0 where
+  pub number : ℕ
+  pub first : Option ℕ
+  pub opening : Holding
+  pub opened : Opened L number share first opening
+  pub cs : List Call
+  pub told : List Answer
+  pub xs : List Single
+  pub said : List Answer
+  pub row : Row opening cs told xs said e
+  pub latest : lastSlot first said ≡ last
+  pub told! : story (begins number) xs said ≡ st
+
+-- ---- Demand 2: each record taken in is sent once, in its block's order, under the number that the block has when it is sent, or it still
+-- stands in its lane. A closed block has none left.
+
+abbrev pub Conserved : Type 0
+Conserved = (L share : ℕ) (st : Story) (last : Option ℕ) (e : Holding) → Life L share st last e → Accounted st (reads e)
+
+-- ---- Demand 3
+
+-- The call brings a record to the front of the block's lane: all that was taken in was sent, and it is taken; or the one before it is sent, and
+-- not all that was taken in has been sent then.
+pub data ComesToFront (st : Story) : Single → Answer → Type 0 where
+  intoEmpty : (r : Board.Record) (a : Answer) → isDone a ≡ true → st .taken ≡ st .sent → ComesToFront st (record! (st .number) r) a
+  nextUp : (a : Answer) → isFor (st .number) a ≡ true → st .taken ≢ st .sent ++ recordOf a → ComesToFront st serve! a
+
+-- No answer names the block that had n first: it is followed through its renames.
+unfoldable pub Unsent : ℕ → List Single → List Answer → Type 0
+Unsent n [] said = Unit {0}
+Unsent n (x ∷ xs) [] = Unit {0}
+Unsent n (x ∷ xs) (a ∷ said) = (isFor n a ≡ false) × Unsent (numberAfter n x a) xs said
+
+-- From the moment a record comes to the front of a lane of class k until it is sent, the answers tell of at most (2^(k+1) - 1) x (3L - 1) bytes.
+abbrev pub ByteBound : Type 0
+ByteBound = (L share : ℕ) (st : Story) (last : Option ℕ) (f g e : Holding) (x : Single) (a : Answer) (cs : List Call) (told : List Answer) (xs : List Single) (said : List Answer)
+    → Life L share st last f → st .closed ≡ false → Did f (one x) a g → ComesToFront st x a
+    → Row g cs told xs said e → Unsent (st .number) xs said
+    → bytesIn told ≤ bound L (classOf share)
+
+-- It is sent: no more than that many serving calls, those of bursts among them, pass it, unless one is answered 11.
+abbrev pub SentInTime : Type 0
+SentInTime = (L share : ℕ) (st : Story) (last : Option ℕ) (f g e : Holding) (x : Single) (a : Answer) (cs : List Call) (told : List Answer) (xs : List Single) (said : List Answer)
+    → Life L share st last f → st .closed ≡ false → Did f (one x) a g → ComesToFront st x a
+    → Row g cs told xs said e → Unsent (st .number) xs said → NotSpent said
+    → servesIn xs ≤ bound L (classOf share)
+
+-- While a record waits, a single serving call is answered with a record that is sent, or 11.
+abbrev pub ServesSend : Type 0
+ServesSend = (L share : ℕ) (st : Story) (last : Option ℕ) (f g : Holding) (a : Answer)
+    → Life L share st last f → st .closed ≡ false → st .taken ≢ st .sent → Did f (one serve!) a g
+    → (a ≡ gives 11) ⊎ ((s : Sent) × (a ≡ sends s))
+
+-- ---- Slots, as the answers tell them: a send begins a slot if its clock is not that of the send before it, of whichever block
+
+abbrev pub isNew : Option ℕ → ℕ → Bool
+isNew none t = true
+isNew (some u) t = not (eqb u t)
+
+-- the answer tells that a slot of the block that has n begins; at a clock from lo up to, but not at, hi
+abbrev pub beginsSlot : ℕ → Option ℕ → Answer → Bool
+beginsSlot n last a = isNew last (clockOf a) && isFor n a
+
+abbrev pub beginsIn : ℕ → ℕ → ℕ → Option ℕ → Answer → Bool
+beginsIn lo hi n last a = beginsSlot n last a && leb lo (clockOf a) && ltb (clockOf a) hi
+
+-- how many slots of the block that has n first begin from lo up to hi, until it is closed
+unfoldable pub slotsIn : ℕ → ℕ → ℕ → Option ℕ → List Single → List Answer → ℕ
+slotsIn lo hi n last [] said = 0
+slotsIn lo hi n last (x ∷ xs) [] = 0
+slotsIn lo hi n last (x ∷ xs) (a ∷ said) =
+    let later = slotsIn lo hi (numberAfter n x a) (slotAfter last a) xs said in
+    oneIf (beginsIn lo hi n last a) + cond (closes n x a) 0 later
+
+-- A single serving call, given f, answered a and left g. It brought the clock to lo, a start of class k, or past it. The block waits when the
+-- clock gets there: before the call, and after it too unless the call itself began the block's slot at lo or later.
+pub record WaitsAt (k lo : ℕ) (st : Story) (last : Option ℕ) (f : Holding) (a : Answer) (g : Holding) : Type 0 where
+  pub start : Start k lo
+  pub early : clock f < lo
+  pub reached : lo ≤ clock g
+  pub before : st .taken ≢ st .sent
+  pub after : (goesOn st serve! a .taken ≢ goesOn st serve! a .sent) ⊎ ((beginsSlot (st .number) last a ≡ true) × (lo ≤ clockOf a))
+
+-- A block already waiting when the clock reaches a start of its class has exactly one slot begun in that interval by the time the clock
+-- reaches its end.
+abbrev pub SlotOnce : Type 0
+SlotOnce = (L share : ℕ) (st : Story) (last : Option ℕ) (f g e : Holding) (a : Answer) (lo : ℕ) (cs : List Call) (told : List Answer) (xs : List Single) (said : List Answer)
+    → Life L share st last f → st .closed ≡ false → Did f (one serve!) a g → WaitsAt (classOf share) lo st last f a g
+    → Row g cs told xs said e → lo + 2 ^ classOf share ≤ clock e
+    → slotsIn lo (lo + 2 ^ classOf share) (st .number) last (serve! ∷ xs) (a ∷ said) ≡ 1
+
+-- No block ever has two slots begun in one interval of its class.
+abbrev pub NeverTwice : Type 0
+NeverTwice = (L share : ℕ) (st : Story) (last : Option ℕ) (f e : Holding) (lo : ℕ) (cs : List Call) (told : List Answer) (xs : List Single) (said : List Answer)
+    → Life L share st last f → st .closed ≡ false → Row f cs told xs said e → Start (classOf share) lo
+    → slotsIn lo (lo + 2 ^ classOf share) (st .number) last xs said ≤ 1
+
+-- A slot sends at most 3L - 1 bytes: the sends of a whole chain that are answered with one clock.
+abbrev pub SlotsSmall : Type 0
+SlotsSmall = (L : ℕ) (s e : Holding) (cs : List Call) (told : List Answer) (xs : List Single) (said : List Answer) → Made L s → Row s cs told xs said e
+    → (t : ℕ) → slotBytes t said ≤ 3 * largestCharge L - 1
+
+-- ---- No promise is empty: any L in range is made, and any calls may follow
+
+abbrev pub HasChain : Type 0
+HasChain = (L : ℕ) → InRange L → (cs : List Call) → (s : Holding) × (told : List Answer) × (e : Holding) × (Made L s × Chain s cs told e)
