@@ -7,28 +7,34 @@ use mathlib.Core.List.{List, [], _∷_, _++_, map, append-nil}
 use Prim.Native.Nat.{ℕ, zero, suc, _+_, _*_, _-_, _^_, _≤_, _<_}
 use native.Mathlib.Omega.{arith}
 use lib.Dec.{leb, eqb}
-use lib.ListN.{length, getD, set, replicate, length-append}
+use lib.ListN.{length, getD, set, replicate, length-append, length-replicate}
 use lib.Seq.{getD-set-same}
 use Rattle.base.proofs.Numbers.{eqb-yes, eqb-no, leb-yes}
-use Rattle.units.specs.Classes.{classOf}
+use Rattle.units.specs.Classes.{Start, classOf}
 use Rattle.units.specs.Credit.{largestCharge}
 use Rattle.rules.specs.Board
-use Rattle.rules.specs.Board.{Place, freePlace, at, waits, someWait}
+use Rattle.rules.specs.Board.{Place, freePlace, at, waits, someWait, fresh}
 use Rattle.rules.specs.Choice.{Turn, refused, done, goOn, find, openAt}
 use Rattle.rules.specs.Blocks.{opened, freeAt}
-use Rattle.rules.specs.Calls.{Single, open!, rename!, close!, record!, serve!, step, Call, one, burst!, Sent, Answer, gives, takes, sends, bursts, told, codeOf, done! }
+use Rattle.rules.specs.Calls.{Single, open!, rename!, close!, record!, serve!, step, Call, one, burst!, Sent, Answer, gives, takes, sends, bursts, told, codeOf, done!, make}
 use Rattle.rules.specs.Runs
-use Rattle.rules.specs.Runs.{play, answer, laneOf, shareOf, classAt, isFor, isDone, recordOf, numberAfter, closes, Story, begins, goesOn, tells}
+use Rattle.rules.specs.Runs.{play, runs, answer, laneOf, shareOf, classAt, isFor, isDone, recordOf, clockOf, numberAfter, closes, isServe, Story, begins, goesOn, tells}
+use Rattle.rules.specs.Promises as Promised
 use Rattle.rules.specs.Promises.{OfRun, Accounted, bound}
 use Rattle.rules.proofs.Tidy.{Tidy}
 use Rattle.rules.proofs.TidyCalls.{tidy-step}
 use Rattle.rules.proofs.Cases.{Refusal, refusal-not0, Has, CanOpen, call-cases}
 use Rattle.rules.proofs.Names.{Follows, follows, has-find, has-lane, has-share}
 use Rattle.rules.proofs.Promises
-use Rattle.chains.specs.Chains.{Holding, Did, Chain, stops, goes, Made}
-use Rattle.chains.specs.Demands.{reads, clock, bytesIn, slotBytes, NoneRefused, NotSpent, Unsent, story, lastSlot, slotAfter, Row, HasRow, BurstIsServes, NeverRefused, Opened, Life, Conserved, ComesToFront, intoEmpty, nextUp, ByteBound, SentInTime, ServesSend, SlotsSmall}
-use Rattle.chains.proofs.Chains.{KnownHolding, Agrees, did-agrees}
+use Rattle.board.specs.Reading.{view}
+use Rattle.calls.specs.declared.Reply.{Reply}
+use Rattle.calls.specs.Promises.{Returned, called, made}
+use Rattle.calls.specs.Contract.{calledServe, calledBurst}
+use Rattle.chains.specs.Chains.{Holding, replyTells, servedTells, burstTells, Did, byReply, byServe, byBurst, Chain, stops, goes, Made}
+use Rattle.chains.specs.Demands.{reads, clock, bytesIn, slotBytes, NoneRefused, NotSpent, Unsent, story, lastSlot, slotAfter, Row, HasRow, BurstIsServes, NeverRefused, Opened, Life, Conserved, ComesToFront, intoEmpty, nextUp, ByteBound, SentInTime, ServesSend, beginsSlot, slotsIn, SlotOnce, NeverTwice, SlotsSmall, HasChain}
+use Rattle.chains.proofs.Chains.{KnownHolding, Agrees, did-agrees, chain-is-run}
 use Rattle.chains.proofs.Rows.{At, at-made, at-tidy, at-on, at-did, saidOf, play-join, Along, along, bytes-said, slot-bytes-said, story-said, unsent-said, spent-said, spelt-bytes, burst-is, row-from}
+use Rattle.chains.proofs.Slots.{Seen, seen-fresh, seen-play, seen-step, begins-said, slots-said}
 
 -- ---- bursts
 
@@ -314,7 +320,158 @@ serves-send L share st last f g a l c ne d =
 
 -- ---- slots
 
+made-fresh : (L : ℕ) (s : Holding) → Made L s → reads s ≡ fresh L
+unfolding runs
+made-fresh L s made! = chain-is-run L s s [] [] made! stops .board
+
+seen-same : {u v : Option ℕ} {b c : Board.Board} → u ≡ v → b ≡ c → Seen u b → Seen v c
+seen-same {v = v} {b = b} e f s = subst (Seen v) f (subst (λ (o : Option ℕ). Seen o b) e s)
+
+life-seen : (L share : ℕ) (st : Story) (last : Option ℕ) (e : Holding) → Life L share st last e → Seen last (reads e)
+life-seen L share st last e l = seen-same (ap (lastSlot (l .first)) (sym (at-end .answers)) ∙ l .latest) (sym (at-end .board)) (seen-play (l .first) (reads (l .opening)) (l .xs) (at-tidy L (l .opening) o) opening)
+  where
+    w : Opened L (l .number) share (l .first) (l .opening)
+    w = l .opened
+
+    m : At L (w .start)
+    m = at-made L (w .start) (w .made)
+
+    h : At L (w .before)
+    h = at-on L m (w .row .chain)
+
+    o : At L (l .opening)
+    o = at-did L h (w .opens)
+
+    at-end : Along (reads (l .opening)) (l .xs) (l .said) e
+    at-end = along (l .xs) (o .good) (l .row .singles)
+
+    a : Along (reads (w .start)) (w .xs) (w .said) (w .before)
+    a = along (w .xs) (m .good) (w .row .singles)
+
+    d : Agrees (w .before) (one (open! (l .number) share)) (gives 0) (l .opening)
+    d = did-agrees (w .before) (l .opening) (one (open! (l .number) share)) (gives 0) (h .good) (w .opens)
+
+    before : Seen (l .first) (reads (w .before))
+    before = seen-same (ap (lastSlot none) (sym (a .answers)) ∙ w .latest) (sym (a .board)) (seen-play none (reads (w .start)) (w .xs) (at-tidy L (w .start) m) (seen-same refl (sym (made-fresh L (w .start) (w .made))) (seen-fresh L)))
+
+    opening : Seen (l .first) (reads (l .opening))
+    opening = seen-same (ap (slotAfter (l .first)) (sym (d .told!))) (sym (d .after)) (seen-step (l .first) (reads (w .before)) (open! (l .number) share) (at-tidy L (w .before) h) before)
+
+clock-reads : (s : Holding) → reads s .clock ≡ clock s
+unfolding view
+clock-reads s = refl
+
+said-more : (b : Board.Board) (x : Single) (xs : List Single) (a : Answer) (said : List Answer) → a ≡ answer b x → said ≡ saidOf (step b x .next) xs → a ∷ said ≡ saidOf b (x ∷ xs)
+unfolding saidOf
+said-more b x xs a said e f = ap₂ (λ (z : Answer) (zs : List Answer). z ∷ zs) e f
+
+pub slot-once : SlotOnce
+slot-once L share st last f g e a lo cs told xs said l c d w r h =
+    subst (λ (k : ℕ). slotsIn lo (lo + 2 ^ k) (st .number) last (serve! ∷ xs) (a ∷ said) ≡ 1) q
+    (ap (slotsIn lo (lo + 2 ^ classAt b (st .number)) (st .number) last (serve! ∷ xs)) (said-more b serve! xs a said (t .is) (s .answers ∙ ap (λ (z : Board.Board). saidOf z xs) (t .after)))
+    ∙ slots-said lo (lo + 2 ^ classAt b (st .number)) (st .number) last b (serve! ∷ xs) tidy seen
+    ∙ Promises.slot-once L b (t .here .run) (st .number) lo serve! xs waiting (subst (λ (k : ℕ). lo + 2 ^ k ≤ play (step b serve! .next) xs .clock) (sym q) reached))
+  where
+    b : Board.Board
+    b = reads f
+
+    t : Told L share st f serve! a g
+    t = told-at L share st last f g serve! a l c d
+
+    s : Along (reads g) xs said e
+    s = along xs (t .there .good) (r .singles)
+
+    tidy : Tidy b
+    tidy = at-tidy L f (t .here)
+
+    seen : Seen last b
+    seen = life-seen L share st last f l
+
+    q : classAt b (st .number) ≡ classOf share
+    q = class-at share st b tidy (t .lives) c
+
+    reached : lo + 2 ^ classOf share ≤ play (step b serve! .next) xs .clock
+    reached = subst (λ (n : ℕ). lo + 2 ^ classOf share ≤ n) (sym (clock-reads e) ∙ ap (λ (z : Board.Board). z .clock) (s .board ∙ ap (λ (z : Board.Board). play z xs) (t .after))) h
+
+    still : (goesOn st serve! a .taken ≢ goesOn st serve! a .sent) ⊎ ((beginsSlot (st .number) last a ≡ true) × (lo ≤ clockOf a))
+        → (1 ≤ length (laneOf (step b serve! .next) (st .number))) ⊎ ((Runs.beginsSlot (st .number) b serve! ≡ true) × (lo ≤ clockOf (answer b serve!)))
+    still (inl ne) = inl (waits-in (goesOn st serve! (answer b serve!)) (step b serve! .next) (t .next .accounted) (subst (λ (z : Answer). goesOn st serve! z .taken ≢ goesOn st serve! z .sent) (t .is) ne) .1)
+    still (inr (u, v)) = inr (sym (begins-said last b serve! (st .number) tidy seen) ∙ ap (beginsSlot (st .number) last) (sym (t .is)) ∙ u, subst (λ (z : Answer). lo ≤ clockOf z) (t .is) v)
+
+    waiting : Promised.WaitsAt (st .number) lo b serve!
+    waiting = record {
+      start = subst (λ (k : ℕ). Start k lo) (sym q) (w .start);
+      early = subst (λ (n : ℕ). n < lo) (sym (clock-reads f)) (w .early);
+      reached = subst (λ (n : ℕ). lo ≤ n) (sym (clock-reads g) ∙ ap (λ (z : Board.Board). z .clock) (t .after)) (w .reached);
+      before = waits-in st b (t .lives .accounted) (w .before) .1;
+      after = still (w .after);
+    }
+
+pub never-twice : NeverTwice
+never-twice L share st last f e lo cs told xs said l c r start =
+    subst (λ (k : ℕ). slotsIn lo (lo + 2 ^ k) (st .number) last xs said ≤ 1) q
+    (subst (λ (n : ℕ). n ≤ 1) (sym (ap (slotsIn lo (lo + 2 ^ classAt b (st .number)) (st .number) last xs) (along xs (h .good) (r .singles) .answers) ∙ slots-said lo (lo + 2 ^ classAt b (st .number)) (st .number) last b xs tidy (life-seen L share st last f l)))
+    (Promises.never-twice L b (h .run) (st .number) (p .0) lo xs (has-find b (p .0) (st .number) tidy (p .1 c .0)) (subst (λ (k : ℕ). Start k lo) (sym q) start)))
+  where
+    b : Board.Board
+    b = reads f
+
+    h : At L f
+    h = life-at L share st last f l
+
+    tidy : Tidy b
+    tidy = at-tidy L f h
+
+    lives : Lives share st b
+    lives = opening-lives L share st b (life-opening L share st last f l)
+
+    p : (p : ℕ) × Seat share st b p
+    p = lives .seat c
+
+    q : classAt b (st .number) ≡ classOf share
+    q = class-at share st b tidy lives c
+
 pub slots-small : SlotsSmall
 slots-small L s e cs told xs said made! r t =
     let h = at-made L s made! in
     subst (λ (n : ℕ). n ≤ 3 * largestCharge L - 1) (sym (ap (slotBytes t) (along xs (h .good) (r .singles) .answers) ∙ slot-bytes-said t (reads s) xs)) (Promises.slots-small L (reads s) (h .run) t xs)
+
+-- ---- no promise is empty
+
+did-reply : (s : Holding) (x : Single) → isServe x ≡ false → (a : Answer) × (m : Holding) × Did s (one x) a m
+did-reply s x e = let w = called (s .board) (s .ids) (s .lens) x in (replyTells x (w .reply), record { board = w .reply .board; ids = w .ids; lens = w .lens }, byReply x e (w .reply) (w .ids) (w .lens) refl)
+
+-- each call can be made of any value
+has-did : (s : Holding) (c : Call) → (a : Answer) × (m : Holding) × Did s c a m
+has-did s (one (open! n k)) = did-reply s (open! n k) refl
+has-did s (one (rename! old new)) = did-reply s (rename! old new) refl
+has-did s (one (close! n)) = did-reply s (close! n) refl
+has-did s (one (record! n r)) = did-reply s (record! n r) refl
+has-did s (one serve!) = let r = calledServe (s .board) (s .ids) (s .lens) in (servedTells r, record { board = r .board; ids = s .ids; lens = s .lens }, byServe r refl)
+has-did s (burst! bytes list) = let w = calledBurst (s .board) (s .ids) (s .lens) bytes list in (burstTells (w .answer), record { board = w .answer .board; ids = s .ids; lens = s .lens }, byBurst bytes list (w .answer) (w .list) refl)
+
+chain-of : (s : Holding) (cs : List Call) → (told : List Answer) × (e : Holding) × Chain s cs told e
+chain-of s [] = ([], s, stops)
+chain-of s (c ∷ cs) = let d = has-did s c in let r = chain-of (d .1) cs in (d .0 ∷ r .0, r .1, goes (d .2) (r .2))
+
+made-done : (ids lens : List ℕ) (L : ℕ) → length ids ≡ 2048 → length lens ≡ 2048 → 64 ≤ L → L ≤ 2048 → made ids lens L .reply .code ≡ 0
+unfolding made make
+made-done ids lens L e f low high = rw (e, f, leb-yes 64 L low, leb-yes L 2048 high)
+
+pub has-chain : HasChain
+has-chain L range cs = (s, c .0, c .1, record { reply = w .reply; ids = zeros; lens = zeros; promise = refl; done = made-done zeros zeros L all all (range .low) (range .high); board = refl }, c .2)
+  where
+    zeros : List ℕ
+    zeros = replicate 2048 0
+
+    all : length zeros ≡ 2048
+    all = length-replicate {A = ℕ} 2048 0
+
+    w : Returned Reply
+    w = made zeros zeros L
+
+    s : Holding
+    s = record { board = w .reply .board; ids = w .ids; lens = w .lens }
+
+    c : (told : List Answer) × (e : Holding) × Chain s cs told e
+    c = chain-of s cs

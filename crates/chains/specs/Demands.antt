@@ -231,4 +231,4 @@ SlotsSmall = (L : ℕ) (s e : Holding) (cs : List Call) (told : List Answer) (xs
 -- ---- No promise is empty: any L in range is made, and any calls may follow
 
 abbrev pub HasChain : Type 0
-HasChain = (L : ℕ) → InRange L → (cs : List Call) → (s : Holding) × (told : List Answer) × (e : Holding) × (Made L s × Chain s cs told e)
+HasChain = (L : ℕ) → InRange L → (cs : List Call) → (s : Holding) × (told : List Answer) × (e : Holding) × Made L s × Chain s cs told e
