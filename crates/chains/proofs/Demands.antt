@@ -14,7 +14,7 @@ use Rattle.units.specs.Classes.{Start, classOf}
 use Rattle.units.specs.Credit.{largestCharge}
 use Rattle.rules.specs.Board
 use Rattle.rules.specs.Board.{Place, freePlace, at, waits, someWait, fresh}
-use Rattle.rules.specs.Choice.{Turn, refused, done, goOn, find, openAt}
+use Rattle.rules.specs.Choice.{Out, refused, done, taken, sent, Turn, goOn, send}
 use Rattle.rules.specs.Blocks.{opened, freeAt}
 use Rattle.rules.specs.Calls.{Single, open!, rename!, close!, record!, serve!, step, Call, one, burst!, Sent, Answer, gives, takes, sends, bursts, told, codeOf, done!, make}
 use Rattle.rules.specs.Runs
@@ -23,6 +23,7 @@ use Rattle.rules.specs.Promises as Promised
 use Rattle.rules.specs.Promises.{OfRun, Accounted, bound}
 use Rattle.rules.proofs.Tidy.{Tidy}
 use Rattle.rules.proofs.TidyCalls.{tidy-step}
+use Rattle.rules.proofs.Conserve.{sentOne, flow-step}
 use Rattle.rules.proofs.Cases.{Refusal, refusal-not0, Has, CanOpen, call-cases}
 use Rattle.rules.proofs.Names.{Follows, follows, has-find, has-lane, has-share}
 use Rattle.rules.proofs.Promises
@@ -31,7 +32,7 @@ use Rattle.calls.specs.declared.Reply.{Reply}
 use Rattle.calls.specs.Promises.{Returned, called, made}
 use Rattle.calls.specs.Contract.{calledServe, calledBurst}
 use Rattle.chains.specs.Chains.{Holding, replyTells, servedTells, burstTells, Did, byReply, byServe, byBurst, Chain, stops, goes, Made}
-use Rattle.chains.specs.Demands.{reads, clock, bytesIn, slotBytes, NoneRefused, NotSpent, Unsent, story, lastSlot, slotAfter, Row, HasRow, BurstIsServes, NeverRefused, Opened, Life, Conserved, ComesToFront, intoEmpty, nextUp, ByteBound, SentInTime, ServesSend, beginsSlot, slotsIn, SlotOnce, NeverTwice, SlotsSmall, HasChain}
+use Rattle.chains.specs.Demands.{reads, clock, bytesIn, slotBytes, NoneRefused, NotSpent, Unsent, story, lastSlot, slotAfter, Row, HasRow, BurstIsServes, NeverRefused, Opened, Life, Conserved, SendsFront, ComesToFront, intoEmpty, nextUp, ByteBound, SentInTime, ServesSend, beginsSlot, slotsIn, SlotOnce, NeverTwice, SlotsSmall, HasChain}
 use Rattle.chains.proofs.Chains.{KnownHolding, Agrees, did-agrees, chain-is-run}
 use Rattle.chains.proofs.Rows.{At, at-made, at-tidy, at-on, at-did, saidOf, play-join, Along, along, bytes-said, slot-bytes-said, story-said, unsent-said, spent-said, spelt-bytes, burst-is, row-from}
 use Rattle.chains.proofs.Slots.{Seen, seen-fresh, seen-play, seen-step, begins-said, slots-said}
@@ -177,6 +178,62 @@ life-opening L share st last e l = record {
 
 pub conserved : Conserved
 conserved L share st last e l = opening-lives L share st (reads e) (life-opening L share st last e l) .accounted
+
+-- a place that is sent from has an open block
+abbrev Named : Board.Board → Out → Type 0
+Named b (refused code) = Unit {0}
+Named b done = Unit {0}
+Named b (taken a) = Unit {0}
+Named b (sent p r t) = Has b p (at b p .number)
+
+named : (b : Board.Board) → Tidy b → (x : Single) → Named b (step b x .out)
+unfolding send
+named b g = call-cases b g (λ x t. Named b (t .out)) (record { refused = λ x code r. tt; opens = λ n s c. tt; renames = λ p old new c. tt; closes = λ p n c. tt; takes = λ p n r c. tt; goesOn = λ p c. record { inside = c .inside; bought = c .bought; named = refl }; begins = λ r t p c e. record { inside = c .inside; bought = c .bought; named = refl } })
+
+abbrev sentBy : Sent → Answer → Sent
+sentBy s (gives code) = s
+sentBy s (takes a) = s
+sentBy s (sends a) = a
+sentBy s (bursts r) = s
+
+abbrev isSend : Answer → Bool
+isSend (gives code) = false
+isSend (takes a) = false
+isSend (sends a) = true
+isSend (bursts r) = false
+
+pub sends-front : SendsFront
+sends-front L s f g cs told′ a made! chain d = subst (λ (z : Board.Board). laneOf b (a .block) ≡ record { number = a .number; bytes = a .bytes } ∷ laneOf z (a .block)) (sym (w .after)) (go (step b serve! .out) refl (named b tidy serve!) (w .told!))
+  where
+    h : At L f
+    h = at-on L (at-made L s made!) chain
+
+    b : Board.Board
+    b = reads f
+
+    nb : Board.Board
+    nb = step b serve! .next
+
+    tidy : Tidy b
+    tidy = at-tidy L f h
+
+    w : Agrees f (one serve!) (sends a) g
+    w = did-agrees f g (one serve!) (sends a) (h .good) d
+
+    here : (p : ℕ) (r : Board.Record) (t : ℕ) → step b serve! .out ≡ sent p r t → Has b p (at b p .number) → laneOf b (at b p .number) ≡ r ∷ laneOf nb (at b p .number)
+    here p r t e k =
+        has-lane b p (at b p .number) tidy k
+        ∙ sym (append-nil (at b p .lane))
+        ∙ flow-step b serve! tidy p
+        ∙ ap (λ (o : Out). sentOne p o ++ at nb p .lane) e
+        ∙ ap (λ (u : Bool). cond u (r ∷ []) [] ++ at nb p .lane) (eqb-yes p p refl)
+        ∙ ap (λ (l : List Board.Record). r ∷ l) (sym (has-lane nb p (at b p .number) (tidy-step b serve! tidy) (follows b p (at b p .number) tidy k serve! .stays refl .0)))
+
+    go : (o : Out) → step b serve! .out ≡ o → Named b o → sends a ≡ told b o → laneOf b (a .block) ≡ record { number = a .number; bytes = a .bytes } ∷ laneOf nb (a .block)
+    go (refused code) e k q = absurd (true≢false (ap isSend q))
+    go done e k q = absurd (true≢false (ap isSend q))
+    go (taken x) e k q = absurd (true≢false (ap isSend q))
+    go (sent p r t) e k q = subst (λ (z : Sent). laneOf b (z .block) ≡ record { number = z .number; bytes = z .bytes } ∷ laneOf nb (z .block)) (sym (ap (sentBy a) q)) (here p r t e k)
 
 -- ---- what was taken in and not sent stands in the lane
 

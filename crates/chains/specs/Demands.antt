@@ -13,7 +13,7 @@ use Rattle.units.specs.Classes.{Start, classOf}
 use Rattle.units.specs.Credit.{charged, largestCharge}
 use Rattle.rules.specs.Board
 use Rattle.rules.specs.Calls.{Single, open!, rename!, close!, record!, serve!, Call, one, burst!, Sent, Answer, gives, takes, sends, bursts, codeOf}
-use Rattle.rules.specs.Runs.{isFor, recordOf, numberAfter, closes, clockOf, isDone, bytesAt, servesIn, Story, begins, goesOn, tells}
+use Rattle.rules.specs.Runs.{laneOf, isFor, recordOf, numberAfter, closes, clockOf, isDone, bytesAt, servesIn, Story, begins, goesOn, tells}
 use Rattle.rules.specs.Promises.{Accounted, InRange, bound, serves}
 use Rattle.board.specs.Reading.{view}
 use Rattle.calls.specs.declared.Bursted.{Bursted}
@@ -144,6 +144,11 @@ pub record Life (L share : ℕ) (st : Story) (last : Option ℕ) (e : Holding) :
 
 abbrev pub Conserved : Type 0
 Conserved = (L share : ℕ) (st : Story) (last : Option ℕ) (e : Holding) → Life L share st last e → Accounted st (reads e)
+
+-- No other record is sent: the one that is answered stood at the front of the lane of the open block that is named.
+abbrev pub SendsFront : Type 0
+SendsFront = (L : ℕ) (s f g : Holding) (cs : List Call) (told : List Answer) (a : Sent) → Made L s → Chain s cs told f → Did f (one serve!) (sends a) g
+    → laneOf (reads f) (a .block) ≡ record { number = a .number; bytes = a .bytes } ∷ laneOf (reads g) (a .block)
 
 -- ---- Demand 3
 
