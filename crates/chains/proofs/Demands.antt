@@ -32,7 +32,7 @@ use Rattle.calls.specs.declared.Reply.{Reply}
 use Rattle.calls.specs.Promises.{Returned, called, made}
 use Rattle.calls.specs.Contract.{calledServe, calledBurst}
 use Rattle.chains.specs.Chains.{Holding, replyTells, servedTells, burstTells, Did, byReply, byServe, byBurst, Chain, stops, goes, Made}
-use Rattle.chains.specs.Demands.{reads, clock, bytesIn, slotBytes, NoneRefused, NotSpent, Unsent, story, lastSlot, slotAfter, Row, HasRow, BurstIsServes, NeverRefused, Opened, Life, Conserved, SendsFront, ComesToFront, intoEmpty, nextUp, ByteBound, SentInTime, ServesSend, beginsSlot, slotsIn, SlotOnce, NeverTwice, SlotsSmall, HasChain}
+use Rattle.chains.specs.Demands.{reads, clock, bytesIn, slotBytes, NoneRefused, NotSpent, Unsent, story, lastSlot, slotAfter, Row, HasRow, BurstIsServes, NeverRefused, Opened, Life, Conserved, SendsFront, ComesToFront, intoEmpty, nextUp, ByteBound, SentInTime, ServesSend, beginsSlot, slotsIn, SlotOnce, NeverTwice, SlotsSmall, HasChain, HasLife, Spelt, over, single}
 use Rattle.chains.proofs.Chains.{KnownHolding, Agrees, did-agrees, chain-is-run}
 use Rattle.chains.proofs.Rows.{At, at-made, at-tidy, at-on, at-did, saidOf, play-join, Along, along, bytes-said, slot-bytes-said, story-said, unsent-said, spent-said, spelt-bytes, burst-is, row-from}
 use Rattle.chains.proofs.Slots.{Seen, seen-fresh, seen-play, seen-step, begins-said, slots-said}
@@ -147,7 +147,7 @@ opening-more L share st b x o = record {
 opened-at : (L n share : ℕ) (last : Option ℕ) (o : Holding) → Opened L n share last o → At L o
 opened-at L n share last o w = at-did L (at-on L (at-made L (w .start) (w .made)) (w .row .chain)) (w .opens)
 
-life-at : (L share : ℕ) (st : Story) (last : Option ℕ) (e : Holding) → Life L share st last e → At L e
+pub life-at : (L share : ℕ) (st : Story) (last : Option ℕ) (e : Holding) → Life L share st last e → At L e
 life-at L share st last e l = at-on L (opened-at L (l .number) share (l .first) (l .opening) (l .opened)) (l .row .chain)
 
 life-opening : (L share : ℕ) (st : Story) (last : Option ℕ) (e : Holding) → Life L share st last e → Opening L share st (reads e)
@@ -499,7 +499,7 @@ did-reply : (s : Holding) (x : Single) → isServe x ≡ false → (a : Answer) 
 did-reply s x e = let w = called (s .board) (s .ids) (s .lens) x in (replyTells x (w .reply), record { board = w .reply .board; ids = w .ids; lens = w .lens }, byReply x e (w .reply) (w .ids) (w .lens) refl)
 
 -- each call can be made of any value
-has-did : (s : Holding) (c : Call) → (a : Answer) × (m : Holding) × Did s c a m
+pub has-did : (s : Holding) (c : Call) → (a : Answer) × (m : Holding) × Did s c a m
 has-did s (one (open! n k)) = did-reply s (open! n k) refl
 has-did s (one (rename! old new)) = did-reply s (rename! old new) refl
 has-did s (one (close! n)) = did-reply s (close! n) refl
@@ -507,7 +507,7 @@ has-did s (one (record! n r)) = did-reply s (record! n r) refl
 has-did s (one serve!) = let r = calledServe (s .board) (s .ids) (s .lens) in (servedTells r, record { board = r .board; ids = s .ids; lens = s .lens }, byServe r refl)
 has-did s (burst! bytes list) = let w = calledBurst (s .board) (s .ids) (s .lens) bytes list in (burstTells (w .answer), record { board = w .answer .board; ids = s .ids; lens = s .lens }, byBurst bytes list (w .answer) (w .list) refl)
 
-chain-of : (s : Holding) (cs : List Call) → (told : List Answer) × (e : Holding) × Chain s cs told e
+pub chain-of : (s : Holding) (cs : List Call) → (told : List Answer) × (e : Holding) × Chain s cs told e
 chain-of s [] = ([], s, stops)
 chain-of s (c ∷ cs) = let d = has-did s c in let r = chain-of (d .1) cs in (d .0 ∷ r .0, r .1, goes (d .2) (r .2))
 
@@ -532,3 +532,61 @@ has-chain L range cs = (s, c .0, c .1, record { reply = w .reply; ids = zeros; l
 
     c : (told : List Answer) × (e : Holding) × Chain s cs told e
     c = chain-of s cs
+
+-- a chain of single calls is its own row
+pub own-row : {s e : Holding} (xs : List Single) {said : List Answer} → Chain s (map one xs) said e → Spelt (map one xs) said xs said
+own-row [] stops = over
+own-row (x ∷ xs) (goes {a = a} d rest) = single x a (own-row xs rest)
+
+-- an opening that is done is answered 0
+abbrev SaysDone : Board.Board → Single → Turn → Type 0
+SaysDone b (open! n s) t = codeOf (told b (t .out)) ≡ 0 → told b (t .out) ≡ gives 0
+SaysDone b (rename! old new) t = Unit {0}
+SaysDone b (close! n) t = Unit {0}
+SaysDone b (record! n r) t = Unit {0}
+SaysDone b serve! t = Unit {0}
+
+says-done : (b : Board.Board) → Tidy b → (x : Single) → SaysDone b x (step b x)
+says-done b g = call-cases b g (SaysDone b) (record { refused = says; opens = λ n s c e. refl; renames = λ p old new c. tt; closes = λ p n c. tt; takes = λ p n r c. tt; goesOn = λ p c. tt; begins = λ r t p c e. tt })
+  where
+    says : (x : Single) (code : ℕ) → Refusal code → SaysDone b x (record { out = refused code; next = b })
+    says (open! n s) code r = λ e. ap gives e
+    says (rename! old new) code r = tt
+    says (close! n) code r = tt
+    says (record! n x) code r = tt
+    says serve! code r = tt
+
+pub has-life : HasLife
+has-life L range before n share after e = go (has-chain L range before)
+  where
+    b : Board.Board
+    b = runs (fresh L) before
+
+    go : ((s : Holding) × (told : List Answer) × (m : Holding) × Made L s × Chain s before told m)
+        → (last : Option ℕ) × (e : Holding) × Life L share (Runs.story (begins n) (step b (open! n share) .next) after) last e × (reads e ≡ play (step b (open! n share) .next) after)
+    go (s, told′, m, made!, chain) =
+        let h = at-on L (at-made L s made!) chain in
+        let q = chain-is-run L s m before told′ made! chain .board in
+        let r = row-from (at-made L s made! .good) chain in
+        let d = has-did m (one (open! n share)) in
+        let g = did-agrees m (d .1) (one (open! n share)) (d .0) (h .good) (d .2) in
+        let zero! = g .told! ∙ says-done (reads m) (at-tidy L m h) (open! n share) (subst (λ (z : Board.Board). codeOf (answer z (open! n share)) ≡ 0) (sym q) e) in
+        let c = chain-of (d .1) (map one after) in
+        let l = along after (g .good) (c .2) in (
+          lastSlot (lastSlot none (r .1)) (c .0),
+          c .1,
+          record {
+            number = n;
+            first = lastSlot none (r .1);
+            opening = d .1;
+            opened = record { start = s; made = made!; cs = before; told = told′; xs = r .0; said = r .1; before = m; row = r .2; latest = refl; opens = subst (λ (z : Answer). Did m (one (open! n share)) z (d .1)) zero! (d .2) };
+            cs = map one after;
+            told = c .0;
+            xs = after;
+            said = c .0;
+            row = record { chain = c .2; spelt = own-row after (c .2); singles = c .2 };
+            latest = refl;
+            told! = ap (story (begins n) after) (l .answers) ∙ story-said (begins n) (reads (d .1)) after ∙ ap (λ (z : Board.Board). Runs.story (begins n) z after) (g .after ∙ ap (λ (z : Board.Board). step z (open! n share) .next) q);
+          },
+          l .board ∙ ap (λ (z : Board.Board). play z after) (g .after ∙ ap (λ (z : Board.Board). step z (open! n share) .next) q),
+        )

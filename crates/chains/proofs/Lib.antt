@@ -2,3 +2,4 @@ pub mod Chains
 pub mod Rows
 pub mod Slots
 pub mod Demands
+pub mod Examples

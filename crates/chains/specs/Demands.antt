@@ -12,8 +12,10 @@ use Rattle.base.specs.Sums.{oneIf, sum}
 use Rattle.units.specs.Classes.{Start, classOf}
 use Rattle.units.specs.Credit.{charged, largestCharge}
 use Rattle.rules.specs.Board
-use Rattle.rules.specs.Calls.{Single, open!, rename!, close!, record!, serve!, Call, one, burst!, Sent, Answer, gives, takes, sends, bursts, codeOf}
-use Rattle.rules.specs.Runs.{laneOf, isFor, recordOf, numberAfter, closes, clockOf, isDone, bytesAt, servesIn, Story, begins, goesOn, tells}
+use Rattle.rules.specs.Board.{fresh}
+use Rattle.rules.specs.Calls.{Single, open!, rename!, close!, record!, serve!, step, Call, one, burst!, Sent, Answer, gives, takes, sends, bursts, codeOf}
+use Rattle.rules.specs.Runs
+use Rattle.rules.specs.Runs.{play, answer, runs, laneOf, isFor, recordOf, numberAfter, closes, clockOf, isDone, bytesAt, servesIn, Story, begins, goesOn, tells}
 use Rattle.rules.specs.Promises.{Accounted, InRange, bound, serves}
 use Rattle.board.specs.Reading.{view}
 use Rattle.calls.specs.declared.Bursted.{Bursted}
@@ -237,3 +239,9 @@ SlotsSmall = (L : ℕ) (s e : Holding) (cs : List Call) (told : List Answer) (xs
 
 abbrev pub HasChain : Type 0
 HasChain = (L : ℕ) → InRange L → (cs : List Call) → (s : Holding) × (told : List Answer) × (e : Holding) × Made L s × Chain s cs told e
+
+-- and every story of a run of the rules is told by a chain, which comes to that run's board
+abbrev pub HasLife : Type 0
+HasLife = (L : ℕ) → InRange L → (before : List Call) (n share : ℕ) (after : List Single) → codeOf (answer (runs (fresh L) before) (open! n share)) ≡ 0
+    → (last : Option ℕ) × (e : Holding) × Life L share (Runs.story (begins n) (step (runs (fresh L) before) (open! n share) .next) after) last e
+    × (reads e ≡ play (step (runs (fresh L) before) (open! n share) .next) after)
