@@ -1,26 +1,25 @@
 -- A chain of public calls from a done making is a run of the rules: its boards are the run's, and so are its answers.
 use mathlib.Core.Path.{_≡_, refl, sym, ap, ap₂, subst, _∙_}
-use mathlib.Core.Bool.{Bool, true, false, cond, not, _&&_, true≢false, false≢true}
-use mathlib.Core.Logic.{_⊎_, inl, inr, _≢_}
-use mathlib.Core.List.{List, [], _∷_, map}
-use Prim.Native.Nat.{ℕ, _≤_, _<_}
+use mathlib.Core.Bool.{false, cond, not, _&&_, true≢false}
+use mathlib.Core.Logic.{_⊎_, inl, inr}
+use mathlib.Core.List.{List, [], _∷_}
+use Prim.Native.Nat.{ℕ, _≤_}
 use native.Mathlib.Omega.{arith}
 use lib.Dec.{eqb}
 use lib.ListN.{length, length-map}
-use Rattle.base.proofs.Numbers.{eqb-yes, eqb-no}
+use Rattle.base.proofs.Numbers.{eqb-no}
 use Rattle.rules.specs.Board
 use Rattle.rules.specs.Board.{Place, at, blockClass, fresh}
 use Rattle.rules.specs.Spoilt.{readyNum}
-use Rattle.rules.specs.Calls.{Single, Call, one, burst!, Answer, told, done!, wrongTables}
+use Rattle.rules.specs.Calls.{Single, Call, one, burst!, Answer, told, done! }
 use Rattle.rules.specs.Runs.{isServe, leaves, runs}
 use Rattle.board.specs.declared.Board as struct
 use Rattle.board.specs.Reading.{tab, firstLink, lastLink, behind, encode, placeOf, view, Sized, Sound}
 use Rattle.board.proofs.Lists.{length-tab}
-use Rattle.sound.specs.Test.{soundTest}
 use Rattle.sound.proofs.Decided.{sound-decides}
 use Rattle.rules.specs.Choice.{Out, refused, done, taken, sent, Turn, send, serve}
 use Rattle.rules.specs.Burst.{burst}
-use Rattle.rules.specs.Calls.{open!, rename!, close!, record!, serve!, step, gives, takes, sends, bursts, codeOf}
+use Rattle.rules.specs.Calls.{open!, rename!, close!, record!, serve!, step, gives, takes, codeOf}
 use Rattle.rules.proofs.Tidy.{Tidy}
 use Rattle.rules.proofs.Cases.{refusal-not0, call-cases}
 use Rattle.rules.proofs.Refusals.{ServeOut, serve-codes}

@@ -1,39 +1,39 @@
 -- THE THEOREMS: one for each proposition of specs/Demands.antt, in its order.
 use mathlib.Core.Path.{_≡_, refl, sym, ap, ap₂, subst, _∙_}
-use mathlib.Core.Bool.{Bool, true, false, cond, not, _&&_, _||_, true≢false, false≢true}
+use mathlib.Core.Bool.{Bool, true, false, cond, not, _||_, true≢false, false≢true}
 use mathlib.Core.Logic.{_⊎_, inl, inr, _≢_}
-use mathlib.Core.Option.{Option, none, some}
+use mathlib.Core.Option.{Option, none}
 use mathlib.Core.List.{List, [], _∷_, _++_, map, append-nil}
 use Prim.Native.Nat.{ℕ, zero, suc, _+_, _*_, _-_, _^_, _≤_, _<_}
 use native.Mathlib.Omega.{arith}
-use lib.Dec.{leb, eqb}
 use lib.ListN.{length, getD, set, replicate, length-append, length-replicate}
 use lib.Seq.{getD-set-same}
-use Rattle.base.proofs.Numbers.{eqb-yes, eqb-no, leb-yes}
+use Rattle.base.proofs.Numbers.{eqb-yes, leb-yes}
 use Rattle.units.specs.Classes.{Start, classOf}
 use Rattle.units.specs.Credit.{largestCharge}
 use Rattle.rules.specs.Board
 use Rattle.rules.specs.Board.{Place, freePlace, at, waits, someWait, fresh}
 use Rattle.rules.specs.Choice.{Out, refused, done, taken, sent, Turn, goOn, send}
 use Rattle.rules.specs.Blocks.{opened, freeAt}
-use Rattle.rules.specs.Calls.{Single, open!, rename!, close!, record!, serve!, step, Call, one, burst!, Sent, Answer, gives, takes, sends, bursts, told, codeOf, done!, make}
+use Rattle.rules.specs.Burst.{Burst, burst}
+use Rattle.rules.specs.Calls.{Single, open!, rename!, close!, record!, serve!, step, Call, one, burst!, Sent, Answer, gives, takes, sends, bursts, told, codeOf, make}
 use Rattle.rules.specs.Runs
-use Rattle.rules.specs.Runs.{play, runs, answer, laneOf, shareOf, classAt, isFor, isDone, recordOf, clockOf, numberAfter, closes, isServe, Story, begins, goesOn, tells}
+use Rattle.rules.specs.Runs.{play, runs, answer, laneOf, classAt, isFor, isDone, recordOf, clockOf, closes, isServe, Story, begins, goesOn, tells}
 use Rattle.rules.specs.Promises as Promised
 use Rattle.rules.specs.Promises.{OfRun, Accounted, bound}
 use Rattle.rules.proofs.Tidy.{Tidy}
 use Rattle.rules.proofs.TidyCalls.{tidy-step}
 use Rattle.rules.proofs.Conserve.{sentOne, flow-step}
 use Rattle.rules.proofs.Cases.{Refusal, refusal-not0, Has, CanOpen, call-cases}
-use Rattle.rules.proofs.Names.{Follows, follows, has-find, has-lane, has-share}
+use Rattle.rules.proofs.Names.{follows, has-find, has-lane, has-share}
 use Rattle.rules.proofs.Promises
 use Rattle.board.specs.Reading.{view}
 use Rattle.calls.specs.declared.Reply.{Reply}
 use Rattle.calls.specs.Promises.{Returned, called, made}
 use Rattle.calls.specs.Contract.{calledServe, calledBurst}
 use Rattle.chains.specs.Chains.{Holding, replyTells, servedTells, burstTells, Did, byReply, byServe, byBurst, Chain, stops, goes, Made}
-use Rattle.chains.specs.Demands.{reads, clock, bytesIn, slotBytes, NoneRefused, NotSpent, Unsent, story, lastSlot, slotAfter, Row, HasRow, BurstIsServes, NeverRefused, Opened, Life, Conserved, SendsFront, ComesToFront, intoEmpty, nextUp, ByteBound, SentInTime, ServesSend, beginsSlot, slotsIn, SlotOnce, NeverTwice, SlotsSmall, HasChain, HasLife, Spelt, over, single}
-use Rattle.chains.proofs.Chains.{KnownHolding, Agrees, did-agrees, chain-is-run}
+use Rattle.chains.specs.Demands.{reads, clock, bytesIn, slotBytes, NoneRefused, NotSpent, Unsent, story, lastSlot, slotAfter, HasRow, BurstIsServes, NeverRefused, Opened, Life, Conserved, SendsFront, ComesToFront, intoEmpty, nextUp, ByteBound, SentInTime, ServesSend, BurstSends, beginsSlot, slotsIn, SlotOnce, NeverTwice, SlotsSmall, HasChain, HasLife, Spelt, over, single}
+use Rattle.chains.proofs.Chains.{Agrees, did-agrees, chain-is-run}
 use Rattle.chains.proofs.Rows.{At, at-made, at-tidy, at-on, at-did, saidOf, play-join, Along, along, bytes-said, slot-bytes-said, story-said, unsent-said, spent-said, spelt-bytes, burst-is, row-from}
 use Rattle.chains.proofs.Slots.{Seen, seen-fresh, seen-play, seen-step, begins-said, slots-said}
 
@@ -362,18 +362,59 @@ some-wait (x ∷ xs) (suc p) w = rw (some-wait xs p w) (or-true (waits x))
     or-true true = refl
     or-true false = refl
 
-pub serves-send : ServesSend
-serves-send L share st last f g a l c ne d =
-    subst (λ (z : Answer). (z ≡ gives 11) ⊎ ((s : Sent) × (z ≡ sends s))) (sym (t .is)) (Promises.serves-send L (reads f) (t .here .run) (some-wait (reads f .places) (w .0) waiting))
+-- a block of which not all was sent makes every serve send, or give 11
+serve-waiting : (L share : ℕ) (st : Story) (last : Option ℕ) (f : Holding) → Life L share st last f → st .closed ≡ false → st .taken ≢ st .sent
+    → (answer (reads f) serve! ≡ gives 11) ⊎ ((s : Sent) × (answer (reads f) serve! ≡ sends s))
+serve-waiting L share st last f l c ne = Promises.serves-send L (reads f) (h .run) (some-wait (reads f .places) (w .0) waiting)
   where
-    t : Told L share st f serve! a g
-    t = told-at L share st last f g serve! a l c d
+    h : At L f
+    h = life-at L share st last f l
+
+    lives : Lives share st (reads f)
+    lives = opening-lives L share st (reads f) (life-opening L share st last f l)
 
     w : (p : ℕ) × Seat share st (reads f) p
-    w = t .lives .seat c
+    w = lives .seat c
 
     waiting : 1 ≤ length (at (reads f) (w .0) .lane)
-    waiting = subst (λ (r : List Board.Record). 1 ≤ length r) (has-lane (reads f) (w .0) (st .number) (at-tidy L f (t .here)) (w .1 c .0)) (waits-in st (reads f) (t .lives .accounted) ne .1)
+    waiting = subst (λ (r : List Board.Record). 1 ≤ length r) (has-lane (reads f) (w .0) (st .number) (at-tidy L f h) (w .1 c .0)) (waits-in st (reads f) (lives .accounted) ne .1)
+
+pub serves-send : ServesSend
+serves-send L share st last f g a l c ne d =
+    subst (λ (z : Answer). (z ≡ gives 11) ⊎ ((s : Sent) × (z ≡ sends s))) (sym (did-agrees f g (one serve!) a (life-at L share st last f l .good) d .told!)) (serve-waiting L share st last f l c ne)
+
+abbrev countBy : Answer → ℕ
+countBy (gives code) = 0
+countBy (takes a) = 0
+countBy (sends a) = 0
+countBy (bursts r) = r .count
+
+pub burst-sends : BurstSends
+burst-sends L share st last s f g cs told bytes list r made! chain d l c ne = go (i .stop)
+  where
+    h : At L f
+    h = at-on L (at-made L s made!) chain
+
+    B : Burst
+    B = burst (reads f) bytes (length list)
+
+    i : Promised.IsServes (reads f) bytes (length list) B
+    i = Promises.burst-is-serves (reads f) bytes (length list)
+
+    w : Agrees f (burst! bytes list) (bursts r) g
+    w = did-agrees f g (burst! bytes list) (bursts r) (h .good) d
+
+    code : r .code ≡ B .code
+    code = ap codeOf (w .told!)
+
+    stops-by : (answer (reads g) serve! ≡ gives 11) ⊎ ((z : Sent) × (answer (reads g) serve! ≡ sends z)) → answer (reads g) serve! ≡ gives (B .code) → r .code ≡ 11
+    stops-by (inl e) q = code ∙ ap codeOf (sym q ∙ e)
+    stops-by (inr (z, e)) q = absurd (false≢true (ap isSend (sym q ∙ e)))
+
+    go : Promised.Stopped bytes (length list) B → (r .code ≡ 11) ⊎ (((r .code ≡ 14) × (r .count ≡ length list)) ⊎ (r .code ≡ 13))
+    go (Promised.byCall q) = inl (stops-by (serve-waiting L share st last g l c ne) (ap (λ (b : Board.Board). answer b serve!) (w .after) ∙ q))
+    go (Promised.byList z q n e) = inr (inl (code ∙ e, ap countBy (w .told!) ∙ n))
+    go (Promised.byBytes z q n m e) = inr (inr (code ∙ e))
 
 -- ---- slots
 
@@ -384,7 +425,7 @@ made-fresh L s made! = chain-is-run L s s [] [] made! stops .board
 seen-same : {u v : Option ℕ} {b c : Board.Board} → u ≡ v → b ≡ c → Seen u b → Seen v c
 seen-same {v = v} {b = b} e f s = subst (Seen v) f (subst (λ (o : Option ℕ). Seen o b) e s)
 
-life-seen : (L share : ℕ) (st : Story) (last : Option ℕ) (e : Holding) → Life L share st last e → Seen last (reads e)
+pub life-seen : (L share : ℕ) (st : Story) (last : Option ℕ) (e : Holding) → Life L share st last e → Seen last (reads e)
 life-seen L share st last e l = seen-same (ap (lastSlot (l .first)) (sym (at-end .answers)) ∙ l .latest) (sym (at-end .board)) (seen-play (l .first) (reads (l .opening)) (l .xs) (at-tidy L (l .opening) o) opening)
   where
     w : Opened L (l .number) share (l .first) (l .opening)
@@ -414,7 +455,7 @@ life-seen L share st last e l = seen-same (ap (lastSlot (l .first)) (sym (at-end
     opening : Seen (l .first) (reads (l .opening))
     opening = seen-same (ap (slotAfter (l .first)) (sym (d .told!))) (sym (d .after)) (seen-step (l .first) (reads (w .before)) (open! (l .number) share) (at-tidy L (w .before) h) before)
 
-clock-reads : (s : Holding) → reads s .clock ≡ clock s
+pub clock-reads : (s : Holding) → reads s .clock ≡ clock s
 unfolding view
 clock-reads s = refl
 

@@ -1,15 +1,15 @@
 -- Chains that are computed: the worked log, with and without a burst, and a chain that meets the premises of the byte bound.
 use mathlib.Core.Path.{_≡_, refl, sym, ap, subst, _∙_}
 use mathlib.Core.Bool.{true, false}
-use mathlib.Core.Logic.{_≢_}
-use mathlib.Core.Option.{Option, none, some}
+use mathlib.Core.Logic.{inr, _≢_}
+use mathlib.Core.Option.{Option}
 use mathlib.Core.List.{List, [], _∷_, _++_, map}
-use Prim.Native.Nat.{ℕ, _+_}
+use Prim.Native.Nat.{ℕ, _+_, _^_, _≤_}
 use native.Mathlib.Omega.{arith}
 use lib.ListN.{length, drop, take}
 use Rattle.base.specs.Sums.{sum, below}
 use Rattle.base.specs.Tests.{least}
-use Rattle.units.specs.Classes.{classOf, nextStart}
+use Rattle.units.specs.Classes.{Start, classOf, nextStart}
 use Rattle.units.specs.Credit.{framing, charged, largestCharge, creditOf}
 use Rattle.rules.specs.Board
 use Rattle.rules.specs.Board.{charge, firstEntry, entry, onward, someWait, anyDue, spent, fresh}
@@ -18,15 +18,15 @@ use Rattle.rules.specs.Blocks.{freeAt, openBlock, quiet}
 use Rattle.rules.specs.Burst.{burst}
 use Rattle.rules.specs.Calls.{Single, open!, record!, serve!, step, Call, one, burst!, Answer, gives, takes, sends, bursts, codeOf}
 use Rattle.rules.specs.Runs
-use Rattle.rules.specs.Runs.{play, answer, runs, begins}
-use Rattle.rules.specs.Promises.{InRange}
+use Rattle.rules.specs.Runs.{play, answer, runs, Story, begins}
 use Rattle.rules.proofs.Examples
 use Rattle.rules.proofs.Examples.{worked, tight, filled, waiting}
 use Rattle.chains.specs.Chains.{Holding, Did, Chain, stops, Made, answersOf}
-use Rattle.chains.specs.Demands.{reads, bytesIn, Unsent, NotSpent, Row, Life, ComesToFront, intoEmpty}
+use Rattle.chains.specs.Demands.{reads, bytesIn, Unsent, NotSpent, Row, Life, ComesToFront, intoEmpty, WaitsAt, beginsSlot, clock}
 use Rattle.chains.proofs.Chains.{did-agrees, chain-is-run}
-use Rattle.chains.proofs.Rows.{saidOf, At, at-made, at-did, along}
-use Rattle.chains.proofs.Demands.{life-at, has-life, has-did, chain-of, own-row}
+use Rattle.chains.proofs.Rows.{saidOf, at-made, at-tidy, along}
+use Rattle.chains.proofs.Slots.{begins-said}
+use Rattle.chains.proofs.Demands.{life-at, life-seen, clock-reads, has-life, has-did, chain-of, own-row}
 
 abbrev rec : ℕ → ℕ → Board.Record
 rec n l = record { number = n; bytes = l }
@@ -124,7 +124,7 @@ passed = go (has-life 64 (record { low = omega arith; high = omega arith }) [] 9
           e = c .1;
           a = d .0;
           said = c .0;
-          life = subst (λ (st : Runs.Story). Life 64 32768 st last f) (tightly .tale) life;
+          life = subst (λ (st : Story). Life 64 32768 st last f) (tightly .tale) life;
           did = d .2;
           front = intoEmpty (rec 5 64) (d .0) (ap Runs.isDone (w .told! ∙ ap (λ (b : Board.Board). answer b comes) is) ∙ tightly .done) refl;
           row = record { chain = c .2; spelt = own-row waiting (c .2); singles = c .2 };
@@ -132,3 +132,76 @@ passed = go (has-life 64 (record { low = omega arith; high = omega arith }) [] 9
           notSpent = subst NotSpent (sym says) (tightly .notSpent);
           bytes = ap bytesIn says ∙ tightly .bytes;
         }
+
+-- ---- block 11 of the worked log waits at clock 3, and a serve brings the clock to 4 and past it
+
+abbrev eleven : Board.Board
+eleven = step (runs (fresh 100) []) (open! 11 32768) .next
+
+abbrev atThree : Board.Board
+atThree = play eleven (take 7 (drop 1 worked))
+
+abbrev soFar : Story
+soFar = record { number = 11; taken = rec 1 100 ∷ rec 2 60 ∷ []; sent = rec 1 100 ∷ []; closed = false }
+
+abbrev twice : List Single
+twice = serve! ∷ serve! ∷ []
+
+pub record Reached : Type 0 where
+  pub last : Option ℕ
+  pub f : Holding
+  pub g : Holding
+  pub e : Holding
+  pub a : Answer
+  pub said : List Answer
+  pub life : Life 100 32768 soFar last f
+  pub did : Did f (one serve!) a g
+  pub waits : WaitsAt (classOf 32768) 4 soFar last f a g
+  pub row : Row g (map one twice) said twice said e
+  pub ends : 4 + 2 ^ classOf 32768 ≤ clock e
+
+record Three : Type 0 where
+  opens : codeOf (answer (runs (fresh 100) []) (open! 11 32768)) ≡ 0
+  tale : Runs.story (begins 11) eleven (take 7 (drop 1 worked)) ≡ soFar
+  start : Start (classOf 32768) 4
+  early : atThree .clock ≡ 3
+  reached : step atThree serve! .next .clock ≡ 5
+  slot : Runs.beginsSlot 11 atThree serve! ≡ true
+  at4 : Runs.clockOf (answer atThree serve!) ≡ 4
+  ends : 4 + 2 ^ classOf 32768 ≤ play (step atThree serve! .next) twice .clock
+
+three : Three
+unfolding worked runs play Runs.story Start least nextStart classOf framing charged largestCharge creditOf sum below charge firstEntry entry onward someWait anyDue spent fresh whereIs upd takenIn takeRecord release leastReady settle ended sendFrom send lowest begin serveBy serve freeAt openBlock quiet step
+three = record { opens = refl; tale = refl; start = (2, refl); early = refl; reached = refl; slot = refl; at4 = refl; ends = omega arith }
+
+pub reached : Reached
+reached = go (has-life 100 (record { low = omega arith; high = omega arith }) [] 11 32768 (take 7 (drop 1 worked)) (three .opens))
+  where
+    go : ((last : Option ℕ) × (f : Holding) × Life 100 32768 (Runs.story (begins 11) eleven (take 7 (drop 1 worked))) last f × (reads f ≡ atThree)) → Reached
+    go (last, f, life, is) =
+        let at-f = life-at 100 32768 _ last f life in
+        let d = has-did f (one serve!) in
+        let w = did-agrees f (d .1) (one serve!) (d .0) (at-f .good) (d .2) in
+        let c = chain-of (d .1) (map one twice) in
+        let next = w .after ∙ ap (λ (b : Board.Board). step b serve! .next) is in
+        let told′ = w .told! ∙ ap (λ (b : Board.Board). answer b serve!) is in
+        let end = along twice (w .good) (c .2) .board ∙ ap (λ (b : Board.Board). play b twice) next in
+        let clock-f = sym (clock-reads f) ∙ ap (λ (b : Board.Board). b .clock) is ∙ three .early in
+        let clock-g = sym (clock-reads (d .1)) ∙ ap (λ (b : Board.Board). b .clock) next ∙ three .reached in
+        let begins! = ap (beginsSlot 11 last) (w .told!) ∙ begins-said last (reads f) serve! 11 (at-tidy 100 f at-f) (life-seen 100 32768 _ last f life) ∙ ap (λ (b : Board.Board). Runs.beginsSlot 11 b serve!) is ∙ three .slot in
+        record {
+          last = last;
+          f = f;
+          g = d .1;
+          e = c .1;
+          a = d .0;
+          said = c .0;
+          life = subst (λ (st : Story). Life 100 32768 st last f) (three .tale) life;
+          did = d .2;
+          waits = record { start = three .start; early = omega (arith, clock-f); reached = omega (arith, clock-g); before = λ q. two-one (ap length q); after = inr (begins!, omega (arith, ap Runs.clockOf told′, three .at4)) };
+          row = record { chain = c .2; spelt = own-row twice (c .2); singles = c .2 };
+          ends = subst (λ (n : ℕ). 4 + 2 ^ classOf 32768 ≤ n) (sym (ap (λ (b : Board.Board). b .clock) end) ∙ clock-reads (c .1)) (three .ends);
+        }
+      where
+        two-one : _≡_ {A = ℕ} 2 1 → ⊥
+        two-one q = omega arith

@@ -1,36 +1,29 @@
 -- A chain of single calls is a row of the rules: its words over answers are the rules' words over boards; and a chain with bursts has its row.
 use mathlib.Core.Path.{_≡_, refl, sym, ap, ap₂, subst, _∙_}
-use mathlib.Core.Bool.{Bool, true, false, cond, not, _&&_, true≢false, false≢true}
-use mathlib.Core.Logic.{_⊎_, inl, inr, _≢_}
-use mathlib.Core.Option.{Option, none, some}
-use mathlib.Core.List.{List, [], _∷_, _++_, map, append-assoc, append-nil}
-use Prim.Native.Nat.{ℕ, zero, suc, _+_, _≤_, _<_}
+use mathlib.Core.List.{List, [], _∷_, _++_, map}
+use Prim.Native.Nat.{ℕ, zero, suc, _+_, _≤_}
 use native.Mathlib.Omega.{arith}
-use lib.Dec.{eqb}
 use lib.ListN.{length, drop, length-map}
-use Rattle.base.specs.Sums.{oneIf, sum}
-use Rattle.base.proofs.Numbers.{eqb-yes, eqb-no}
+use Rattle.base.specs.Sums.{sum}
+use Rattle.base.proofs.Numbers.{eqb-no}
 use Rattle.units.specs.Credit.{charged}
 use Rattle.rules.specs.Board
 use Rattle.rules.specs.Board.{fresh}
 use Rattle.rules.specs.Choice.{Out, refused, done, taken, sent}
 use Rattle.rules.specs.Burst.{Burst, burst}
-use Rattle.rules.specs.Calls.{Single, open!, rename!, close!, record!, serve!, step, Call, one, burst!, Sent, Answer, gives, takes, sends, bursts, told, codeOf}
+use Rattle.rules.specs.Calls.{Single, serve!, step, Call, one, burst!, Sent, Answer, gives, takes, sends, bursts, told, codeOf}
 use Rattle.rules.specs.Runs
 use Rattle.rules.specs.Runs.{play, answer, runs, row, recordOf, recordsIn, Story, tells, numberAfter}
 use Rattle.rules.specs.Promises.{OfRun, serves, IsServes}
 use Rattle.rules.proofs.Tidy.{Tidy}
 use Rattle.rules.proofs.Promises.{run-is-row, burst-is-serves}
-use Rattle.board.specs.declared.Board as struct
-use Rattle.board.specs.Reading.{encode, view}
 use Rattle.board.proofs.Sound.{fit-view, sound-one}
 use Rattle.calls.specs.declared.Bursted.{Bursted}
-use Rattle.calls.specs.declared.Served.{Served}
 use Rattle.calls.specs.Contract.{BurstOutcome, burstNow, goodBurst, calledServe, calledBurst}
 use Rattle.calls.proofs.Calling
 use Rattle.chains.specs.Chains.{Holding, servedTells, burstTells, Did, byReply, byServe, byBurst, Chain, stops, goes, Made, answersOf}
-use Rattle.chains.specs.Demands.{reads, bytesOf, bytesIn, slotBytes, NotSpent, Unsent, story, Spelt, over, single, asServes, Row, HasRow, BurstIs, BurstIsServes}
-use Rattle.chains.proofs.Chains.{KnownHolding, Agrees, did-agrees, early-none, chain-from, chain-is-run, chain-of-run, IsRun}
+use Rattle.chains.specs.Demands.{reads, bytesOf, bytesIn, slotBytes, NotSpent, Unsent, story, Spelt, over, single, asServes, Row, BurstIs}
+use Rattle.chains.proofs.Chains.{KnownHolding, Agrees, did-agrees, early-none, chain-from, chain-is-run, chain-of-run}
 
 -- ---- lists
 

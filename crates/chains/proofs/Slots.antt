@@ -1,9 +1,9 @@
 -- The slots that a chain's answers tell of are the rules' slots: an open slot has the clock of the last send, and no later one does.
 use mathlib.Core.Path.{_≡_, refl, sym, ap, ap₂, subst, _∙_}
-use mathlib.Core.Bool.{Bool, true, false, cond, not, _&&_, true≢false, false≢true}
+use mathlib.Core.Bool.{Bool, true, false, cond, not, _&&_}
 use mathlib.Core.Option.{Option, none, some}
 use mathlib.Core.List.{List, [], _∷_, _++_}
-use Prim.Native.Nat.{ℕ, suc, _+_, _*_, _≤_, _<_, max}
+use Prim.Native.Nat.{ℕ, _+_, _*_, _≤_, _<_}
 use native.Mathlib.Omega.{arith}
 use lib.Dec.{leb, ltb, eqb}
 use lib.ListN.{length, getD, drop}
@@ -13,13 +13,13 @@ use Rattle.rules.specs.Board
 use Rattle.rules.specs.Board.{at, charge, noRecord, blockClass, fresh}
 use Rattle.rules.specs.Choice.{Turn, isNone, upd, goOn, joining, joins, more, takenIn, emptied, short, going, ended, sendFrom, send, begin, chosen, leftAfter}
 use Rattle.rules.specs.Blocks.{closed}
-use Rattle.rules.specs.Calls.{Single, serve!, step, Answer, gives, takes, sends, bursts, told}
+use Rattle.rules.specs.Calls.{Single, step, takes, told}
 use Rattle.rules.specs.Runs
 use Rattle.rules.specs.Runs.{play, answer, isFor, clockOf, closes, numberAfter}
 use Rattle.rules.proofs.Tidy.{Tidy}
 use Rattle.rules.proofs.TidyCalls.{tidy-step}
-use Rattle.rules.proofs.Cases.{GoesOn, Begins, call-cases}
-use Rattle.chains.specs.Demands.{slotAfter, lastSlot, isNew, beginsSlot, beginsIn, slotsIn}
+use Rattle.rules.proofs.Cases.{call-cases}
+use Rattle.chains.specs.Demands.{slotAfter, lastSlot, isNew, beginsSlot, slotsIn}
 use Rattle.chains.proofs.Rows.{saidOf}
 
 -- the last send, if any, came before the clock

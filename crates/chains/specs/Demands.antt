@@ -13,7 +13,8 @@ use Rattle.units.specs.Classes.{Start, classOf}
 use Rattle.units.specs.Credit.{charged, largestCharge}
 use Rattle.rules.specs.Board
 use Rattle.rules.specs.Board.{fresh}
-use Rattle.rules.specs.Calls.{Single, open!, rename!, close!, record!, serve!, step, Call, one, burst!, Sent, Answer, gives, takes, sends, bursts, codeOf}
+use Rattle.rules.specs.Calls
+use Rattle.rules.specs.Calls.{Single, open!, record!, serve!, step, Call, one, burst!, Sent, Answer, gives, takes, sends, bursts, codeOf}
 use Rattle.rules.specs.Runs
 use Rattle.rules.specs.Runs.{play, answer, runs, laneOf, isFor, recordOf, numberAfter, closes, clockOf, isDone, bytesAt, servesIn, Story, begins, goesOn, tells}
 use Rattle.rules.specs.Promises.{Accounted, InRange, bound, serves}
@@ -66,7 +67,7 @@ pub data Spelt : List Call → List Answer → List Single → List Answer → T
       → length sent ≡ r .count → sum (λ (s : Sent). charged (s .bytes)) sent ≡ r .bytes
       → Spelt cs told xs said → Spelt (burst! bytes list ∷ cs) (burstTells r ∷ told) (serves (length sent) ++ xs) (map sends sent ++ said)
 
--- Both chains go from the same value to the same value.
+-- Both chains go from the same value to the same value. (What happens within a burst is read in the second, of which each part is a chain.)
 pub record Row (s : Holding) (cs : List Call) (told : List Answer) (xs : List Single) (said : List Answer) (e : Holding) : Type 0 where
   pub chain : Chain s cs told e
   pub spelt : Spelt cs told xs said
@@ -185,6 +186,13 @@ abbrev pub ServesSend : Type 0
 ServesSend = (L share : ℕ) (st : Story) (last : Option ℕ) (f g : Holding) (a : Answer)
     → Life L share st last f → st .closed ≡ false → st .taken ≢ st .sent → Did f (one serve!) a g
     → (a ≡ gives 11) ⊎ ((s : Sent) × (a ≡ sends s))
+
+-- A burst that leaves a record waiting was not stopped for want of records: it is answered 11, or 14 with a full list, or 13.
+abbrev pub BurstSends : Type 0
+BurstSends = (L share : ℕ) (st : Story) (last : Option ℕ) (s f g : Holding) (cs : List Call) (told : List Answer) (bytes : ℕ) (list : List ℕ) (r : Calls.Bursted)
+    → Made L s → Chain s cs told f → Did f (burst! bytes list) (bursts r) g
+    → Life L share st last g → st .closed ≡ false → st .taken ≢ st .sent
+    → (r .code ≡ 11) ⊎ (((r .code ≡ 14) × (r .count ≡ length list)) ⊎ (r .code ≡ 13))
 
 -- ---- Slots, as the answers tell them: a send begins a slot if its clock is not that of the send before it, of whichever block
 
