@@ -20,7 +20,7 @@ use Rattle.rules.specs.Calls.{Single, open!, record!, serve!, step, Call, one, 
 use Rattle.rules.specs.Runs
 use Rattle.rules.specs.Runs.{play, answer, runs, Story, begins}
 use Rattle.rules.proofs.Examples
-use Rattle.rules.proofs.Examples.{worked, tight, filled, waiting}
+use Rattle.rules.proofs.Examples.{worked, tight, filled, waiting, renames}
 use Rattle.chains.specs.Chains.{Holding, Did, Chain, stops, Made, answersOf}
 use Rattle.chains.specs.Demands.{reads, bytesIn, Unsent, NotSpent, Row, Life, ComesToFront, intoEmpty, WaitsAt, beginsSlot, clock}
 use Rattle.chains.proofs.Chains.{did-agrees, chain-is-run}
@@ -205,3 +205,16 @@ reached = go (has-life 100 (record { low = omega arith; high = omega arith }) []
       where
         two-one : _≡_ {A = ℕ} 2 1 → ⊥
         two-one q = omega arith
+
+-- ---- a block renamed while it is queued, while its slot is open, and again: each record left under the number of that moment, one still waits
+
+opens-one : codeOf (answer (runs (fresh 64) []) (open! 1 32768)) ≡ 0
+unfolding runs least classOf sum below spent fresh whereIs freeAt openBlock step
+opens-one = refl
+
+pub renamed : (last : Option ℕ) × (e : Holding)
+    × Life 64 32768 (record { number = 4; taken = rec 1 40 ∷ rec 2 20 ∷ rec 3 64 ∷ rec 4 9 ∷ []; sent = rec 1 40 ∷ rec 2 20 ∷ rec 3 64 ∷ []; closed = false }) last e
+unfolding runs
+renamed =
+    let l = has-life 64 (record { low = omega arith; high = omega arith }) [] 1 32768 renames opens-one in
+    (l .0, l .1, subst (λ (st : Story). Life 64 32768 st (l .0) (l .1)) (Examples.computed .renamedStory) (l .2))
