@@ -30,9 +30,10 @@ use Rattle.rules.proofs.Promises
 use Rattle.board.specs.Reading.{view}
 use Rattle.calls.specs.declared.Reply.{Reply}
 use Rattle.calls.specs.Promises.{Returned, called, made}
-use Rattle.calls.specs.Contract.{calledServe, calledBurst}
+use Rattle.calls.specs.declared.Served.{Served}
+use Rattle.calls.specs.Contract.{BurstOutcome, calledServe, calledBurst}
 use Rattle.chains.specs.Chains.{Holding, replyTells, servedTells, burstTells, Did, byReply, byServe, byBurst, Chain, stops, goes, Made}
-use Rattle.chains.specs.Demands.{reads, clock, bytesIn, slotBytes, NoneRefused, NotSpent, Unsent, story, lastSlot, slotAfter, HasRow, BurstIsServes, NeverRefused, Opened, Life, Conserved, SendsFront, ComesToFront, intoEmpty, nextUp, ByteBound, SentInTime, ServesSend, BurstSends, beginsSlot, slotsIn, SlotOnce, NeverTwice, SlotsSmall, HasChain, HasLife, Spelt, over, single}
+use Rattle.chains.specs.Demands.{reads, clock, bytesIn, slotBytes, NoneRefused, NotSpent, Unsent, story, lastSlot, slotAfter, HasRow, BurstIsServes, NeverRefused, Opened, Life, Conserved, SendsFront, ComesToFront, intoEmpty, nextUp, ByteBound, SentInTime, ServesSend, BurstSends, beginsSlot, slotsIn, SlotOnce, NeverTwice, SlotsSmall, OnlyOne, HasChain, HasLife, Spelt, over, single}
 use Rattle.chains.proofs.Chains.{Agrees, did-agrees, chain-is-run}
 use Rattle.chains.proofs.Rows.{At, at-made, at-tidy, at-on, at-did, saidOf, play-join, Along, along, bytes-said, slot-bytes-said, story-said, unsent-said, spent-said, spelt-bytes, burst-is, row-from}
 use Rattle.chains.proofs.Slots.{Seen, seen-fresh, seen-play, seen-step, begins-said, slots-said}
@@ -533,6 +534,51 @@ pub slots-small : SlotsSmall
 slots-small L s e cs told xs said made! r t =
     let h = at-made L s made! in
     subst (λ (n : ℕ). n ≤ 3 * largestCharge L - 1) (sym (ap (slotBytes t) (along xs (h .good) (r .singles) .answers) ∙ slot-bytes-said t (reads s) xs)) (Promises.slots-small L (reads s) (h .run) t xs)
+
+-- ---- no second answer
+
+replyOf : Holding → Single → Returned Reply
+replyOf s x = called (s .board) (s .ids) (s .lens) x
+
+serveOf : Holding → Served
+serveOf s = calledServe (s .board) (s .ids) (s .lens)
+
+burstOf : Holding → ℕ → List ℕ → BurstOutcome
+burstOf s bytes list = calledBurst (s .board) (s .ids) (s .lens) bytes list
+
+-- what a call answers and leaves, by its promise
+abbrev gave : Holding → Call → Answer
+gave s (one x) = cond (isServe x) (servedTells (serveOf s)) (replyTells x (replyOf s x .reply))
+gave s (burst! bytes list) = burstTells (burstOf s bytes list .answer)
+
+abbrev left : Holding → Call → Holding
+left s (one x) = cond (isServe x) (record { board = serveOf s .board; ids = s .ids; lens = s .lens }) (record { board = replyOf s x .reply .board; ids = replyOf s x .ids; lens = replyOf s x .lens })
+left s (burst! bytes list) = record { board = burstOf s bytes list .answer .board; ids = s .ids; lens = s .lens }
+
+did-gave : {s m : Holding} {c : Call} {a : Answer} → Did s c a m → (a ≡ gave s c) × (m ≡ left s c)
+unfolding replyOf serveOf burstOf
+did-gave {s = s} (byReply x e r ids lens p) = rw e (ap (λ (w : Returned Reply). replyTells x (w .reply)) p, ap (λ (w : Returned Reply). let h : Holding = record { board = w .reply .board; ids = w .ids; lens = w .lens } in h) p)
+did-gave {s = s} (byServe r p) = (ap servedTells p, ap (λ (w : Served). let h : Holding = record { board = w .board; ids = s .ids; lens = s .lens } in h) p)
+did-gave {s = s} (byBurst bytes list r list′ p) = (ap (λ (w : BurstOutcome). burstTells (w .answer)) p, ap (λ (w : BurstOutcome). let h : Holding = record { board = w .answer .board; ids = s .ids; lens = s .lens } in h) p)
+
+allGave : Holding → List Call → List Answer
+allGave s [] = []
+allGave s (c ∷ cs) = gave s c ∷ allGave (left s c) cs
+
+allLeft : Holding → List Call → Holding
+allLeft s [] = s
+allLeft s (c ∷ cs) = allLeft (left s c) cs
+
+chain-gave : {s e : Holding} {cs : List Call} {told : List Answer} → Chain s cs told e → (told ≡ allGave s cs) × (e ≡ allLeft s cs)
+unfolding allGave allLeft
+chain-gave stops = (refl, refl)
+chain-gave (goes {cs = cs} d rest) =
+    let w = did-gave d in
+    let r = chain-gave rest in
+    (ap₂ (λ (x : Answer) (xs : List Answer). x ∷ xs) (w .0) (r .0 ∙ ap (λ (m : Holding). allGave m cs) (w .1)), r .1 ∙ ap (λ (m : Holding). allLeft m cs) (w .1))
+
+pub only-one : OnlyOne
+only-one s e e′ cs told told′ c c′ = let w = chain-gave c in let w′ = chain-gave c′ in (w .0 ∙ sym (w′ .0), w .1 ∙ sym (w′ .1))
 
 -- ---- no promise is empty
 

@@ -39,13 +39,13 @@ pub seen-fresh : (L : ℕ) → Seen none (fresh L)
 unfolding fresh
 seen-fresh L = tt
 
--- a slot that begins at the clock or later is new, and one that goes on is not
+-- a slot that goes on is not new, and one that begins at the clock or later is
+new-same : (last : Option ℕ) (t : ℕ) → last ≡ some t → isNew last t ≡ false
+new-same last t e = ap (λ (o : Option ℕ). isNew o t) e ∙ ap not (eqb-yes t t refl)
+
 new-later : (last : Option ℕ) (c t : ℕ) → Before last c → c ≤ t → isNew last t ≡ true
 new-later none c t h l = refl
 new-later (some u) c t h l = ap not (eqb-no u t (λ e. omega arith))
-
-new-same : (last : Option ℕ) (t : ℕ) → last ≡ some t → isNew last t ≡ false
-new-same last t e = ap (λ (o : Option ℕ). isNew o t) e ∙ ap not (eqb-yes t t refl)
 
 -- after a send the slot has ended, and the clock has gone on, or it is open at the clock
 seen-sent : (b : Board.Board) (p : ℕ) → b .slot ≡ some p → Seen (some (b .clock)) (sendFrom b p)

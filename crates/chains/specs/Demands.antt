@@ -243,6 +243,11 @@ abbrev pub SlotsSmall : Type 0
 SlotsSmall = (L : ℕ) (s e : Holding) (cs : List Call) (told : List Answer) (xs : List Single) (said : List Answer) → Made L s → Row s cs told xs said e
     → (t : ℕ) → slotBytes t said ≤ 3 * largestCharge L - 1
 
+-- ---- No second answer fits: what is given and the calls decide every answer, and the value and both tables that are left
+
+abbrev pub OnlyOne : Type 0
+OnlyOne = (s e e′ : Holding) (cs : List Call) (told told′ : List Answer) → Chain s cs told e → Chain s cs told′ e′ → (told ≡ told′) × (e ≡ e′)
+
 -- ---- No promise is empty: any L in range is made, and any calls may follow
 
 abbrev pub HasChain : Type 0
