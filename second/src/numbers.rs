@@ -25,33 +25,27 @@ impl Bytes {
     }
 }
 
-impl Add for Bytes {
-    type Output = Bytes;
-    fn add(self, other: Bytes) -> Bytes {
-        Bytes(self.0 + other.0)
-    }
+/// A unit is added to itself and taken from itself, never from the other.
+macro_rules! sums_within {
+    ($unit:ident) => {
+        impl Add for $unit {
+            type Output = $unit;
+            fn add(self, other: $unit) -> $unit {
+                $unit(self.0 + other.0)
+            }
+        }
+
+        impl Sub for $unit {
+            type Output = $unit;
+            fn sub(self, other: $unit) -> $unit {
+                $unit(self.0 - other.0)
+            }
+        }
+    };
 }
 
-impl Sub for Bytes {
-    type Output = Bytes;
-    fn sub(self, other: Bytes) -> Bytes {
-        Bytes(self.0 - other.0)
-    }
-}
-
-impl Add for Parts {
-    type Output = Parts;
-    fn add(self, other: Parts) -> Parts {
-        Parts(self.0 + other.0)
-    }
-}
-
-impl Sub for Parts {
-    type Output = Parts;
-    fn sub(self, other: Parts) -> Parts {
-        Parts(self.0 - other.0)
-    }
-}
+sums_within!(Bytes);
+sums_within!(Parts);
 
 pub fn largest_in_range(largest: u32) -> bool {
     (64..=2_048).contains(&largest)

@@ -113,23 +113,6 @@ fn a_log_over_32_768_bytes_is_long_whatever_it_holds() {
     assert_eq!(listing(&vec![0; LONGEST_LOG + 1]), "long\n");
 }
 
-#[test]
-fn a_rename_in_any_state_keeps_the_records() {
-    let text = "largest 100\nopen 11 49152\nrecord 11 1 50\nrecord 11 2 50\nrecord 11 3 100\nrename 11 12\nserve\nrename 12 13\nserve
-rename 13 14\nrename 14 11\nrecord 12 9 1\nrecord 14 9 1\nrecord 11 4 100\nserve\nserve\nserve\n";
-    assert_eq!(
-        listing_of_text(text),
-        "open 11 0\nin 1 0\nin 2 0\nin 3 0\nname 11 12 0\nout 12 1 50 2\nname 12 13 0\nout 13 2 50 2\nname 13 14 0\nname 14 11 0
-in 9 6\nin 9 6\nin 4 0\nout 11 3 100 4\nout 11 4 100 4\nout - 1\nend 5 300 0\n"
-    );
-}
-
-#[test]
-fn the_end_line_shows_an_open_slots_clock_and_what_waits() {
-    let text = "largest 100\nopen 11 49152\nrecord 11 1 50\nrecord 11 2 50\nserve\n";
-    assert_eq!(listing_of_text(text), "open 11 0\nin 1 0\nin 2 0\nout 11 1 50 2\nend 2 50 1\n");
-}
-
 /// The kind of a line and its code, as far as it has one.
 fn kind_and_code(line: &Line) -> (&'static str, u32) {
     match *line {
