@@ -164,6 +164,8 @@ fn each_shape_reaches_what_it_is_named_for() {
             let last = *play(&log).last().unwrap();
             match name {
                 "over" => assert!(log.len() == LONGEST_LOG + 1 && last == Line::Long),
+                "long" => assert!(log.len() > LONGEST_LOG + 1 && last == Line::Long),
+                "broken-exact" => assert!(log.len() == LONGEST_LOG && matches!(last, Line::Broken { .. })),
                 "exact" => assert!(log.len() == LONGEST_LOG && matches!(last, Line::End { .. })),
                 "changed" => assert!(matches!(last, Line::End { .. } | Line::Broken { .. })),
                 _ if name.starts_with("broken") => assert!(matches!(last, Line::Broken { .. }), "{name} {seed}"),

@@ -1,6 +1,8 @@
 //! The three programs, run as they are.
 
+use std::fs;
 use std::io::Write;
+use std::path::Path;
 use std::process::{Command, Output, Stdio};
 
 const SECOND: &str = env!("CARGO_BIN_EXE_second");
@@ -38,6 +40,21 @@ fn a_log_written_by_hand_is_made_and_played() {
 }
 
 #[test]
+fn a_folder_of_logs_is_made_and_played_as_one_log_is() {
+    let folder = Path::new(env!("CARGO_TARGET_TMPDIR")).join("logs");
+    fs::create_dir_all(&folder).unwrap();
+    output_of(MAKER, &["logs", "tiny", "3", folder.to_str().unwrap()], b"");
+    output_of(SECOND, &[folder.to_str().unwrap()], b"");
+    for seed in ["1", "2", "3"] {
+        let log = output_of(MAKER, &["log", "tiny", seed], b"");
+        assert_eq!(fs::read(folder.join(format!("tiny-{seed}.log"))).unwrap(), log);
+        assert_eq!(fs::read(folder.join(format!("tiny-{seed}.listing"))).unwrap(), output_of(SECOND, &[], &log));
+    }
+    assert_eq!(fs::read_dir(&folder).unwrap().count(), 6);
+    fs::remove_dir_all(&folder).unwrap();
+}
+
+#[test]
 fn every_shape_that_is_listed_is_made_and_played() {
     let shapes = String::from_utf8(output_of(MAKER, &["shapes"], b"")).unwrap();
     assert!(shapes.lines().count() > 25);
@@ -61,7 +78,7 @@ fn every_shape_that_is_listed_is_made_and_played() {
 
 #[test]
 fn what_cannot_be_read_is_refused_with_a_message_and_no_output() {
-    let tries: [(&str, &[&str], &[u8]); 11] = [
+    let tries: [(&str, &[&str], &[u8]); 13] = [
         (CASES, &[], b"case a\nclock x\n"),
         (CASES, &["bytes"], b"case a\nmake 1\nclock x\n"),
         (CASES, &[], &[255, 254]),
@@ -70,6 +87,8 @@ fn what_cannot_be_read_is_refused_with_a_message_and_no_output() {
         (MAKER, &["log", "tiny"], b""),
         (MAKER, &["log", "unknown", "1"], b""),
         (MAKER, &["log", "tiny", "-1"], b""),
+        (MAKER, &["logs", "tiny", "1", "/no/such/folder"], b""),
+        (SECOND, &["/no/such/folder"], b""),
         (MAKER, &["cases", "tiny", "1"], b""),
         (MAKER, &["bytes"], b"serve\nbogus\n"),
         (MAKER, &["bytes"], &[255, 254]),

@@ -7,7 +7,7 @@ use crate::numbers::{CLASSES, LANE_DEPTH, PLACES, WHOLE_LINE};
 
 pub type LogShape = fn(u64) -> Vec<u8>;
 
-pub const LOG_SHAPES: [(&str, LogShape); 25] = [
+pub const LOG_SHAPES: [(&str, LogShape); 28] = [
     ("tiny", tiny),
     ("busy4", |seed| busy(seed, 4, 20_000)),
     ("busy16", |seed| busy(seed, 16, 20_000)),
@@ -25,6 +25,7 @@ pub const LOG_SHAPES: [(&str, LogShape); 25] = [
     ("passed", passed),
     ("exact", |seed| padded(seed, LONGEST_LOG)),
     ("over", |seed| padded(seed, LONGEST_LOG + 1)),
+    ("long", long),
     ("changed", changed),
     ("broken-empty", |_| Vec::new()),
     ("broken-first", broken_first),
@@ -33,6 +34,8 @@ pub const LOG_SHAPES: [(&str, LogShape); 25] = [
     ("broken-tag", broken_tag),
     ("broken-length", broken_length),
     ("broken-cut", broken_cut),
+    ("broken-past-end", broken_past_end),
+    ("broken-exact", broken_exact),
 ];
 
 /// A log under way, with the board that it gives.
@@ -297,6 +300,18 @@ fn padded(seed: u64, bytes: usize) -> Vec<u8> {
     maker.log
 }
 
+/// Over the longest log by more than one byte, and by so much that a count of 16 bits begins anew. What it holds does not matter.
+fn long(seed: u64) -> Vec<u8> {
+    let mut random = Random::new(seed);
+    let any = random.between(LONGEST_LOG as u64 + 2, 150_000) as usize;
+    let bytes = random.pick(&[LONGEST_LOG + 2, 65_535, 65_536, 65_537, any, any]);
+    if random.percent(30) {
+        random.bytes(bytes)
+    } else {
+        padded(random.any(), bytes)
+    }
+}
+
 /// A valid log with bytes changed, cut and inserted after the L field.
 fn changed(seed: u64) -> Vec<u8> {
     let mut random = Random::new(seed);
@@ -407,4 +422,24 @@ fn broken_cut(seed: u64) -> Vec<u8> {
     let kept = maker.random().between(offset as u64 + 1, whole as u64 - 1) as usize;
     maker.log.truncate(kept);
     maker.log
+}
+
+/// The length of the last field, which is to be passed over, runs past the end by one byte or by many.
+fn broken_past_end(seed: u64) -> Vec<u8> {
+    let mut maker = begun(seed);
+    let tag = maker.random().between(FIRST_PASSED_OVER.into(), u8::MAX.into()) as u8;
+    let kept = maker.random().between(0, 300) as usize;
+    let length = maker.random().pick(&[kept + 1, kept + 256, 0x8000, 0xffff]);
+    let value = maker.log.len() + HEAD_BYTES;
+    maker.any_field(tag, length);
+    maker.log.truncate(value + kept);
+    maker.log
+}
+
+/// A log of the longest length whose last field is cut: one more byte would be `long`. The last field of a padded log has over 80 bytes.
+fn broken_exact(seed: u64) -> Vec<u8> {
+    let missing = Random::new(seed).between(1, 80) as usize;
+    let mut log = padded(seed, LONGEST_LOG + missing);
+    log.truncate(LONGEST_LOG);
+    log
 }
