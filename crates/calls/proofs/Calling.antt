@@ -6,21 +6,23 @@ use mathlib.Core.List.{List}
 use Prim.Native.Nat.{ℕ, _≤_, _<_}
 use native.Mathlib.Omega.{arith}
 use lib.Dec.{eqb}
-use lib.ListN.{length}
+use lib.ListN.{length, length-map}
 use Rattle.base.proofs.Numbers.{eqb-true, eqb-no}
 use Rattle.base.proofs.Tests.{and-left, and-right}
-use Rattle.rules.specs.Board.{tableLength}
-use Rattle.rules.specs.Spoilt.{spoilt}
+use Rattle.rules.specs.Board
+use Rattle.rules.specs.Board.{tableLength, Place, at, blockClass}
+use Rattle.rules.specs.Spoilt.{spoilt, readyNum}
 use Rattle.rules.specs.Calls.{Single, serve!, step, Call, one, burst!, Outcome, wrongTables, refusedBy, unlessSpoilt, byBoard, byTables, done!, call}
 use Rattle.board.specs.declared.Board as struct
-use Rattle.board.specs.Reading.{view, Sized, Sound}
+use Rattle.board.specs.Reading.{tab, firstLink, lastLink, behind, encode, placeOf, view, Sized, Sound}
+use Rattle.board.proofs.Lists.{length-tab}
 use Rattle.sound.specs.Test.{soundTest}
 use Rattle.sound.proofs.Decided.{sound-decides}
 use Rattle.calls.specs.declared.Reply.{Reply}
 use Rattle.calls.specs.Contract.{notServed, servedBy, goodServe, burstNow, goodBurst, boardOr, calledServe, burstedBy, calledBurst}
 use Rattle.calls.specs.Promises.{Returned, returned, replied, written, Known, ruled, lent, called, earlyCode}
 
-right-tables : (n m : ℕ) → wrongTables n m ≡ false → (n ≡ tableLength) × (m ≡ tableLength)
+pub right-tables : (n m : ℕ) → wrongTables n m ≡ false → (n ≡ tableLength) × (m ≡ tableLength)
 right-tables n m e = (eqb-true n tableLength (and-left (eqb n tableLength) (eqb m tableLength) (passed _ e)), eqb-true m tableLength (and-right (eqb n tableLength) (eqb m tableLength) (passed _ e)))
   where
     passed : (t : Bool) → not t ≡ false → t ≡ true
@@ -99,3 +101,39 @@ known-by b ids lens z n = go (wrongTables (length ids) (length lens)) refl (soun
       where
         sizes : (length ids ≡ tableLength) × (length lens ≡ tableLength)
         sizes = right-tables (length ids) (length lens) e
+
+-- ---- and of every value that is known to be good
+
+-- a value that is not spoilt has arrays of the right lengths
+sized-of : (b : struct.Board) (ids lens : List ℕ) → Sound b ids lens → Sized b
+unfolding encode view
+sized-of b ids lens s =
+    record {
+      numbers = at64 (λ c. c .numbers) (length-map l (λ (x : Place). x .number));
+      shares = at64 (λ c. c .shares) (length-map l (λ (x : Place). x .share));
+      deficits = at64 (λ c. c .deficits) (length-map l (λ (x : Place). x .deficit));
+      starts = at64 (λ c. c .starts) (length-map l (λ (x : Place). x .start));
+      counts = at64 (λ c. c .counts) (length-map l (λ (x : Place). length (x .lane)));
+      ready = at64 (λ c. c .ready) (length-map l (λ (x : Place). readyNum (x .stand)));
+      next = ap (λ (c : struct.Board). length (c .next)) (sym (s .spells)) ∙ length-tab 64 (λ i. behind i (m .orders (blockClass (at m i))));
+      heads = ap (λ (c : struct.Board). length (c .heads)) (sym (s .spells)) ∙ length-tab 17 (λ k. firstLink (m .orders k));
+      tails = ap (λ (c : struct.Board). length (c .tails)) (sym (s .spells)) ∙ length-tab 17 (λ k. lastLink (m .orders k));
+      held = ap (λ (c : struct.Board). length (c .held)) (sym (s .spells)) ∙ length-tab 17 (m .held);
+    }
+  where
+    m : Board.Board
+    m = view b ids lens
+
+    l : List Place
+    l = tab 64 (placeOf b ids lens)
+
+    at64 : (f : struct.Board → List ℕ) → length (f (encode (view b ids lens))) ≡ length (tab 64 (placeOf b ids lens)) → length (f b) ≡ 64
+    at64 f e = ap (λ (c : struct.Board). length (f c)) (sym (s .spells)) ∙ e ∙ length-tab 64 (placeOf b ids lens)
+
+-- so the test passes, and neither 3 nor 2 is found of it
+pub sound-known : (b : struct.Board) (ids lens : List ℕ) → Known b ids lens → soundTest b ids lens ≡ true
+sound-known b ids lens k = sound-decides b ids lens (sized-of b ids lens (k .sound)) (k .ids-all) (k .lens-all) .no (k .sound)
+
+pub early-none : (b : struct.Board) (ids lens : List ℕ) → Known b ids lens → earlyCode b ids lens ≡ 0
+unfolding earlyCode
+early-none b ids lens k = rw (k .ids-all, k .lens-all, sound-known b ids lens k)

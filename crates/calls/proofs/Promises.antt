@@ -37,7 +37,7 @@ module _ (b : struct.Board) (ids lens : List ℕ) (known : Known b ids lens) whe
   abbrev m : Board.Board
   m = view b ids lens
 
-  spells : encode (view b ids lens) ≡ b
+  pub spells : encode (view b ids lens) ≡ b
   spells = known .sound .spells
 
   fit : Fit (view b ids lens)
@@ -50,10 +50,10 @@ module _ (b : struct.Board) (ids lens : List ℕ) (known : Known b ids lens) whe
   pub can-known : CanServe (b .shares) lens (b .largest) (engineOf b)
   can-known = subst (λ (c : struct.Board). CanServe (c .shares) lens (c .largest) (engineOf c)) spells (can-serve m fit ids lens holds (known .lens-all))
 
-  by-cases : (bytes room : ℕ) (w : Within) → w ≡ within b lens bytes room → Stops m bytes room w ⊎ Goes m ids lens bytes room w
+  pub by-cases : (bytes room : ℕ) (w : Within) → w ≡ within b lens bytes room → Stops m bytes room w ⊎ Goes m ids lens bytes room w
   by-cases bytes room w e = subst (λ (x : Within). Stops m bytes room x ⊎ Goes m ids lens bytes room x) (ap (λ (c : struct.Board). within c lens bytes room) spells ∙ sym e) (within-by m fit ids lens holds bytes room)
 
-  after-is : (w : Within) → withEngine (encode m) (engineAfter w) ≡ encode (serve m .next) → withEngine b (engineAfter w) ≡ encode (serve m .next)
+  pub after-is : (w : Within) → withEngine (encode m) (engineAfter w) ≡ encode (serve m .next) → withEngine b (engineAfter w) ≡ encode (serve m .next)
   after-is w e = ap (λ (c : struct.Board). withEngine c (engineAfter w)) (sym spells) ∙ e
 
   -- where a record is sent: its place, and its entry in both tables
@@ -94,7 +94,7 @@ module _ (b : struct.Board) (ids lens : List ℕ) (known : Known b ids lens) whe
             block : getD (b .numbers) (w .step .place) 0 ≡ at m (w .step .place) .number
             block = ap (λ (c : struct.Board). getD (c .numbers) (w .step .place) 0) (sym spells) ∙ number-of m (w .step .place)
 
-  known-next : Holds (serve m .next) ids lens → Known (encode (serve m .next)) ids lens
+  pub known-next : Holds (serve m .next) ids lens → Known (encode (serve m .next)) ids lens
   known-next h = known-encode (serve m .next) ids lens (fit-serve m fit) h (known .ids-all) (known .lens-all)
 
   -- AFTER A SERVE the board is not spoilt, and reads as the rules' next board

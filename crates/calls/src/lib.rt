@@ -333,7 +333,7 @@ fn burst_board(bytes: u64, list: &mut [u32], ids: &[u32], lens: &[u16], b: Board
 // ---- The public calls
 
 // The code that comes before all others: 3, 2, or 0 where the board is known to be good.
-fn early(ids: &[u32], lens: &[u16], b: Board) -> u8
+pub fn early(ids: &[u32], lens: &[u16], b: Board) -> u8
     ensures { λ r. ⌜ (r ≡ earlyCode b (now (ids .entry)) (now (lens .entry))) × (r ≡ 0 → Known b (now (ids .entry)) (now (lens .entry))) ⌝ }
 {
     if ids.len() != 2048 {

@@ -37,39 +37,8 @@ use Rattle.chains.specs.Demands.{reads}
 use Rattle.calls.proofs.Next.{Follows, call-follows}
 use Rattle.calls.proofs.Making.{Starts, made-starts}
 use Rattle.calls.proofs.Calling
-use Rattle.calls.proofs.Calling.{called-known}
+use Rattle.calls.proofs.Calling.{early-none, called-known}
 use Rattle.calls.proofs.Promises
-
--- a value that is not spoilt has arrays of the right lengths
-sized-of : (b : struct.Board) (ids lens : List ℕ) → Sound b ids lens → Sized b
-unfolding encode view
-sized-of b ids lens s =
-    record {
-      numbers = at64 (λ c. c .numbers) (length-map l (λ (x : Place). x .number));
-      shares = at64 (λ c. c .shares) (length-map l (λ (x : Place). x .share));
-      deficits = at64 (λ c. c .deficits) (length-map l (λ (x : Place). x .deficit));
-      starts = at64 (λ c. c .starts) (length-map l (λ (x : Place). x .start));
-      counts = at64 (λ c. c .counts) (length-map l (λ (x : Place). length (x .lane)));
-      ready = at64 (λ c. c .ready) (length-map l (λ (x : Place). readyNum (x .stand)));
-      next = ap (λ (c : struct.Board). length (c .next)) (sym (s .spells)) ∙ length-tab 64 (λ i. behind i (m .orders (blockClass (at m i))));
-      heads = ap (λ (c : struct.Board). length (c .heads)) (sym (s .spells)) ∙ length-tab 17 (λ k. firstLink (m .orders k));
-      tails = ap (λ (c : struct.Board). length (c .tails)) (sym (s .spells)) ∙ length-tab 17 (λ k. lastLink (m .orders k));
-      held = ap (λ (c : struct.Board). length (c .held)) (sym (s .spells)) ∙ length-tab 17 (m .held);
-    }
-  where
-    m : Board.Board
-    m = view b ids lens
-
-    l : List Place
-    l = tab 64 (placeOf b ids lens)
-
-    at64 : (f : struct.Board → List ℕ) → length (f (encode (view b ids lens))) ≡ length (tab 64 (placeOf b ids lens)) → length (f b) ≡ 64
-    at64 f e = ap (λ (c : struct.Board). length (f c)) (sym (s .spells)) ∙ e ∙ length-tab 64 (placeOf b ids lens)
-
--- so neither 3 nor 2 is found of it
-pub early-none : (b : struct.Board) (ids lens : List ℕ) → Known b ids lens → earlyCode b ids lens ≡ 0
-unfolding earlyCode
-early-none b ids lens k = rw (k .ids-all, k .lens-all, sound-decides b ids lens (sized-of b ids lens (k .sound)) (k .ids-all) (k .lens-all) .no (k .sound))
 
 -- ---- what a reply tells is what the rules tell
 

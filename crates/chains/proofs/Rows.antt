@@ -23,7 +23,8 @@ use Rattle.calls.specs.Contract.{BurstOutcome, burstNow, goodBurst, calledServe
 use Rattle.calls.proofs.Calling
 use Rattle.chains.specs.Chains.{Holding, servedTells, burstTells, Did, byReply, byServe, byBurst, Chain, stops, goes, Made, answersOf}
 use Rattle.chains.specs.Demands.{reads, bytesOf, bytesIn, slotBytes, NotSpent, Unsent, story, Spelt, over, single, asServes, Row, BurstIs}
-use Rattle.chains.proofs.Chains.{KnownHolding, Agrees, did-agrees, early-none, chain-from, chain-is-run, chain-of-run}
+use Rattle.calls.proofs.Calling.{early-none}
+use Rattle.chains.proofs.Chains.{KnownHolding, Agrees, did-agrees, chain-from, chain-is-run, chain-of-run}
 
 -- ---- lists
 

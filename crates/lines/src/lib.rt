@@ -26,7 +26,8 @@ fn put_number(line: &mut [u8], at: usize, n: u64) -> usize
     put_byte(line, next, (48 + n % 10) as u8)
 }
 
-fn put_text(line: &mut [u8], at: usize, text: &[u8]) -> usize
+// A text at an offset of a list that has room for it.
+pub fn put_text(line: &mut [u8], at: usize, text: &[u8]) -> usize
     requires { ⌜ at + length (now text) ≤ length (now line) ⌝ }
     ensures { λ r. ⌜ Written (now (line .entry)) at (now (text .entry)) r (now (line .exit)) ⌝ }
 {
@@ -63,35 +64,35 @@ fn put_line(line: &mut [u8], word: &[u8], numbers: &[u64]) -> usize
 }
 
 pub fn put_open(line: &mut [u8; 64], block: u32, code: u8) -> usize
-    ensures { λ r. ⌜ Line (now (line .entry)) (openLine block code) r (now (line .exit)) ⌝ }
+    ensures { λ r. ⌜ Line (now (line .entry)) (openLine block code) r (now (line .exit)) × (r ≤ 64) ⌝ }
 {
     let numbers = [block as u64, code as u64];
     put_line(line, b"open", &numbers)
 }
 
 pub fn put_close(line: &mut [u8; 64], block: u32, code: u8) -> usize
-    ensures { λ r. ⌜ Line (now (line .entry)) (closeLine block code) r (now (line .exit)) ⌝ }
+    ensures { λ r. ⌜ Line (now (line .entry)) (closeLine block code) r (now (line .exit)) × (r ≤ 64) ⌝ }
 {
     let numbers = [block as u64, code as u64];
     put_line(line, b"close", &numbers)
 }
 
 pub fn put_name(line: &mut [u8; 64], old: u32, new: u32, code: u8) -> usize
-    ensures { λ r. ⌜ Line (now (line .entry)) (nameLine old new code) r (now (line .exit)) ⌝ }
+    ensures { λ r. ⌜ Line (now (line .entry)) (nameLine old new code) r (now (line .exit)) × (r ≤ 64) ⌝ }
 {
     let numbers = [old as u64, new as u64, code as u64];
     put_line(line, b"name", &numbers)
 }
 
 pub fn put_in(line: &mut [u8; 64], number: u32, code: u8) -> usize
-    ensures { λ r. ⌜ Line (now (line .entry)) (inLine number code) r (now (line .exit)) ⌝ }
+    ensures { λ r. ⌜ Line (now (line .entry)) (inLine number code) r (now (line .exit)) × (r ≤ 64) ⌝ }
 {
     let numbers = [number as u64, code as u64];
     put_line(line, b"in", &numbers)
 }
 
 pub fn put_out(line: &mut [u8; 64], block: u32, number: u32, len: u16, clock: u64) -> usize
-    ensures { λ r. ⌜ Line (now (line .entry)) (outLine block number len clock) r (now (line .exit)) ⌝ }
+    ensures { λ r. ⌜ Line (now (line .entry)) (outLine block number len clock) r (now (line .exit)) × (r ≤ 64) ⌝ }
 {
     let numbers = [block as u64, number as u64, len as u64, clock];
     put_line(line, b"out", &numbers)
@@ -99,28 +100,28 @@ pub fn put_out(line: &mut [u8; 64], block: u32, number: u32, len: u16, clock: u6
 
 // A serve that was refused.
 pub fn put_refused(line: &mut [u8; 64], code: u8) -> usize
-    ensures { λ r. ⌜ Line (now (line .entry)) (refusedLine code) r (now (line .exit)) ⌝ }
+    ensures { λ r. ⌜ Line (now (line .entry)) (refusedLine code) r (now (line .exit)) × (r ≤ 64) ⌝ }
 {
     let numbers = [code as u64];
     put_line(line, b"out -", &numbers)
 }
 
 pub fn put_end(line: &mut [u8; 64], clock: u64, bytes: u64, waiting: u32) -> usize
-    ensures { λ r. ⌜ Line (now (line .entry)) (endLine clock bytes waiting) r (now (line .exit)) ⌝ }
+    ensures { λ r. ⌜ Line (now (line .entry)) (endLine clock bytes waiting) r (now (line .exit)) × (r ≤ 64) ⌝ }
 {
     let numbers = [clock, bytes, waiting as u64];
     put_line(line, b"end", &numbers)
 }
 
 pub fn put_broken(line: &mut [u8; 64], offset: u64) -> usize
-    ensures { λ r. ⌜ Line (now (line .entry)) (brokenLine offset) r (now (line .exit)) ⌝ }
+    ensures { λ r. ⌜ Line (now (line .entry)) (brokenLine offset) r (now (line .exit)) × (r ≤ 64) ⌝ }
 {
     let numbers = [offset];
     put_line(line, b"broken", &numbers)
 }
 
 pub fn put_long(line: &mut [u8; 64]) -> usize
-    ensures { λ r. ⌜ Line (now (line .entry)) longLine r (now (line .exit)) ⌝ }
+    ensures { λ r. ⌜ Line (now (line .entry)) longLine r (now (line .exit)) × (r ≤ 64) ⌝ }
 {
     let numbers = [0u64; 0];
     put_line(line, b"long", &numbers)

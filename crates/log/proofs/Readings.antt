@@ -157,7 +157,7 @@ turn-later (Arrive a b n) h = refl
 turn-later Serve h = refl
 turn-later Passed h = refl
 
-turn-first : (e : Event) → inTurn e false ≡ true → (l : ℕ) × ((e ≡ Largest l) × ((64 ≤ l) × (l ≤ 2048)))
+pub turn-first : (e : Event) → inTurn e false ≡ true → (l : ℕ) × ((e ≡ Largest l) × ((64 ≤ l) × (l ≤ 2048)))
 unfolding inTurn
 turn-first (Largest l) h = (l, (refl, (leb-true 64 l (and-left _ (leb l 2048) h), leb-true l 2048 (and-right (leb 64 l) _ h))))
 turn-first (Open a b) h = differ (sym h)

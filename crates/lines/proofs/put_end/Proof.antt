@@ -17,7 +17,7 @@ slice-aggregate-put-line-2 c = search needs
 
 returns : tie.Need-returns
 unfolding endLine
-returns c = c .put-line .ensures
+returns c = (c .put-line .ensures, omega (arith, c .put-line .ensures .counts, end-fits (c .before .before .before .before .args .clock) (c .before .before .before .before .args .bytes) (c .before .before .before .before .args .waiting) (c .before .before .before .before .fits .clock .fits) (c .before .before .before .before .fits .bytes .fits) (c .before .before .before .before .fits .waiting .fits)))
 
 put-line-requires : tie.Need-put-line-requires
 unfolding endLine

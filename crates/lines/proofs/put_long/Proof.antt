@@ -17,7 +17,7 @@ slice-aggregate-put-line-2 c = search needs
 
 returns : tie.Need-returns
 unfolding longLine
-returns c = c .put-line .ensures
+returns c = (c .put-line .ensures, omega (arith, c .put-line .ensures .counts, long-fits))
 
 put-line-requires : tie.Need-put-line-requires
 unfolding longLine

@@ -17,7 +17,7 @@ slice-aggregate-put-line-2 c = search needs
 
 returns : tie.Need-returns
 unfolding nameLine
-returns c = c .put-line .ensures
+returns c = (c .put-line .ensures, omega (arith, c .put-line .ensures .counts, name-fits (c .before .before .before .before .args .old) (c .before .before .before .before .args .new) (c .before .before .before .before .args .code) (c .before .before .before .before .fits .old .fits) (c .before .before .before .before .fits .new .fits) (c .before .before .before .before .fits .code .fits)))
 
 put-line-requires : tie.Need-put-line-requires
 unfolding nameLine

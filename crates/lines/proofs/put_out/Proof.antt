@@ -17,7 +17,7 @@ slice-aggregate-put-line-2 c = search needs
 
 returns : tie.Need-returns
 unfolding outLine
-returns c = c .put-line .ensures
+returns c = (c .put-line .ensures, omega (arith, c .put-line .ensures .counts, out-fits (c .before .before .before .before .args .block) (c .before .before .before .before .args .number) (c .before .before .before .before .args .len) (c .before .before .before .before .args .clock) (c .before .before .before .before .fits .block .fits) (c .before .before .before .before .fits .number .fits) (c .before .before .before .before .fits .len .fits) (c .before .before .before .before .fits .clock .fits)))
 
 put-line-requires : tie.Need-put-line-requires
 unfolding outLine

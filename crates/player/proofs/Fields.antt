@@ -1,0 +1,192 @@
+-- A field played by the engine's steps is a field played by the rules.
+use mathlib.Core.Path.{_≡_, refl, sym, ap, ap₂, subst, _∙_}
+use mathlib.Core.Bool.{Bool, true, false, true≢false, false≢true}
+use mathlib.Core.Logic.{_⊎_, inl, inr, _≢_}
+use mathlib.Core.List.{List, []}
+use Prim.Native.Nat.{ℕ, _+_, _≤_, _<_}
+use native.Mathlib.Nat.{add-zero}
+use native.Mathlib.Omega.{arith}
+use lib.ListN.{length, getD, take, drop}
+use borrow.Author.Tests.{eq-eqb, ne-eqb}
+use Rattle.units.specs.Credit.{charged}
+use Rattle.rules.specs.Board
+use Rattle.rules.specs.Board.{Record, at, charge}
+use Rattle.rules.specs.Choice.{refused, sent, Turn, send, serve}
+use Rattle.rules.specs.Calls.{Single, open!, rename!, close!, record!, serve!, step, Answer, told, codeOf}
+use Rattle.rules.specs.Runs.{isServe, answer, bytesOf}
+use Rattle.rules.proofs.Cases.{call-cases}
+use Rattle.rules.proofs.Tidy.{Tidy}
+use Rattle.board.specs.declared.Board as struct
+use Rattle.board.specs.Reading.{encode, view}
+use Rattle.board.proofs.Reading.{view-encode}
+use Rattle.board.proofs.Sound.{fit-view}
+use Rattle.log.specs.declared.Event.{Event}
+use Rattle.log.specs.declared.Event.the-variants.{Largest, Open, Close, Rename, Arrive, Serve, Passed}
+use Rattle.log.specs.Format.{inTurn}
+use Rattle.lines.specs.Text.{Line}
+use Rattle.lines.specs.Listing.{openLine, closeLine, nameLine, inLine, outLine, refusedLine}
+use Rattle.engine.specs.Steps.{takingOf, withTaking, blocksOf, Recording, recordedIn}
+use Rattle.engine.specs.Opening.{Renaming, renamedIn, withRenaming, Opening, openedIn, withOpening, Closing, closedIn, withClosing}
+use Rattle.engine.specs.Serving.{engineOf, withEngine, Within, engineAfter}
+use Rattle.engine.proofs.Serves.{number-of}
+use Rattle.engine.proofs.Within.{fit-serve, Stops, Goes}
+use Rattle.calls.specs.declared.Reply.{Reply}
+use Rattle.calls.specs.Promises.{Returned, returned, replied, Known, ruled}
+use Rattle.calls.specs.Contract.{goodServe}
+use Rattle.calls.proofs.Known.{record-known, rename-known, open-known, close-known}
+use Rattle.calls.proofs.Next.{Follows, call-follows}
+use Rattle.calls.proofs.Promises.{within, spells, by-cases, after-is, known-next, serve-known}
+use Rattle.plays.specs.Listing.{Playing, after, played, lineOf, servedLine}
+use Rattle.player.specs.Fields.{Stand, stand, reads, Good, Plays, shownLine}
+
+-- only a serve sends bytes
+abbrev Sends : Board.Board → Single → Turn → Type 0
+Sends m x t = isServe x ≡ false → bytesOf (told m (t .out)) ≡ 0
+
+none-sent : (m : Board.Board) → Tidy m → (x : Single) → Sends m x (step m x)
+unfolding send
+none-sent m t = call-cases m t (Sends m) (record {
+  refused = λ x code n e. refl;
+  opens = λ n s can e. refl;
+  renames = λ p old new can e. refl;
+  closes = λ p n can e. refl;
+  takes = λ p n x can e. refl;
+  goesOn = λ p on e. absurd (true≢false e);
+  begins = λ r t p on q e. absurd (true≢false e);
+})
+
+-- L is not read twice
+pub no-second : (l : ℕ) → inTurn (Largest l) true ≡ true → ⊥
+unfolding inTurn
+no-second l e = absurd (false≢true e)
+
+refused-board : (b : struct.Board) (ids lens : List ℕ) (code : ℕ) → serve (view b ids lens) .out ≡ refused code → goodServe b ids lens .board ≡ b
+unfolding goodServe
+refused-board b ids lens code e = rw e refl
+
+step-serve : (m : Board.Board) → step m serve! ≡ serve m
+unfolding step
+step-serve m = refl
+
+charge-is : (r : Record) → charge r ≡ charged (r .bytes)
+unfolding charge
+charge-is r = refl
+
+module _ (s : Stand) (k : Good s) (before : List ℕ) (count : ℕ) (line : List ℕ) (few : count ≤ 64) where
+  abbrev m : Board.Board
+  m = view (s .board) (s .ids) (s .lens)
+
+  -- ---- A call that is no serve: e is its event, and shows the line that the event gives with a code
+
+  by-call : (x : Single) → isServe x ≡ false → (code : ℕ) (b : struct.Board) (ids lens : List ℕ) → returned (replied code b) ids lens ≡ ruled (s .board) (s .ids) (s .lens) x
+      → (e : Event) → played (reads s) e ≡ after (reads s) x → (shows : ℕ → List ℕ) → lineOf (reads s) e ≡ shows (codeOf (answer m x)) → Line before (shows code) count line
+      → Plays s e (stand b ids lens (s .sent)) before count line
+  by-call x quiet code b ids lens r e p shows q l = record {
+    good = subst (λ (w : Returned Reply). Known (w .reply .board) (w .ids) (w .lens)) (sym r) (f .good);
+    next = (λ j. record { board = (ap (λ (w : Returned Reply). view (w .reply .board) (w .ids) (w .lens)) r ∙ f .reads) j; sent = same j }) ∙ sym p;
+    line = subst (λ (t : List ℕ). Line before t count line) (ap shows code-is ∙ sym q) l;
+    short = few;
+    more = omega arith;
+  }
+    where
+      f : Follows (s .board) (s .ids) (s .lens) (ruled (s .board) (s .ids) (s .lens) x) (step m x)
+      f = call-follows (s .board) (s .ids) (s .lens) k x quiet
+
+      code-is : code ≡ codeOf (answer m x)
+      code-is = ap (λ (w : Returned Reply). w .reply .code) r ∙ f .code
+
+      same : s .sent ≡ s .sent + bytesOf (answer m x)
+      same = rw (none-sent m (fit-view (s .board) (s .ids) (s .lens) (k .sound) .tidy) x quiet) (sym (add-zero (s .sent)))
+
+  pub open-plays : (block share : ℕ) (x : Opening) → x ≡ openedIn (s .board .numbers) (s .board .shares) (s .board .held) block share → Line before (openLine block (x .code)) count line
+      → Plays s (Open block share) (stand (withOpening (s .board) x) (s .ids) (s .lens) (s .sent)) before count line
+  open-plays block share x e l = by-call (open! block share) refl (x .code) (withOpening (s .board) x) (s .ids) (s .lens) (open-known (s .board) (s .ids) (s .lens) k block share x e) (Open block share) refl (openLine block) refl l
+
+  pub close-plays : (block : ℕ) (x : Closing) → x ≡ closedIn (s .board .active) (s .board .numbers) (s .board .shares) (s .board .starts) (s .board .counts) (s .board .held) block → Line before (closeLine block (x .code)) count line
+      → Plays s (Close block) (stand (withClosing (s .board) x) (s .ids) (s .lens) (s .sent)) before count line
+  close-plays block x e l = by-call (close! block) refl (x .code) (withClosing (s .board) x) (s .ids) (s .lens) (close-known (s .board) (s .ids) (s .lens) k block x e) (Close block) refl (closeLine block) refl l
+
+  pub rename-plays : (old new : ℕ) (x : Renaming) → x ≡ renamedIn (s .board .numbers) old new → Line before (nameLine old new (x .code)) count line
+      → Plays s (Rename old new) (stand (withRenaming (s .board) x) (s .ids) (s .lens) (s .sent)) before count line
+  rename-plays old new x e l = by-call (rename! old new) refl (x .code) (withRenaming (s .board) x) (s .ids) (s .lens) (rename-known (s .board) (s .ids) (s .lens) k old new x e) (Rename old new) refl (nameLine old new) refl l
+
+  pub record-plays : (block number bytes : ℕ) (x : Recording) → x ≡ recordedIn (blocksOf (s .board)) (s .board .largest) (s .board .clock) block number bytes (takingOf (s .board)) (s .ids) (s .lens) → Line before (inLine number (x .code)) count line
+      → Plays s (Arrive block number bytes) (stand (withTaking (s .board) (x .taking)) (x .ids) (x .lens) (s .sent)) before count line
+  record-plays block number bytes x e l = by-call (record! block (record { number = number; bytes = bytes })) refl (x .code) (withTaking (s .board) (x .taking)) (x .ids) (x .lens) (record-known (s .board) (s .ids) (s .lens) k block number bytes x e) (Arrive block number bytes) refl (inLine number) refl l
+
+  -- ---- A serve
+
+  module _ (w : Within) (w-is : w ≡ within (s .board) (s .lens) 65536 1) where
+    abbrev shown : List ℕ
+    shown = shownLine (w .step .code) (getD (s .board .numbers) (w .step .place) 0) (getD (s .ids) (w .step .entry) 0) (getD (s .lens) (w .step .entry) 0) (w .step .time)
+
+    abbrev next-board : struct.Board
+    next-board = withEngine (s .board) (engineAfter w)
+
+    -- what is to be shown of it
+    record ServeIs : Type 0 where
+      good : Known next-board (s .ids) (s .lens)
+      next : view next-board (s .ids) (s .lens) ≡ serve m .next
+      bytes : w .step .bytes .0 ≡ bytesOf (told m (serve m .out))
+      shows : shown ≡ servedLine (told m (serve m .out))
+      small : w .step .bytes .0 ≤ 65536
+
+    refusal : Stops m 65536 1 w → serve m .out ≡ refused (w .step .code) → ServeIs
+    refusal x out! = record {
+      good = subst (λ (c : struct.Board). Known c (s .ids) (s .lens)) (sym same) k;
+      next = ap (λ (c : struct.Board). view c (s .ids) (s .lens)) same ∙ subst (λ (c : struct.Board). view c (s .ids) (s .lens) ≡ serve m .next) (refused-board (s .board) (s .ids) (s .lens) (w .step .code) out!) (serve-known (s .board) (s .ids) (s .lens) k .1);
+      bytes = none ∙ rw out! refl;
+      shows = rw (ne-eqb (w .step .code) 0 (x .code), out!) refl;
+      small = omega (arith, none);
+    }
+      where
+        none : w .step .bytes .0 ≡ 0
+        none = ap (λ (y : Within). y .step .bytes .0) (x .same)
+
+        same : withEngine (s .board) (engineAfter w) ≡ s .board
+        same = ap (λ (y : Within). withEngine (s .board) (engineAfter y)) (x .same) ∙ ap (λ (c : struct.Board). withEngine c (engineOf (encode m))) (sym (spells (s .board) (s .ids) (s .lens) k)) ∙ spells (s .board) (s .ids) (s .lens) k
+
+    sending : Goes m (s .ids) (s .lens) 65536 1 w → ServeIs
+    sending g = record {
+      good = subst (λ (c : struct.Board). Known c (s .ids) (s .lens)) (sym next-is) (known-next (s .board) (s .ids) (s .lens) k (g .holds));
+      next = ap (λ (c : struct.Board). view c (s .ids) (s .lens)) next-is ∙ view-encode (serve m .next) (s .ids) (s .lens) (fit-serve m (fit-view (s .board) (s .ids) (s .lens) (k .sound))) (g .holds);
+      bytes = g .charge-is ∙ rw (g .out) (charge-is (g .sends));
+      shows = rw (eq-eqb (w .step .code) 0 (g .code), g .out, g .number-is, g .bytes-is, block) refl;
+      small = rw (g .charge-is) (g .fits);
+    }
+      where
+        next-is : withEngine (s .board) (engineAfter w) ≡ encode (serve m .next)
+        next-is = after-is (s .board) (s .ids) (s .lens) k w (g .next)
+
+        block : getD (s .board .numbers) (w .step .place) 0 ≡ at m (w .step .place) .number
+        block = ap (λ (c : struct.Board). getD (c .numbers) (w .step .place) 0) (sym (spells (s .board) (s .ids) (s .lens) k)) ∙ number-of m (w .step .place)
+
+    serve-is : ServeIs
+    serve-is = go (by-cases (s .board) (s .ids) (s .lens) k 65536 1 w w-is)
+      where
+        why : Stops m 65536 1 w → (serve m .out ≡ refused (w .step .code)) ⊎ ((_≡_ {A = ℕ} 1 0) ⊎ ((r : Record) × (65536 < charge r) × (charge r < 65536))) → ServeIs
+        why x (inl e) = refusal x e
+        why x (inr (inl z)) = absurd (omega arith)
+        why x (inr (inr y)) = absurd (omega (arith, y .1, y .2))
+
+        go : Stops m 65536 1 w ⊎ Goes m (s .ids) (s .lens) 65536 1 w → ServeIs
+        go (inl x) = why x (x .why)
+        go (inr g) = sending g
+
+    -- no record is charged more than any
+    pub serve-small : w .step .bytes .0 ≤ 65536
+    serve-small = serve-is .small
+
+    pub serve-plays : Line before shown count line → Plays s Serve (stand next-board (s .ids) (s .lens) (s .sent + w .step .bytes .0)) before count line
+    serve-plays l = record {
+      good = serve-is .good;
+      next = (λ j. record { board = serve-is .next j; sent = s .sent + serve-is .bytes j }) ∙ ap (λ (t : Turn). record { board = t .next; sent = s .sent + bytesOf (told m (t .out)) }) (sym (step-serve m));
+      line = subst (λ (t : List ℕ). Line before t count line) (serve-is .shows ∙ ap (λ (t : Turn). servedLine (told m (t .out))) (sym (step-serve m))) l;
+      short = few;
+      more = omega (arith, serve-is .small);
+    }
+
+  -- ---- What is passed over
+
+  pub passed-plays : count ≡ 0 → line ≡ before → Plays s Passed s before count line
+  passed-plays z same = record { good = k; next = refl; line = record { counts = z; text = rw z refl; rest = rw (z, same) refl }; short = few; more = omega arith }

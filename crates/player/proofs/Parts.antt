@@ -1,0 +1,348 @@
+-- The code of a part, and what is written field by field is the listing.
+use mathlib.Core.Path.{_≡_, refl, sym, ap, ap₂, subst, _∙_}
+use mathlib.Core.Bool.{Bool, true, false, cond, not, _&&_, _||_, true≢false}
+use mathlib.Core.Logic.{_⊎_, inl, inr, _≢_}
+use mathlib.Core.List.{List, [], _∷_, _++_, append-assoc, append-nil}
+use Prim.Native.Nat.{ℕ, zero, suc, _+_, _-_, _/_, _^_, _≤_, _<_}
+use native.Mathlib.Omega.{arith}
+use native.Mathlib.Decide.{ℕ-discrete}
+use lib.Dec.{ltb, leb}
+use lib.ListN.{length, take, drop, length-append}
+use borrow.Author.Tests.{ne-eqb, le-ltb, ltb-true}
+use Rattle.base.proofs.Numbers.{false-lt}
+use Rattle.rules.specs.Board
+use Rattle.rules.specs.Board.{Place, fresh}
+use Rattle.rules.specs.Calls.{wrongTables, make}
+use Rattle.board.specs.declared.Board as struct
+use Rattle.board.specs.Reading.{encode, view}
+use Rattle.sound.specs.Test.{soundTest}
+use types.Run.{OneOf, miss}
+use denote.Enum.Declared.{tagOf}
+use Rattle.log.proofs.Event.{the-type}
+use Rattle.log.specs.declared.Event.{Event}
+use Rattle.log.specs.declared.Event.the-variants.{Largest}
+use Rattle.log.specs.declared.Field.the-variants.{Whole, Broken}
+use Rattle.log.specs.Format.{inTurn, isLong, fieldAt}
+use Rattle.log.specs.Rows.{atEnd}
+use Rattle.log.proofs.Fields.{whole-is, whole-next, broken-at}
+use Rattle.log.proofs.Readings.{unbegun, turn-first}
+use Rattle.lines.specs.Text.{Written, Line}
+use Rattle.lines.specs.Listing.{endLine, brokenLine, longLine}
+use Rattle.lines.proofs.Texts.{none, then, from-front}
+use Rattle.engine.specs.Opening.{totalOf}
+use Rattle.engine.proofs.Sums.{total-map}
+use Rattle.calls.specs.declared.Reply.{Reply}
+use Rattle.calls.specs.Promises.{Returned, returned, Known, earlyCode, made}
+use Rattle.calls.proofs.Calling.{right-tables, sound-known, early-none}
+use Rattle.calls.proofs.Making.{none-wrong, Starts, made-starts}
+use Rattle.plays.specs.Listing.{Playing, unmade, waiting, listingFrom, listingOf}
+use Rattle.plays.proofs.Listing.{listing-whole, listing-broken, listing-end, listing-long, listing-first}
+use Rattle.player.specs.declared.State.{State}
+use Rattle.player.specs.declared.Part.{Part}
+use Rattle.player.specs.Fields.{Stand, stand, reads, Good, Plays}
+use Rattle.player.specs.Parts.{begins, readTo, leftOf, leftAfter, unfit, partCode, Ready, refusedPart, endedPart, PartDone, PartOf, Parts, last, more, howMany, Roomy}
+
+-- ---- The code, test by test
+module _ (len : ℕ) (s : State) (ids lens : List ℕ) (a : length ids ≡ 2048) (d : length lens ≡ 2048) where
+  tables-right : partCode len s ids lens ≡ cond (s .begun) (cond (unfit len s ids lens) 2 0) 0
+  unfolding partCode
+  tables-right = ap (λ (t : Bool). cond t 3 (cond (s .begun) (cond (unfit len s ids lens) 2 0) 0)) (none-wrong (length ids) (length lens) a d)
+
+  pub code-unbegun : s .begun ≡ false → 0 ≡ partCode len s ids lens
+  code-unbegun e = sym (tables-right ∙ ap (λ (t : Bool). cond t (cond (unfit len s ids lens) 2 0) 0) e)
+
+  module _ (b : s .begun ≡ true) where
+    begun-code : partCode len s ids lens ≡ cond (unfit len s ids lens) 2 0
+    begun-code = tables-right ∙ ap (λ (t : Bool). cond t (cond (unfit len s ids lens) 2 0) 0) b
+
+    pub code-long : isLong len ≡ true → 2 ≡ partCode len s ids lens
+    code-long e = sym (begun-code ∙ ap (λ (t : Bool). cond (t || (ltb (s .at) (s .sent / 65536) || not (soundTest (s .board) ids lens))) 2 0) e)
+
+    module _ (short : isLong len ≡ false) where
+      short-code : partCode len s ids lens ≡ cond (ltb (s .at) (s .sent / 65536) || not (soundTest (s .board) ids lens)) 2 0
+      short-code = begun-code ∙ ap (λ (t : Bool). cond (t || (ltb (s .at) (s .sent / 65536) || not (soundTest (s .board) ids lens))) 2 0) short
+
+      pub code-bytes : ltb (s .at) (s .sent / 65536) ≡ true → 2 ≡ partCode len s ids lens
+      code-bytes e = sym (short-code ∙ ap (λ (t : Bool). cond (t || not (soundTest (s .board) ids lens)) 2 0) e)
+
+      code-board : ltb (s .at) (s .sent / 65536) ≡ false → (t : Bool) → soundTest (s .board) ids lens ≡ t → _≡_ {A = ℕ} (cond t 0 2) (partCode len s ids lens)
+      code-board e t q = sym (short-code ∙ ap₂ (λ (x y : Bool). cond (x || not y) 2 0) e q ∙ flip t)
+        where
+          flip : (y : Bool) → _≡_ {A = ℕ} (cond (false || not y) 2 0) (cond y 0 2)
+          flip true = refl
+          flip false = refl
+
+      pub code-early : ltb (s .at) (s .sent / 65536) ≡ false → earlyCode (s .board) ids lens ≡ partCode len s ids lens
+      unfolding earlyCode
+      code-early e = ap (λ (t : Bool). cond t 3 (cond (soundTest (s .board) ids lens) 0 2)) (none-wrong (length ids) (length lens) a d) ∙ code-board e (soundTest (s .board) ids lens) refl
+
+-- ---- A part that ends the listing
+
+module _ (log : List ℕ) (s : State) (ids lens out : List ℕ) (used : ℕ) (whole : List ℕ) (is : leftOf log s ids lens ≡ whole) where
+  pub ended-done : (ids′ lens′ out′ : List ℕ) → length whole ≤ length out → Written out 0 whole used out′ → PartDone log s ids lens out (endedPart used s) ids′ lens′ out′
+  unfolding leftAfter
+  ended-done ids′ lens′ out′ h w = record {
+    done = refl;
+    fits = omega (arith, w .ends);
+    joined = append-nil (take used out′) ∙ l .text ∙ sym is;
+    rest = l .rest;
+    goesOn = λ e. absurd (true≢false e);
+    moves = λ e. absurd (true≢false e);
+  }
+    where
+      l : Line out whole used out′
+      l = from-front out whole out′ used h w
+
+-- ---- A part under way: what is written so far, and the listing of what follows, is what was left at its beginning
+
+pub record UnderWay (log whole : List ℕ) (from : ℕ) (out₀ : List ℕ) (s : Stand) (at used : ℕ) (out : List ℕ) : Type 0 where
+  pub good : Good s
+  pub text : List ℕ
+  pub written : Written out₀ 0 text used out
+  pub joined : text ++ listingFrom (reads s) log at true ≡ whole
+  pub fits : used ≤ length out₀
+  pub same : length out ≡ length out₀
+  pub few : s .sent / 65536 ≤ at
+  pub moved : ((from < at) × (at ≤ length log)) ⊎ ((from ≡ at) × (used ≡ 0))
+
+pub under-first : (log : List ℕ) (s : Stand) (at : ℕ) (out : List ℕ) → Good s → s .sent / 65536 ≤ at → UnderWay log (listingFrom (reads s) log at true) at out s at 0 out
+under-first log s at out k few! = record { good = k; text = []; written = none out 0; joined = refl; fits = omega arith; same = refl; few = few!; moved = inr (refl, refl) }
+
+-- the front of a buffer that has a line is as long as the line says
+line-count : {before line after : List ℕ} {count : ℕ} → Line before line count after → length (take count after) ≡ count
+line-count l = ap length (l .text) ∙ sym (l .counts)
+
+module _ (log whole : List ℕ) (from : ℕ) (out₀ : List ℕ) (s : Stand) (at used : ℕ) (out : List ℕ) (u : UnderWay log whole from out₀ s at used out) where
+  pub under-room : 64 ≤ length out - used → used + 64 ≤ length out
+  under-room h = omega (arith, u .fits, u .same)
+
+  pub under-fits : 64 ≤ length out - used → (count : ℕ) → count ≤ 64 → used + count ≤ length out
+  under-fits h count few = omega (arith, under-room h)
+
+  -- the sum of bytes is far below its limit while the log goes on
+  pub under-small : (e : Event) (next : ℕ) → fieldAt log at true ≡ Whole e next → isLong (length log) ≡ false → s .sent < 2 ^ 63
+  unfolding isLong
+  under-small e next f h = omega (arith, u .few, whole-next log at true e next f, false-lt 32769 (length log) h)
+
+  -- one line more
+  module _ (before text line : List ℕ) (count used′ : ℕ) (out′ : List ℕ) (l : Line before text count line) (few : count ≤ 64) (room : used + 64 ≤ length out) (w : Written out used (take count line) used′ out′) where
+    short : length (take count line) ≤ 64
+    short = omega (arith, line-count l)
+
+    wrote : Written out₀ 0 (u .text ++ take count line) used′ out′
+    wrote = then (u .text) (take count line) (u .written) w
+
+    wrote-fits : used′ ≤ length out₀
+    wrote-fits = omega (arith, w .ends, u .same, short)
+
+    text-fits : length (u .text ++ take count line) ≤ length out₀
+    text-fits = omega (arith, wrote .ends, wrote-fits)
+
+    -- a field is played, and the next one follows
+    pub under-next : (e : Event) (next : ℕ) → fieldAt log at true ≡ Whole e next → (n : Stand) → Plays s e n before count line → length out′ ≡ length out → UnderWay log whole from out₀ n next used′ out′
+    under-next e next f n p same! = record {
+      good = p .good;
+      text = u .text ++ take count line;
+      written = wrote;
+      joined = append-assoc (u .text) (take count line) (listingFrom (reads n) log next true) ∙ ap (λ (t : List ℕ). u .text ++ t) goes ∙ u .joined;
+      fits = wrote-fits;
+      same = same! ∙ u .same;
+      few = omega (arith, p .more, u .few, whole-next log at true e next f);
+      moved = inl (on (u .moved));
+    }
+      where
+        goes : take count line ++ listingFrom (reads n) log next true ≡ listingFrom (reads s) log at true
+        goes = ap₂ (λ (t : List ℕ) (q : Playing). t ++ listingFrom q log next true) (p .line .text) (p .next) ∙ sym (listing-whole (reads s) log at true e next f)
+
+        on : ((from < at) × (at ≤ length log)) ⊎ ((from ≡ at) × (used ≡ 0)) → (from < next) × (next ≤ length log)
+        on (inl h) = let w = whole-next log at true e next f in (omega (arith, h .0, w .0), w .1)
+        on (inr h) = let w = whole-next log at true e next f in (omega (arith, h .0, w .0), w .1)
+
+    -- or it is the last one
+    module _ (s₀ : State) (ids lens : List ℕ) (is : leftOf log s₀ ids lens ≡ whole) (ids′ lens′ : List ℕ) where
+      pub under-last : text ≡ listingFrom (reads s) log at true → PartDone log s₀ ids lens out₀ (endedPart used′ s₀) ids′ lens′ out′
+      under-last e = ended-done log s₀ ids lens out₀ used′ (u .text ++ take count line) (is ∙ sym (u .joined) ∙ ap (λ (t : List ℕ). u .text ++ t) (sym (l .text ∙ e))) ids′ lens′ out′ text-fits wrote
+
+  -- there is no room for another line
+  pub under-more : (s₀ : State) (ids lens : List ℕ) → leftOf log s₀ ids lens ≡ whole → isLong (length log) ≡ false → readTo s₀ ≡ from → length out - used < 64
+      → PartDone log s₀ ids lens out₀ (record { code = 0; used = used; over = false; state = record { begun = true; at = at; sent = s .sent; board = s .board } }) (s .ids) (s .lens) out
+  unfolding leftAfter leftOf
+  under-more s₀ ids lens is short from! full = record {
+    done = refl;
+    fits = u .fits;
+    joined = ap (λ (t : List ℕ). t ++ listingFrom (reads s) log at true) (l .text) ∙ u .joined ∙ sym is;
+    rest = l .rest;
+    goesOn = λ e. sym (code-board (length log) (record { begun = true; at = at; sent = s .sent; board = s .board }) (s .ids) (s .lens) (u .good .ids-all) (u .good .lens-all) refl short (le-ltb _ _ (u .few)) true (sound-known (s .board) (s .ids) (s .lens) (u .good)));
+    moves = λ e h. go h (u .moved);
+  }
+    where
+      l : Line out₀ (u .text) used out
+      l = from-front out₀ (u .text) out used (omega (arith, u .written .ends, u .fits)) (u .written)
+
+      go : 64 ≤ length out₀ → ((from < at) × (at ≤ length log)) ⊎ ((from ≡ at) × (used ≡ 0)) → (readTo s₀ < at) × (at ≤ length log)
+      go h (inl m) = (omega (arith, from!, m .0), m .1)
+      go h (inr m) = absurd (omega (arith, m .1, u .same))
+
+not-end : (log : List ℕ) (at : ℕ) → at ≢ length log → atEnd log at true ≡ false
+unfolding atEnd
+not-end log at ne = ne-eqb at (length log) ne
+
+-- ---- The last line of a log that is read to its end: the board's clock and its lanes are what is read of them
+
+module _ (s : Stand) (k : Good s) where
+  abbrev m : Board.Board
+  m = view (s .board) (s .ids) (s .lens)
+
+  clock-is : s .board .clock ≡ m .clock
+  unfolding encode
+  clock-is = ap (λ (c : struct.Board). c .clock) (sym (k .sound .spells))
+
+  counts-is : totalOf (s .board .counts) ≡ waiting m
+  unfolding encode
+  counts-is = ap (λ (c : struct.Board). totalOf (c .counts)) (sym (k .sound .spells)) ∙ total-map (λ (x : Place). length (x .lane)) (m .places)
+
+  pub end-listing : (log : List ℕ) (at clock count : ℕ) → at ≡ length log → clock ≡ s .board .clock → count ≡ totalOf (s .board .counts) → endLine clock (s .sent) count ≡ listingFrom (reads s) log at true
+  end-listing log at clock count e c n = ap₂ (λ (x y : ℕ). endLine x (s .sent) y) (c ∙ clock-is) (n ∙ counts-is) ∙ sym (listing-end (reads s) log) ∙ ap (λ (i : ℕ). listingFrom (reads s) log i true) (sym e)
+
+  pub broken-listing : (log : List ℕ) (at n : ℕ) → at ≢ length log → fieldAt log at true ≡ Broken n → brokenLine at ≡ listingFrom (reads s) log at true
+  broken-listing log at n ne f = ap brokenLine (sym (broken-at log at true n f)) ∙ sym (listing-broken (reads s) log at true n (not-end log at ne) f)
+
+-- ---- A state from which a part goes on
+pub read-is : (len : ℕ) (s : State) (ids lens : List ℕ) → Ready len s ids lens → readTo s ≡ s .at
+read-is len s ids lens r = ap (λ (t : Bool). cond t (s .at) 0) (r .begun)
+
+module _ (log : List ℕ) (s : State) (ids lens : List ℕ) (r : Ready (length log) s ids lens) where
+  pub left-is : leftOf log s ids lens ≡ listingFrom (reads (stand (s .board) ids lens (s .sent))) log (s .at) true
+  unfolding leftOf
+  left-is = ap (λ (t : Bool). cond t (listingFrom (reads (stand (s .board) ids lens (s .sent))) log (s .at) true) (listingOf log)) (r .begun)
+
+-- ---- The first field
+
+-- a part that is not refused has both tables whole
+pub code-tables : (len : ℕ) (s : State) (ids lens : List ℕ) → partCode len s ids lens ≡ 0 → (length ids ≡ 2048) × (length lens ≡ 2048)
+unfolding partCode
+code-tables len s ids lens e = go (wrongTables (length ids) (length lens)) refl e
+  where
+    go : (t : Bool) → wrongTables (length ids) (length lens) ≡ t → _≡_ {A = ℕ} (cond t 3 (cond (s .begun) (cond (unfit len s ids lens) 2 0) 0)) 0 → (length ids ≡ 2048) × (length lens ≡ 2048)
+    go true q z = absurd (omega arith)
+    go false q z = right-tables (length ids) (length lens) q
+
+-- L is in its range
+largest-range : (l : ℕ) → inTurn (Largest l) false ≡ true → (leb 64 l && leb l 2048) ≡ true
+unfolding inTurn
+largest-range l e = e
+
+made-code : (ids lens : List ℕ) (l : ℕ) → length ids ≡ 2048 → length lens ≡ 2048 → (leb 64 l && leb l 2048) ≡ true → made ids lens l .reply .code ≡ 0
+unfolding made make
+made-code ids lens l a d e = rw (none-wrong (length ids) (length lens) a d, e) refl
+
+module _ (log : List ℕ) (s : State) (ids lens out : List ℕ) (unread : s .begun ≡ false) where
+  left-whole : leftOf log s ids lens ≡ listingOf log
+  unfolding leftOf
+  left-whole = ap (λ (t : Bool). cond t (listingFrom (reads (stand (s .board) ids lens (s .sent))) log (s .at) true) (listingOf log)) unread
+
+  -- no room for a line
+  pub first-none : partCode (length log) s ids lens ≡ 0 → length out < 64 → PartDone log s ids lens out (record { code = 0; used = 0; over = false; state = s }) ids lens out
+  unfolding leftAfter
+  first-none ready h = record { done = refl; fits = omega arith; joined = refl; rest = refl; goesOn = λ e. ready; moves = λ e m. absurd (omega arith) }
+
+  -- the listing is one line
+  pub first-last : (before text line : List ℕ) (count used : ℕ) (ids′ lens′ out′ : List ℕ) → Line before text count line → count ≤ 64 → 64 ≤ length out → Written out 0 (take count line) used out′ → text ≡ listingOf log
+      → PartDone log s ids lens out (endedPart used s) ids′ lens′ out′
+  first-last before text line count used ids′ lens′ out′ l few room w e = ended-done log s ids lens out used (take count line) (left-whole ∙ sym e ∙ sym (l .text)) ids′ lens′ out′ (omega (arith, line-count l)) w
+
+  -- the board is made
+  module _ (a : length ids ≡ 2048) (d : length lens ≡ 2048) (short : isLong (length log) ≡ false) (l next : ℕ) (f : fieldAt log 0 false ≡ Whole (Largest l) next) (r : Reply) (ids′ lens′ : List ℕ) (m : returned r ids′ lens′ ≡ made ids lens l) where
+    starts : Starts (made ids lens l) l
+    starts = made-starts ids lens l (made-code ids lens l a d (largest-range l (whole-is log 0 false (Largest l) next f .turn)))
+
+    made-good : Known (r .board) ids′ lens′
+    made-good = subst (λ (w : Returned Reply). Known (w .reply .board) (w .ids) (w .lens)) (sym m) (starts .good)
+
+    made-reads : view (r .board) ids′ lens′ ≡ fresh l
+    made-reads = ap (λ (w : Returned Reply). view (w .reply .board) (w .ids) (w .lens)) m ∙ starts .reads
+
+    abbrev after-first : State
+    after-first = record { begun = true; at = next; sent = 0; board = r .board }
+
+    pub first-made : PartDone log s ids lens out (record { code = 0; used = 0; over = false; state = after-first }) ids′ lens′ out
+    unfolding leftAfter leftOf isLong
+    first-made = record {
+      done = refl;
+      fits = omega arith;
+      joined = ap (λ (b : Board.Board). listingFrom (record { board = b; sent = 0 }) log next true) made-reads ∙ sym (listing-first log (omega (arith, false-lt 32769 (length log) short)) ∙ listing-whole unmade log 0 false (Largest l) next f) ∙ sym left-whole;
+      rest = refl;
+      goesOn = λ e. sym (code-early (length log) after-first ids′ lens′ (made-good .ids-all) (made-good .lens-all) refl short (le-ltb next (0 / 65536) (omega arith))) ∙ early-none (r .board) ids′ lens′ made-good;
+      moves = λ e h. let w = whole-next log 0 false (Largest l) next f in (omega (arith, ap (λ (t : Bool). cond t (s .at) 0) unread, w .0), w .1);
+    }
+
+pub long-listing : (log : List ℕ) → isLong (length log) ≡ true → longLine ≡ listingOf log
+unfolding isLong
+long-listing log h = sym (listing-long log (ltb-true 32768 (length log) h))
+
+pub first-broken : (log : List ℕ) (n : ℕ) → isLong (length log) ≡ false → fieldAt log 0 false ≡ Broken n → brokenLine 0 ≡ listingOf log
+unfolding isLong
+first-broken log n h f = ap brokenLine (sym (broken-at log 0 false n f)) ∙ sym (listing-first log (omega (arith, false-lt 32769 (length log) h)) ∙ listing-broken unmade log 0 false n (unbegun log 0) f)
+
+pub is-largest : (log : List ℕ) (e : Event) (next l : ℕ) → fieldAt log 0 false ≡ Whole e next → e ≡ Largest l → fieldAt log 0 false ≡ Whole (Largest l) next
+is-largest log e next l f q = f ∙ ap (λ (x : Event). Whole x next) q
+
+-- only the first variant is L
+pub not-largest : (log : List ℕ) (e : Event) (next : ℕ) → fieldAt log 0 false ≡ Whole e next → OneOf (1 ∷ 2 ∷ 3 ∷ 4 ∷ 5 ∷ 6 ∷ []) (tagOf the-type e) → ⊥
+not-largest log e next f k = let t = turn-first e (whole-is log 0 false e next f .turn) in miss (1 ∷ 2 ∷ 3 ∷ 4 ∷ 5 ∷ 6 ∷ []) 0 tt (subst (λ (x : Event). OneOf (1 ∷ 2 ∷ 3 ∷ 4 ∷ 5 ∷ 6 ∷ []) (tagOf the-type x)) (t .1 .0) k)
+
+-- ---- The promise of a part
+
+pub refused-part : (log : List ℕ) (s : State) (ids lens out : List ℕ) (code : ℕ) → code ≡ partCode (length log) s ids lens → code ≢ 0 → PartOf log s ids lens out (refusedPart code s) ids lens out
+refused-part log s ids lens out code e ne = record { code = e; refused = λ q. (refl, (refl, (refl, refl))); done = λ z. absurd (ne z) }
+
+pub done-part : (log : List ℕ) (s : State) (ids lens out : List ℕ) (r : Part) (ids′ lens′ out′ : List ℕ) → partCode (length log) s ids lens ≡ 0 → PartDone log s ids lens out r ids′ lens′ out′ → PartOf log s ids lens out r ids′ lens′ out′
+done-part log s ids lens out r ids′ lens′ out′ z d = record { code = d .done ∙ sym z; refused = λ ne. absurd (ne (d .done)); done = λ q. d }
+
+-- ---- What a program goes by from part to part
+
+module _ (log : List ℕ) (s : State) (ids lens out : List ℕ) (r : Part) (ids′ lens′ out′ : List ℕ) (p : PartOf log s ids lens out r ids′ lens′ out′) where
+  pub part-fits : r .used ≤ length out
+  part-fits = go (ℕ-discrete (r .code) 0)
+    where
+      go : Dec (r .code ≡ 0) → r .used ≤ length out
+      go (yes z) = p .done z .fits
+      go (no n) = omega (arith, ap (λ (x : Part). x .used) (p .refused n .0))
+
+  module _ (z : partCode (length log) s ids lens ≡ 0) (e : r .over ≡ false) where
+    pub part-next : partCode (length log) (r .state) ids′ lens′ ≡ 0
+    part-next = p .done (p .code ∙ z) .goesOn e
+
+    pub part-moves : 64 ≤ length out → (readTo s < readTo (r .state)) × (readTo (r .state) ≤ length log)
+    part-moves h = p .done (p .code ∙ z) .moves e h
+
+-- ---- THE PARTS JOINED ARE THE LISTING, for every log
+
+parts-left : (log : List ℕ) (s : State) (ids lens written : List ℕ) → Parts log s ids lens written → partCode (length log) s ids lens ≡ 0 → written ≡ leftOf log s ids lens
+unfolding leftAfter
+parts-left log s ids lens written (last out r ids′ lens′ out′ p e) z = sym (append-nil (take (r .used) out′)) ∙ sym (ap (λ (t : Bool). take (r .used) out′ ++ cond t [] (leftOf log (r .state) ids′ lens′)) e) ∙ p .done (p .code ∙ z) .joined
+parts-left log s ids lens written (more {written = w} out r ids′ lens′ out′ p e rest) z =
+    let d = p .done (p .code ∙ z) in
+    ap (λ (t : List ℕ). take (r .used) out′ ++ t) (parts-left log (r .state) ids′ lens′ w rest (d .goesOn e)) ∙ sym (ap (λ (t : Bool). take (r .used) out′ ++ cond t [] (leftOf log (r .state) ids′ lens′)) e) ∙ d .joined
+
+pub begins-ready : (log ids lens : List ℕ) → length ids ≡ 2048 → length lens ≡ 2048 → partCode (length log) begins ids lens ≡ 0
+begins-ready log ids lens a d = sym (code-unbegun (length log) begins ids lens a d refl)
+
+begins-left : (log ids lens : List ℕ) → leftOf log begins ids lens ≡ listingOf log
+unfolding leftOf
+begins-left log ids lens = refl
+
+pub parts-listing : (log ids lens written : List ℕ) → length ids ≡ 2048 → length lens ≡ 2048 → Parts log begins ids lens written → written ≡ listingOf log
+parts-listing log ids lens written a d p = parts-left log begins ids lens written p (begins-ready log ids lens a d) ∙ begins-left log ids lens
+
+-- and they come to an end: with room for a line in each there are no more of them than the log has bytes, and one
+parts-within : (log : List ℕ) (s : State) (ids lens written : List ℕ) (p : Parts log s ids lens written) → Roomy p → partCode (length log) s ids lens ≡ 0 → readTo s ≤ length log → readTo s + howMany p ≤ length log + 1
+unfolding howMany Roomy
+parts-within log s ids lens written (last out r ids′ lens′ out′ p e) m z h = omega arith
+parts-within log s ids lens written (more {written = w} out r ids′ lens′ out′ p e rest) m z h =
+    let d = p .done (p .code ∙ z) in
+    let n = d .moves e (m .0) in
+    omega (arith, parts-within log (r .state) ids′ lens′ w rest (m .1) (d .goesOn e) (n .1), n .0)
+
+pub parts-few : (log ids lens written : List ℕ) → length ids ≡ 2048 → length lens ≡ 2048 → (p : Parts log begins ids lens written) → Roomy p → howMany p ≤ length log + 1
+parts-few log ids lens written a d p m = omega (arith, parts-within log begins ids lens written p m (begins-ready log ids lens a d) (omega arith))

@@ -1,0 +1,67 @@
+-- ONE FIELD PLAYED: a board in memory, its tables and the bytes sent so far, before the field and after it.
+use mathlib.Core.Path.{_≡_}
+use mathlib.Core.Bool.{cond}
+use mathlib.Core.List.{List}
+use Prim.Native.Nat.{ℕ, _+_, _≤_}
+use lib.Dec.{eqb}
+use Rattle.board.specs.declared.Board as struct
+use Rattle.board.specs.Reading.{view}
+use Rattle.log.specs.declared.Event.{Event}
+use Rattle.lines.specs.Text.{Line}
+use Rattle.lines.specs.Listing.{outLine, refusedLine}
+use Rattle.engine.specs.declared.After.{After}
+use Rattle.calls.specs.Promises.{Known}
+use Rattle.plays.specs.Listing.{Playing, played, lineOf}
+
+-- the board whose arrays and numbers these are
+abbrev pub boardNow : List ℕ → List ℕ → List ℕ → List ℕ → List ℕ → List ℕ → List ℕ → List ℕ → List ℕ → List ℕ → ℕ → After → struct.Board
+boardNow numbers shares starts counts deficits ready next heads tails held largest now =
+    record {
+      numbers = numbers;
+      shares = shares;
+      deficits = deficits;
+      starts = starts;
+      counts = counts;
+      ready = ready;
+      next = next;
+      heads = heads;
+      tails = tails;
+      held = held;
+      largest = largest;
+      clock = now .clock;
+      active = now .active;
+      pending = now .pending;
+      slot = now .slot;
+      left = now .left;
+    }
+
+-- what stands between two fields
+pub record Stand : Type 0 where
+  pub board : struct.Board
+  pub ids : List ℕ
+  pub lens : List ℕ
+  pub sent : ℕ
+
+abbrev pub stand : struct.Board → List ℕ → List ℕ → ℕ → Stand
+stand board ids lens sent = record { board = board; ids = ids; lens = lens; sent = sent }
+
+-- as the listing's definition reads it
+abbrev pub reads : Stand → Playing
+reads s = record { board = view (s .board) (s .ids) (s .lens); sent = s .sent }
+
+-- the value is not spoilt, and its tables are whole
+abbrev pub Good : Stand → Type 0
+Good s = Known (s .board) (s .ids) (s .lens)
+
+-- A field is played: board and bytes sent are what the rules say, and its line is put in front of a buffer.
+pub record Plays (s : Stand) (e : Event) (n : Stand) (before : List ℕ) (count : ℕ) (after : List ℕ) : Type 0 where
+  pub good : Good n
+  pub next : reads n ≡ played (reads s) e
+  pub line : Line before (lineOf (reads s) e) count after
+  pub short : count ≤ 64
+  -- no record is charged more, so the sum of the bytes sent never wraps
+  pub more : n .sent ≤ s .sent + 65536
+
+-- the line of a serve, by its code
+abbrev pub shownLine : ℕ → ℕ → ℕ → ℕ → ℕ → List ℕ
+shownLine code block number bytes clock = cond (eqb code 0) (outLine block number bytes clock) (refusedLine code)

@@ -1,0 +1,479 @@
+// The player of a log: it writes the listing in parts, each into a lent buffer, and works on the engine's arrays from field to field.
+ghost use mathlib.Core.Path.{_≡_};
+ghost use mathlib.Core.Bool.{true, false};
+ghost use Prim.Native.Nat.{_+_, _^_, _<_, _≤_};
+ghost use lib.ListN.{length, getD, take};
+ghost use Rattle.log.specs.Format.{inTurn};
+ghost use Rattle.log.specs.declared.Event.the-variants.{Serve};
+ghost use Rattle.lines.specs.Text.{Line, Written};
+ghost use Rattle.engine.specs.Opening.{totalOf};
+ghost use Rattle.engine.specs.Serving.{numbersNow};
+ghost use Rattle.player.specs.Fields.{boardNow, stand, Good, Plays, shownLine};
+ghost use Rattle.player.specs.Parts.{begins, partCode, Ready, endedPart, PartDone, PartOf};
+use board::Board;
+use log::Event;
+use log::Field;
+use units::Bytes;
+use units::Parts;
+
+// What stands between two parts of a listing: whether L has been read, the offset of the next field, the bytes sent so far, and the board.
+pub struct State {
+    pub begun: bool,
+    pub at: usize,
+    pub sent: u64,
+    pub board: Board,
+}
+
+// A part of a listing: the code of a refusal, or 0; how many bytes were written; whether it was the last; and where the next one goes on.
+pub struct Part {
+    pub code: u8,
+    pub used: usize,
+    pub over: bool,
+    pub state: State,
+}
+
+// ---- One field
+
+// What a field leaves besides the arrays: the length of its line, the bytes sent so far, and the board's numbers.
+struct Moved {
+    line: usize,
+    sent: u64,
+    clock: u64,
+    active: u32,
+    pending: u32,
+    slot: u8,
+    left: Parts,
+}
+
+// More bytes than any record is charged.
+const ANY_LENGTH: u64 = 65536;
+
+// The line of a serve: what was sent, or the code of a refusal.
+fn show_serve(
+    code: u8,
+    place: usize,
+    entry: usize,
+    time: u64,
+    numbers: &[u32; 64],
+    ids: &[u32],
+    lens: &[u16],
+    line: &mut [u8; 64],
+) -> usize
+    requires { ⌜ (length (now ids) ≡ 2048) × ((length (now lens) ≡ 2048) × (code ≡ 0 → (place < 64) × (entry < 2048))) ⌝ }
+    ensures { λ r. ⌜ Line (now (line .entry)) (shownLine code (getD (now (numbers .entry)) place 0) (getD (now (ids .entry)) entry 0) (getD (now (lens .entry)) entry 0) time) r (now (line .exit)) × (r ≤ 64) ⌝ }
+{
+    if code != 0 {
+        return lines::put_refused(line, code);
+    }
+    lines::put_out(line, numbers[place], ids[entry], lens[entry], time)
+}
+
+// The next record is sent.
+fn play_serve(
+    sent: u64,
+    largest: u32,
+    clock: u64,
+    active: u32,
+    pending: u32,
+    slot: u8,
+    left: Parts,
+    numbers: &[u32; 64],
+    shares: &[u32; 64],
+    starts: &mut [u8; 64],
+    counts: &mut [u8; 64],
+    deficits: &mut [u64; 64],
+    ready: &mut [u64; 64],
+    next: &mut [u8; 64],
+    heads: &mut [u8; 17],
+    tails: &mut [u8; 17],
+    held: &mut [u32; 17],
+    ids: &[u32],
+    lens: &[u16],
+    line: &mut [u8; 64],
+) -> Moved
+    requires { ⌜ Good (stand (boardNow (now numbers) (now shares) (now starts) (now counts) (now deficits) (now ready) (now next) (now heads) (now tails) (now held) largest (numbersNow clock active pending slot (left .0))) (now ids) (now lens) sent) × (sent < 2 ^ 63) ⌝ }
+    ensures { λ r. ⌜ Plays (stand (boardNow (now (numbers .entry)) (now (shares .entry)) (now (starts .entry)) (now (counts .entry)) (now (deficits .entry)) (now (ready .entry)) (now (next .entry)) (now (heads .entry)) (now (tails .entry)) (now (held .entry)) largest (numbersNow clock active pending slot (left .0))) (now (ids .entry)) (now (lens .entry)) sent) Serve (stand (boardNow (now (numbers .entry)) (now (shares .entry)) (now (starts .exit)) (now (counts .exit)) (now (deficits .exit)) (now (ready .exit)) (now (next .exit)) (now (heads .exit)) (now (tails .exit)) (now (held .exit)) largest (numbersNow (r .clock) (r .active) (r .pending) (r .slot) (r .left .0))) (now (ids .entry)) (now (lens .entry)) (r .sent)) (now (line .entry)) (r .line) (now (line .exit)) ⌝ }
+{
+    let s = engine::serve_within(
+        Bytes(ANY_LENGTH),
+        1,
+        clock,
+        active,
+        pending,
+        slot,
+        left,
+        largest,
+        shares,
+        starts,
+        counts,
+        deficits,
+        ready,
+        next,
+        heads,
+        tails,
+        held,
+        lens,
+    );
+    let shown = show_serve(s.code, s.place, s.entry, s.time, numbers, ids, lens, line);
+    let charge = s.bytes;
+    let rest = s.left;
+    Moved {
+        line: shown,
+        sent: sent + charge.0,
+        clock: s.clock,
+        active: s.active,
+        pending: s.pending,
+        slot: s.slot,
+        left: rest,
+    }
+}
+
+// One field after L: what it says is done, and its line is put in front of the buffer.
+fn play_field(
+    event: Event,
+    sent: u64,
+    largest: u32,
+    clock: u64,
+    active: u32,
+    pending: u32,
+    slot: u8,
+    left: Parts,
+    numbers: &mut [u32; 64],
+    shares: &mut [u32; 64],
+    starts: &mut [u8; 64],
+    counts: &mut [u8; 64],
+    deficits: &mut [u64; 64],
+    ready: &mut [u64; 64],
+    next: &mut [u8; 64],
+    heads: &mut [u8; 17],
+    tails: &mut [u8; 17],
+    held: &mut [u32; 17],
+    ids: &mut [u32],
+    lens: &mut [u16],
+    line: &mut [u8; 64],
+) -> Moved
+    requires { ⌜ Good (stand (boardNow (now numbers) (now shares) (now starts) (now counts) (now deficits) (now ready) (now next) (now heads) (now tails) (now held) largest (numbersNow clock active pending slot (left .0))) (now ids) (now lens) sent) × ((sent < 2 ^ 63) × (inTurn event true ≡ true)) ⌝ }
+    ensures { λ r. ⌜ Plays (stand (boardNow (now (numbers .entry)) (now (shares .entry)) (now (starts .entry)) (now (counts .entry)) (now (deficits .entry)) (now (ready .entry)) (now (next .entry)) (now (heads .entry)) (now (tails .entry)) (now (held .entry)) largest (numbersNow clock active pending slot (left .0))) (now (ids .entry)) (now (lens .entry)) sent) event (stand (boardNow (now (numbers .exit)) (now (shares .exit)) (now (starts .exit)) (now (counts .exit)) (now (deficits .exit)) (now (ready .exit)) (now (next .exit)) (now (heads .exit)) (now (tails .exit)) (now (held .exit)) largest (numbersNow (r .clock) (r .active) (r .pending) (r .slot) (r .left .0))) (now (ids .exit)) (now (lens .exit)) (r .sent)) (now (line .entry)) (r .line) (now (line .exit)) ⌝ }
+{
+    let mut shown: usize = 0;
+    let mut waiting = active;
+    match event {
+        Event::Open(block, share) => {
+            let code = engine::open_in(block, share, numbers, shares, held);
+            shown = lines::put_open(line, block, code);
+        }
+        Event::Close(block) => {
+            let code = engine::close_in(block, active, counts, numbers, shares, starts, held);
+            shown = lines::put_close(line, block, code);
+        }
+        Event::Rename(old, new) => {
+            let code = engine::rename_in(old, new, numbers);
+            shown = lines::put_name(line, old, new, code);
+        }
+        Event::Arrive(block, number, bytes) => {
+            let took = engine::record_in(
+                block,
+                number,
+                bytes,
+                largest,
+                clock,
+                active,
+                numbers,
+                shares,
+                starts,
+                counts,
+                next,
+                heads,
+                tails,
+                ready,
+                ids,
+                lens,
+            );
+            waiting = took.active;
+            shown = lines::put_in(line, number, took.code);
+        }
+        Event::Serve => {
+            return play_serve(
+                sent,
+                largest,
+                clock,
+                active,
+                pending,
+                slot,
+                left,
+                numbers,
+                shares,
+                starts,
+                counts,
+                deficits,
+                ready,
+                next,
+                heads,
+                tails,
+                held,
+                ids,
+                lens,
+                line,
+            );
+        }
+        Event::Passed => {}
+        Event::Largest(_) => {}
+    }
+    Moved {
+        line: shown,
+        sent: sent,
+        clock: clock,
+        active: waiting,
+        pending: pending,
+        slot: slot,
+        left: left,
+    }
+}
+
+// ---- A part of the listing
+
+// The sum of some lanes' counts.
+fn sum_of(counts: &[u8]) -> u32
+    requires { ⌜ length (now counts) ≤ 64 ⌝ }
+    ensures { λ r. ⌜ r ≡ totalOf (now (counts .entry)) ⌝ }
+{
+    let mut sum: u32 = 0;
+    let mut i: usize = 0;
+    while i < counts.len() {
+        sum += counts[i] as u32;
+        i += 1;
+    }
+    sum
+}
+
+// How many records wait.
+fn waiting(counts: &[u8; 64]) -> u32
+    ensures { λ r. ⌜ r ≡ totalOf (now (counts .entry)) ⌝ }
+{
+    sum_of(counts)
+}
+
+// The first bytes of a text are put behind what is written; the answer is where they end.
+fn put_front(out: &mut [u8], used: usize, text: &[u8], count: usize) -> usize
+    requires { ⌜ (count ≤ length (now text)) × (used + count ≤ length (now out)) ⌝ }
+    ensures { λ r. ⌜ Written (now (out .entry)) used (take count (now (text .entry))) r (now (out .exit)) ⌝ }
+{
+    lines::put_text(out, used, &text[..count])
+}
+
+// A line is put behind what is written.
+fn append(out: &mut [u8], used: usize, line: &[u8; 64], count: usize) -> usize
+    requires { ⌜ (count ≤ 64) × (used + count ≤ length (now out)) ⌝ }
+    ensures { λ r. ⌜ Written (now (out .entry)) used (take count (now (line .entry))) r (now (out .exit)) ⌝ }
+{
+    put_front(out, used, line, count)
+}
+
+// Whether a part may go on from a state: 3 for the tables, 2 for a state that no part of such a log leaves.
+fn unready(len: usize, ids: &[u32], lens: &[u16], s: State) -> u8
+    ensures { λ r. ⌜ (r ≡ partCode len s (now (ids .entry)) (now (lens .entry))) × (r ≡ 0 → s .begun ≡ true → Ready len s (now (ids .entry)) (now (lens .entry))) ⌝ }
+{
+    if ids.len() != 2048 {
+        return 3;
+    }
+    if lens.len() != 2048 {
+        return 3;
+    }
+    if !s.begun {
+        return 0;
+    }
+    if log::is_long(len) {
+        return 2;
+    }
+    if s.at < s.sent as usize / 65536 {
+        return 2;
+    }
+    calls::early(ids, lens, s.board)
+}
+
+// The last part: what was written, and the listing is over.
+fn last_part(used: usize, s: State) -> Part
+    ensures { λ r. ⌜ r ≡ endedPart used s ⌝ }
+{
+    Part {
+        code: 0,
+        used: used,
+        over: true,
+        state: s,
+    }
+}
+
+// The fields after L in turn, as long as there is room for a line, and then the last line.
+fn next_part(log: &[u8], ids: &mut [u32], lens: &mut [u16], out: &mut [u8], s: State) -> Part
+    requires { ⌜ Ready (length (now log)) s (now ids) (now lens) ⌝ }
+    ensures { λ r. ⌜ PartDone (now (log .entry)) s (now (ids .entry)) (now (lens .entry)) (now (out .entry)) r (now (ids .exit)) (now (lens .exit)) (now (out .exit)) ⌝ }
+{
+    let b = s.board;
+    let mut numbers = b.numbers;
+    let mut shares = b.shares;
+    let mut starts = b.starts;
+    let mut counts = b.counts;
+    let mut deficits = b.deficits;
+    let mut ready = b.ready;
+    let mut next = b.next;
+    let mut heads = b.heads;
+    let mut tails = b.tails;
+    let mut held = b.held;
+    let mut clock = b.clock;
+    let mut active = b.active;
+    let mut pending = b.pending;
+    let mut slot = b.slot;
+    let mut left = b.left;
+    let mut at = s.at;
+    let mut sent = s.sent;
+    let mut used: usize = 0;
+    let mut line = [0u8; 64];
+    loop {
+        if out.len() - used < 64 {
+            let board = Board {
+                numbers: numbers,
+                shares: shares,
+                deficits: deficits,
+                starts: starts,
+                counts: counts,
+                ready: ready,
+                next: next,
+                heads: heads,
+                tails: tails,
+                held: held,
+                largest: b.largest,
+                clock: clock,
+                active: active,
+                pending: pending,
+                slot: slot,
+                left: left,
+            };
+            return Part {
+                code: 0,
+                used: used,
+                over: false,
+                state: State {
+                    begun: true,
+                    at: at,
+                    sent: sent,
+                    board: board,
+                },
+            };
+        }
+        if at == log.len() {
+            let count = lines::put_end(&mut line, clock, sent, waiting(&counts));
+            let end = append(out, used, &line, count);
+            return last_part(end, s);
+        }
+        let Field::Whole(event, on) = log::field_at(log, at, true) else {
+            let count = lines::put_broken(&mut line, at as u64);
+            let end = append(out, used, &line, count);
+            return last_part(end, s);
+        };
+        let moved = play_field(
+            event,
+            sent,
+            b.largest,
+            clock,
+            active,
+            pending,
+            slot,
+            left,
+            &mut numbers,
+            &mut shares,
+            &mut starts,
+            &mut counts,
+            &mut deficits,
+            &mut ready,
+            &mut next,
+            &mut heads,
+            &mut tails,
+            &mut held,
+            ids,
+            lens,
+            &mut line,
+        );
+        used = append(out, used, &line, moved.line);
+        at = on;
+        sent = moved.sent;
+        clock = moved.clock;
+        active = moved.active;
+        pending = moved.pending;
+        slot = moved.slot;
+        let rest = moved.left;
+        left = rest;
+    }
+}
+
+// The first field: the board is made, or the listing is one line.
+fn first_part(log: &[u8], ids: &mut [u32], lens: &mut [u16], out: &mut [u8], s: State) -> Part
+    requires { ⌜ (s .begun ≡ false) × (partCode (length (now log)) s (now ids) (now lens) ≡ 0) ⌝ }
+    ensures { λ r. ⌜ PartDone (now (log .entry)) s (now (ids .entry)) (now (lens .entry)) (now (out .entry)) r (now (ids .exit)) (now (lens .exit)) (now (out .exit)) ⌝ }
+{
+    if out.len() < 64 {
+        return Part {
+            code: 0,
+            used: 0,
+            over: false,
+            state: s,
+        };
+    }
+    let mut line = [0u8; 64];
+    if log::is_long(log.len()) {
+        let count = lines::put_long(&mut line);
+        let end = append(out, 0, &line, count);
+        return last_part(end, s);
+    }
+    let Field::Whole(event, on) = log::field_at(log, 0, false) else {
+        let count = lines::put_broken(&mut line, 0);
+        let end = append(out, 0, &line, count);
+        return last_part(end, s);
+    };
+    let Event::Largest(largest) = event else {
+        return last_part(0, s);
+    };
+    let made = calls::make(ids, lens, largest);
+    let board = made.board;
+    Part {
+        code: 0,
+        used: 0,
+        over: false,
+        state: State {
+            begun: true,
+            at: on,
+            sent: 0,
+            board: board,
+        },
+    }
+}
+
+// The next part of a log's listing, into a lent buffer.
+pub fn list_part(log: &[u8], ids: &mut [u32], lens: &mut [u16], out: &mut [u8], s: State) -> Part
+    ensures { λ r. ⌜ PartOf (now (log .entry)) s (now (ids .entry)) (now (lens .entry)) (now (out .entry)) r (now (ids .exit)) (now (lens .exit)) (now (out .exit)) ⌝ }
+{
+    let code = unready(log.len(), &ids[..], &lens[..], s);
+    if code != 0 {
+        return Part {
+            code: code,
+            used: 0,
+            over: true,
+            state: s,
+        };
+    }
+    if s.begun {
+        return next_part(log, ids, lens, out, s);
+    }
+    first_part(log, ids, lens, out, s)
+}
+
+// Where a listing begins: L has not been read, and there is no board yet.
+pub fn begin() -> State
+    ensures { λ r. ⌜ r ≡ begins ⌝ }
+{
+    State {
+        begun: false,
+        at: 0,
+        sent: 0,
+        board: engine::blank(0),
+    }
+}
