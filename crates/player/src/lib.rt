@@ -451,10 +451,10 @@ fn first_part(log: &[u8], ids: &mut [u32], lens: &mut [u16], out: &mut [u8], s: 
 pub fn list_part(log: &[u8], ids: &mut [u32], lens: &mut [u16], out: &mut [u8], s: State) -> Part
     ensures { λ r. ⌜ PartOf (now (log .entry)) s (now (ids .entry)) (now (lens .entry)) (now (out .entry)) r (now (ids .exit)) (now (lens .exit)) (now (out .exit)) ⌝ }
 {
-    let code = unready(log.len(), &ids[..], &lens[..], s);
-    if code != 0 {
+    let refusal = unready(log.len(), &ids[..], &lens[..], s);
+    if refusal != 0 {
         return Part {
-            code: code,
+            code: refusal,
             used: 0,
             over: true,
             state: s,
