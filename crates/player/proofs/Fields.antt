@@ -1,18 +1,18 @@
 -- A field played by the engine's steps is a field played by the rules.
-use mathlib.Core.Path.{_≡_, refl, sym, ap, ap₂, subst, _∙_}
-use mathlib.Core.Bool.{Bool, true, false, true≢false, false≢true}
+use mathlib.Core.Path.{_≡_, refl, sym, ap, subst, _∙_}
+use mathlib.Core.Bool.{true, false, true≢false, false≢true}
 use mathlib.Core.Logic.{_⊎_, inl, inr, _≢_}
-use mathlib.Core.List.{List, []}
+use mathlib.Core.List.{List}
 use Prim.Native.Nat.{ℕ, _+_, _≤_, _<_}
 use native.Mathlib.Nat.{add-zero}
 use native.Mathlib.Omega.{arith}
-use lib.ListN.{length, getD, take, drop}
+use lib.ListN.{getD}
 use borrow.Author.Tests.{eq-eqb, ne-eqb}
 use Rattle.units.specs.Credit.{charged}
 use Rattle.rules.specs.Board
 use Rattle.rules.specs.Board.{Record, at, charge}
 use Rattle.rules.specs.Choice.{refused, sent, Turn, send, serve}
-use Rattle.rules.specs.Calls.{Single, open!, rename!, close!, record!, serve!, step, Answer, told, codeOf}
+use Rattle.rules.specs.Calls.{Single, open!, rename!, close!, record!, serve!, step, told, codeOf}
 use Rattle.rules.specs.Runs.{isServe, answer, bytesOf}
 use Rattle.rules.proofs.Cases.{call-cases}
 use Rattle.rules.proofs.Tidy.{Tidy}
@@ -24,7 +24,7 @@ use Rattle.log.specs.declared.Event.{Event}
 use Rattle.log.specs.declared.Event.the-variants.{Largest, Open, Close, Rename, Arrive, Serve, Passed}
 use Rattle.log.specs.Format.{inTurn}
 use Rattle.lines.specs.Text.{Line}
-use Rattle.lines.specs.Listing.{openLine, closeLine, nameLine, inLine, outLine, refusedLine}
+use Rattle.lines.specs.Listing.{openLine, closeLine, nameLine, inLine}
 use Rattle.engine.specs.Steps.{takingOf, withTaking, blocksOf, Recording, recordedIn}
 use Rattle.engine.specs.Opening.{Renaming, renamedIn, withRenaming, Opening, openedIn, withOpening, Closing, closedIn, withClosing}
 use Rattle.engine.specs.Serving.{engineOf, withEngine, Within, engineAfter}
@@ -36,7 +36,7 @@ use Rattle.calls.specs.Contract.{goodServe}
 use Rattle.calls.proofs.Known.{record-known, rename-known, open-known, close-known}
 use Rattle.calls.proofs.Next.{Follows, call-follows}
 use Rattle.calls.proofs.Promises.{within, spells, by-cases, after-is, known-next, serve-known}
-use Rattle.plays.specs.Listing.{Playing, after, played, lineOf, servedLine}
+use Rattle.plays.specs.Listing.{after, played, lineOf, servedLine}
 use Rattle.player.specs.Fields.{Stand, stand, reads, Good, Plays, shownLine}
 
 -- only a serve sends bytes

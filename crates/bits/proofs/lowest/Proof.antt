@@ -18,32 +18,25 @@ Inv-loop set k₀ k = (k ≤ 32) × ((j : ℕ) → j < k → inSet set j ≡ fal
 abbrev μ-loop : tie.MeasureT-loop
 μ-loop set k₀ k = 32 - k
 
--- src/lib.rt:35:5
 loop-holds : tie.Need-loop-holds Inv-loop μ-loop
 loop-holds c = (omega arith, λ j h. absurd (omega arith))
 
--- src/lib.rt:36:12
 has-bit-requires : tie.Need-has-bit-requires Inv-loop μ-loop
 has-bit-requires c κs = search needs
 
--- src/lib.rt:37:13
 returns : tie.Need-returns Inv-loop μ-loop
 unfolding lowestBit
 returns c = sym (least-found (inSet (c .before .before .before .before .args .set)) 32 (c .before .before .before .loop .k) (omega arith) (c .before .before .before .loop .inv .1) (sym (c .before .has-bit .ensures) ∙ c .if1 .taken))
 
--- src/lib.rt:39:9
 add-k : tie.Need-add-k Inv-loop μ-loop
 add-k c = omega arith
 
--- src/lib.rt:35:5
 loop-less : tie.Need-loop-less Inv-loop μ-loop
 loop-less c = omega arith
 
--- src/lib.rt:35:5
 loop-again : tie.Need-loop-again Inv-loop μ-loop
 loop-again c = (omega arith, below-next (λ j. inSet (c .before .before .before .before .args .set) j ≡ false) (c .before .before .before .loop .k) (c .before .before .before .loop .inv .1) (sym (c .before .has-bit .ensures) ∙ c .if1 .left))
 
--- src/lib.rt:31:1
 returns-2 : tie.Need-returns-2 Inv-loop μ-loop
 unfolding lowestBit
 returns-2 c =

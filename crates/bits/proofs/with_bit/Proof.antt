@@ -6,11 +6,9 @@ use Rattle.bits.proofs.with_bit.Tie as tie
 use Rattle.bits.proofs.with_bit.Reads as reads
 use Rattle.bits.proofs.with_bit.Lts as lts
 
--- src/lib.rt:12:11
 shl-result : tie.Need-shl-result
 shl-result c = search needs
 
--- src/lib.rt:8:1
 returns : tie.Need-returns
 unfolding withBit
 returns c = rw (shl-one (c .args .k) (c .pre))

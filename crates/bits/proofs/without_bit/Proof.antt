@@ -7,15 +7,12 @@ use Rattle.bits.proofs.without_bit.Tie as tie
 use Rattle.bits.proofs.without_bit.Reads as reads
 use Rattle.bits.proofs.without_bit.Lts as lts
 
--- src/lib.rt:19:18
 shl-result : tie.Need-shl-result
 shl-result c = search needs
 
--- src/lib.rt:19:5
 sub-result : tie.Need-sub-result
 sub-result c = and-le-l _ _
 
--- src/lib.rt:15:1
 returns : tie.Need-returns
 unfolding withoutBit
 returns c = rw (shl-one (c .args .k) (c .pre))

@@ -8,23 +8,18 @@ use Rattle.calls.proofs.burst.Lts as lts
 use Rattle.calls.proofs.burst_board.Reads as burst-board-reads
 use Rattle.calls.proofs.early.Reads as early-reads
 
--- src/lib.rt:477:9
 early-requires : tie.Need-early-requires
 early-requires c κs = search needs
 
--- src/lib.rt:479:9
 returns : tie.Need-returns
 returns c = early-burst _ _ _ (c .before .early .result) (c .before .early .ensures .0) _ _ (c .if1 .taken)
 
--- src/lib.rt:486:5
 burst-board-requires : tie.Need-burst-board-requires
 burst-board-requires c κs = c .before .before .early .ensures .1 (c .before .if1 .left)
 
--- src/lib.rt:474:1
 same-length : tie.Need-same-length
 same-length c = search needs
 
--- src/lib.rt:474:1
 returns-2 : tie.Need-returns-2
 returns-2 c = c .before .before .burst-board .ensures ∙ burst-known _ _ _ (c .before .before .before .before .before .early .result) (c .before .before .before .before .before .early .ensures .0) (c .before .before .before .before .before .early .ensures .1 (c .before .before .before .before .if1 .left)) (c .before .before .before .before .if1 .left) _ _
 

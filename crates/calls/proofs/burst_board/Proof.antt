@@ -18,63 +18,48 @@ abbrev μ-loop : tie.MeasureT-loop
 μ-loop bytes list₀ ids lens b shares starts₀ counts₀ deficits₀ ready₀ next₀ heads₀ tails₀ held₀ clock₀ active₀ pending₀ slot₀ left₀ count₀ total₀ list starts counts deficits ready next heads tails held clock active pending slot left count total =
     length list₀ - count
 
--- src/lib.rt:133:5
 loop-holds : tie.Need-loop-holds Inv-loop μ-loop
 loop-holds c = (omega arith, (refl, (omega arith, (c .before .before .before .before .before .before .before .before .before .before .before .before .before .pre, burst-start _ _ _ _ _))))
 
--- src/lib.rt:134:44
 sub-t28 : tie.Need-sub-t28 Inv-loop μ-loop
 sub-t28 c = c .loop .inv .1 .1 .0
 
--- src/lib.rt:134:60
 sub-serve-within : tie.Need-sub-serve-within Inv-loop μ-loop
 sub-serve-within c = omega (arith, c .loop .inv .0, c .loop .inv .1 .0)
 
--- src/lib.rt:134:13
 serve-within-requires : tie.Need-serve-within-requires Inv-loop μ-loop
 serve-within-requires c κs = can-known _ _ _ (c .before .before .before .before .before .before .before .before .before .loop .inv .1 .1 .1 .0)
 
--- src/lib.rt:144:17
 rebuilt-requires : tie.Need-rebuilt-requires Inv-loop μ-loop
 rebuilt-requires c κs = search needs
 
--- src/lib.rt:145:13
 same-length : tie.Need-same-length Inv-loop μ-loop
 same-length c = c .before .before .before .before .before .before .before .before .before .before .before .before .before .loop .inv .1 .0
 
--- src/lib.rt:145:13
 returns : tie.Need-returns Inv-loop μ-loop
 returns c = burst-stop _ _ _ (c .before .before .before .before .before .before .before .before .before .before .before .before .before .loop .inv .1 .1 .1 .0) _ _ _ _ _ (c .before .before .before .serve-within .ensures) (c .before .if1 .taken) _ (c .rebuilt .ensures) ∙ sym (c .before .before .before .before .before .before .before .before .before .before .before .before .before .loop .inv .1 .1 .1 .1)
 
--- src/lib.rt:158:9
 add-total : tie.Need-add-total Inv-loop μ-loop
 add-total c = omega (arith, (on-fits _ _ _ (c .before .before .before .before .before .before .before .before .before .before .before .before .before .before .before .loop .inv .1 .1 .1 .0) (c .before .before .before .before .before .before .before .before .before .before .before .before .before .before .before .before .before .before .before .before .before .before .before .before .before .before .before .before .before .args .bytes) (c .before .before .before .before .before .before .before .before .before .before .before .before .before .before .before .loop .count) (c .before .before .before .before .before .before .before .before .before .before .before .before .before .before .before .loop .total) (c .before .before .before .before .before .before .before .before .before .before .before .before .before .before .before .loop .list) _ (c .before .before .before .before .before .serve-within .ensures) (c .before .before .before .if1 .left)), c .before .before .before .before .before .before .before .before .before .before .before .before .before .before .before .loop .inv .1 .1 .0, c .before .before .before .before .before .before .before .before .before .before .before .before .before .before .before .before .before .before .before .before .before .before .before .before .before .before .before .before .before .fits)
 
--- src/lib.rt:160:9
 add-count : tie.Need-add-count Inv-loop μ-loop
 add-count c = omega (arith, (on-room _ _ _ (c .before .before .before .before .before .before .before .before .before .before .before .before .before .before .before .loop .inv .1 .1 .1 .0) (c .before .before .before .before .before .before .before .before .before .before .before .before .before .before .before .before .before .before .before .before .before .before .before .before .before .before .before .before .before .args .bytes) (c .before .before .before .before .before .before .before .before .before .before .before .before .before .before .before .loop .count) (c .before .before .before .before .before .before .before .before .before .before .before .before .before .before .before .loop .total) (c .before .before .before .before .before .before .before .before .before .before .before .before .before .before .before .loop .list) _ (c .before .before .before .before .before .serve-within .ensures) (c .before .before .before .if1 .left)), c .before .before .before .before .before .before .before .before .before .before .before .before .before .before .before .loop .inv .1 .0, c .before .before .before .before .before .before .before .before .before .before .before .before .before .before .before .before .before .before .before .before .before .before .before .before .before .before .before .before .before .good .1 .0 .0)
 
--- src/lib.rt:162:20
 mul-list : tie.Need-mul-list Inv-loop μ-loop
 mul-list c = omega (arith, (sent-index _ _ _ (c .before .before .before .before .before .before .before .before .before .before .before .before .before .before .before .loop .inv .1 .1 .1 .0) _ _ _ (c .before .before .before .before .before .serve-within .ensures) (c .before .before .before .if1 .left)) .1)
 
--- src/lib.rt:162:20
 shared-slice-read-list : tie.Need-shared-slice-read-list Inv-loop μ-loop
 shared-slice-read-list c = omega (arith, (sent-index _ _ _ (c .before .before .before .before .before .before .before .before .before .before .before .before .before .before .before .before .loop .inv .1 .1 .1 .0) _ _ _ (c .before .before .before .before .before .before .serve-within .ensures) (c .before .before .before .before .if1 .left)) .1, c .before .before .before .before .before .before .before .before .before .before .before .before .before .before .before .before .before .before .before .before .before .before .before .before .before .before .before .before .before .before .pre .ids-all)
 
--- src/lib.rt:162:9
 mul-list-2 : tie.Need-mul-list-2 Inv-loop μ-loop
 mul-list-2 c = scaled-fits (c .before .before .before .before .before .before .before .before .before .before .before .before .before .before .before .before .loop .count) (length (c .before .before .before .before .before .before .before .before .before .before .before .before .before .before .before .before .before .before .before .before .before .before .before .before .before .before .before .before .before .before .args .list .now)) 4 (omega (arith, (on-room _ _ _ (c .before .before .before .before .before .before .before .before .before .before .before .before .before .before .before .before .loop .inv .1 .1 .1 .0) (c .before .before .before .before .before .before .before .before .before .before .before .before .before .before .before .before .before .before .before .before .before .before .before .before .before .before .before .before .before .before .args .bytes) (c .before .before .before .before .before .before .before .before .before .before .before .before .before .before .before .before .loop .count) (c .before .before .before .before .before .before .before .before .before .before .before .before .before .before .before .before .loop .total) (c .before .before .before .before .before .before .before .before .before .before .before .before .before .before .before .before .loop .list) _ (c .before .before .before .before .before .before .serve-within .ensures) (c .before .before .before .before .if1 .left)), c .before .before .before .before .before .before .before .before .before .before .before .before .before .before .before .before .loop .inv .1 .0)) (c .before .before .before .before .before .before .before .before .before .before .before .before .before .before .before .before .before .before .before .before .before .before .before .before .before .before .before .before .before .before .good .1 .0 .1)
 
--- src/lib.rt:162:9
 slice-write-list : tie.Need-slice-write-list Inv-loop μ-loop
 slice-write-list c = (on-room _ _ _ (c .before .before .before .before .before .before .before .before .before .before .before .before .before .before .before .before .loop .inv .1 .1 .1 .0) (c .before .before .before .before .before .before .before .before .before .before .before .before .before .before .before .before .before .before .before .before .before .before .before .before .before .before .before .before .before .before .args .bytes) (c .before .before .before .before .before .before .before .before .before .before .before .before .before .before .before .before .loop .count) (c .before .before .before .before .before .before .before .before .before .before .before .before .before .before .before .before .loop .total) (c .before .before .before .before .before .before .before .before .before .before .before .before .before .before .before .before .loop .list) _ (c .before .before .before .before .before .before .serve-within .ensures) (c .before .before .before .before .if1 .left))
 
--- src/lib.rt:133:5
 loop-less : tie.Need-loop-less Inv-loop μ-loop
 loop-less c = omega (arith, (on-room _ _ _ (c .before .before .before .before .before .before .before .before .before .before .before .before .before .before .before .before .loop .inv .1 .1 .1 .0) (c .before .before .before .before .before .before .before .before .before .before .before .before .before .before .before .before .before .before .before .before .before .before .before .before .before .before .before .before .before .before .args .bytes) (c .before .before .before .before .before .before .before .before .before .before .before .before .before .before .before .before .loop .count) (c .before .before .before .before .before .before .before .before .before .before .before .before .before .before .before .before .loop .total) (c .before .before .before .before .before .before .before .before .before .before .before .before .before .before .before .before .loop .list) _ (c .before .before .before .before .before .before .serve-within .ensures) (c .before .before .before .before .if1 .left)), c .before .before .before .before .before .before .before .before .before .before .before .before .before .before .before .before .loop .inv .1 .0)
 
--- src/lib.rt:133:5
 loop-again : tie.Need-loop-again Inv-loop μ-loop
 loop-again c = (omega (arith, (on-room _ _ _ (c .before .before .before .before .before .before .before .before .before .before .before .before .before .before .before .before .loop .inv .1 .1 .1 .0) (c .before .before .before .before .before .before .before .before .before .before .before .before .before .before .before .before .before .before .before .before .before .before .before .before .before .before .before .before .before .before .args .bytes) (c .before .before .before .before .before .before .before .before .before .before .before .before .before .before .before .before .loop .count) (c .before .before .before .before .before .before .before .before .before .before .before .before .before .before .before .before .loop .total) (c .before .before .before .before .before .before .before .before .before .before .before .before .before .before .before .before .loop .list) _ (c .before .before .before .before .before .before .serve-within .ensures) (c .before .before .before .before .if1 .left)), c .before .before .before .before .before .before .before .before .before .before .before .before .before .before .before .before .loop .inv .1 .0), (rw length-set (c .before .before .before .before .before .before .before .before .before .before .before .before .before .before .before .before .loop .inv .1 .0), (omega (arith, (on-fits _ _ _ (c .before .before .before .before .before .before .before .before .before .before .before .before .before .before .before .before .loop .inv .1 .1 .1 .0) (c .before .before .before .before .before .before .before .before .before .before .before .before .before .before .before .before .before .before .before .before .before .before .before .before .before .before .before .before .before .before .args .bytes) (c .before .before .before .before .before .before .before .before .before .before .before .before .before .before .before .before .loop .count) (c .before .before .before .before .before .before .before .before .before .before .before .before .before .before .before .before .loop .total) (c .before .before .before .before .before .before .before .before .before .before .before .before .before .before .before .before .loop .list) _ (c .before .before .before .before .before .before .serve-within .ensures) (c .before .before .before .before .if1 .left)), c .before .before .before .before .before .before .before .before .before .before .before .before .before .before .before .before .loop .inv .1 .1 .0), (on-known _ _ _ (c .before .before .before .before .before .before .before .before .before .before .before .before .before .before .before .before .loop .inv .1 .1 .1 .0) (c .before .before .before .before .before .before .before .before .before .before .before .before .before .before .before .before .before .before .before .before .before .before .before .before .before .before .before .before .before .before .args .bytes) (c .before .before .before .before .before .before .before .before .before .before .before .before .before .before .before .before .loop .count) (c .before .before .before .before .before .before .before .before .before .before .before .before .before .before .before .before .loop .total) (c .before .before .before .before .before .before .before .before .before .before .before .before .before .before .before .before .loop .list) _ (c .before .before .before .before .before .before .serve-within .ensures) (c .before .before .before .before .if1 .left), c .before .before .before .before .before .before .before .before .before .before .before .before .before .before .before .before .loop .inv .1 .1 .1 .1 ∙ burst-on _ _ _ (c .before .before .before .before .before .before .before .before .before .before .before .before .before .before .before .before .loop .inv .1 .1 .1 .0) (c .before .before .before .before .before .before .before .before .before .before .before .before .before .before .before .before .before .before .before .before .before .before .before .before .before .before .before .before .before .before .args .bytes) (c .before .before .before .before .before .before .before .before .before .before .before .before .before .before .before .before .loop .count) (c .before .before .before .before .before .before .before .before .before .before .before .before .before .before .before .before .loop .total) (c .before .before .before .before .before .before .before .before .before .before .before .before .before .before .before .before .loop .list) _ (c .before .before .before .before .before .before .serve-within .ensures) (c .before .before .before .before .if1 .left)))))
 

@@ -12,26 +12,21 @@ use Rattle.calls.proofs.early.Reads as reads
 use Rattle.calls.proofs.early.Lts as lts
 use Rattle.sound.proofs.sound.Reads as sound-reads
 
--- src/lib.rt:138:9
 returns : tie.Need-returns
 unfolding earlyCode
 returns c = (rw (ne-eqb _ _ (c .if1 .taken)), λ z. absurd (omega arith))
 
--- src/lib.rt:141:9
 returns-2 : tie.Need-returns-2
 unfolding earlyCode
 returns-2 c = (rw (eq-eqb _ _ (c .before .if1 .left), ne-eqb _ _ (c .if2 .taken)), λ z. absurd (omega arith))
 
--- src/lib.rt:143:8
 sound-requires : tie.Need-sound-requires
 sound-requires c κs = search needs
 
--- src/lib.rt:144:9
 returns-3 : tie.Need-returns-3
 unfolding earlyCode
 returns-3 c = let z : Sized (c .before .before .before .before .before .before .args .b) = record { numbers = search needs; shares = search needs; deficits = search needs; starts = search needs; counts = search needs; ready = search needs; next = search needs; heads = search needs; tails = search needs; held = search needs } in (rw (eq-eqb _ _ (c .before .before .before .if1 .left), eq-eqb _ _ (c .before .before .if2 .left), sym (c .before .sound .ensures) ∙ c .if3 .taken), λ q. known-by _ _ _ z (rw (eq-eqb _ _ (c .before .before .before .if1 .left), eq-eqb _ _ (c .before .before .if2 .left), sym (c .before .sound .ensures) ∙ c .if3 .taken)))
 
--- src/lib.rt:134:1
 returns-4 : tie.Need-returns-4
 unfolding earlyCode
 returns-4 c = (rw (eq-eqb _ _ (c .before .before .before .if1 .left), eq-eqb _ _ (c .before .before .if2 .left), sym (c .before .sound .ensures) ∙ c .if3 .left), λ z. absurd (omega arith))

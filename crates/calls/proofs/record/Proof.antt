@@ -8,35 +8,27 @@ use Rattle.calls.proofs.record.Lts as lts
 use Rattle.calls.proofs.early.Reads as early-reads
 use Rattle.calls.proofs.take_record.Reads as take-record-reads
 
--- src/lib.rt:193:9
 early-requires : tie.Need-early-requires
 early-requires c κs = search needs
 
--- src/lib.rt:195:9
 same-length : tie.Need-same-length
 same-length c = search needs
 
--- src/lib.rt:195:9
 same-length-2 : tie.Need-same-length-2
 same-length-2 c = search needs
 
--- src/lib.rt:195:9
 returns : tie.Need-returns
 returns c = early-reply _ _ _ (c .before .early .result) (c .before .early .ensures .0) _ (c .if1 .taken)
 
--- src/lib.rt:197:5
 take-record-requires : tie.Need-take-record-requires
 take-record-requires c κs = c .before .before .before .early .ensures .1 (c .before .before .if1 .left)
 
--- src/lib.rt:183:1
 same-length-3 : tie.Need-same-length-3
 same-length-3 c = search needs
 
--- src/lib.rt:183:1
 same-length-4 : tie.Need-same-length-4
 same-length-4 c = search needs
 
--- src/lib.rt:183:1
 returns-2 : tie.Need-returns-2
 returns-2 c = c .before .before .before .before .take-record .ensures ∙ called-known _ _ _ (c .before .before .before .before .before .before .before .before .early .result) (c .before .before .before .before .before .before .before .before .early .ensures .0) (c .before .before .before .before .before .before .before .before .early .ensures .1 (c .before .before .before .before .before .before .before .if1 .left)) (c .before .before .before .before .before .before .before .if1 .left) _
 

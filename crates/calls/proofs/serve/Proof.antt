@@ -8,19 +8,15 @@ use Rattle.calls.proofs.serve.Lts as lts
 use Rattle.calls.proofs.early.Reads as early-reads
 use Rattle.calls.proofs.serve_board.Reads as serve-board-reads
 
--- src/lib.rt:459:9
 early-requires : tie.Need-early-requires
 early-requires c κs = search needs
 
--- src/lib.rt:461:9
 returns : tie.Need-returns
 returns c = early-serve _ _ _ (c .before .early .result) (c .before .early .ensures .0) (c .if1 .taken)
 
--- src/lib.rt:470:5
 serve-board-requires : tie.Need-serve-board-requires
 serve-board-requires c κs = c .before .early .ensures .1 (c .if1 .left)
 
--- src/lib.rt:456:1
 returns-2 : tie.Need-returns-2
 returns-2 c = c .serve-board .ensures ∙ serve-known _ _ _ (c .before .before .early .result) (c .before .before .early .ensures .0) (c .before .before .early .ensures .1 (c .before .if1 .left)) (c .before .if1 .left)
 

@@ -4,43 +4,33 @@ use borrow.Author.Needs.{needs}
 use Rattle.calls.proofs.serve_board.Statement.{statement}
 use Rattle.calls.proofs.serve_board.Tie as tie
 
--- src/lib.rt:80:9
 serve-within-requires : tie.Need-serve-within-requires
 serve-within-requires c κs = can-known _ _ _ (c .before .before .before .before .before .before .before .before .before .before .before .before .before .before .before .before .before .before .before .before .before .pre)
 
--- src/lib.rt:82:9
 returns : tie.Need-returns
 returns c = serve-stops _ _ _ (c .before .before .before .before .before .before .before .before .before .before .before .before .before .before .before .before .before .before .before .before .before .before .before .before .pre) 65536 (omega arith) _ (c .before .before .serve-within .ensures) (c .if1 .taken)
 
--- src/lib.rt:101:9
 rebuilt-requires : tie.Need-rebuilt-requires
 rebuilt-requires c κs = search needs
 
--- src/lib.rt:104:16
 mul-t46 : tie.Need-mul-t46
 mul-t46 c = let w = (sent-index _ _ _ (c .before .before .before .before .before .before .before .before .before .before .before .before .before .before .before .before .before .before .before .before .before .before .before .before .before .pre) _ _ _ (c .before .before .before .serve-within .ensures) (c .before .if1 .left)) in omega (arith, w .0, w .1)
 
--- src/lib.rt:104:16
 element-copy-out-t29 : tie.Need-element-copy-out-t29
 element-copy-out-t29 c = let w = (sent-index _ _ _ (c .before .before .before .before .before .before .before .before .before .before .before .before .before .before .before .before .before .before .before .before .before .before .before .before .before .pre) _ _ _ (c .before .before .before .serve-within .ensures) (c .before .if1 .left)) in omega (arith, w .0, w .1)
 
--- src/lib.rt:105:17
 mul-t49 : tie.Need-mul-t49
 mul-t49 c = let w = (sent-index _ _ _ (c .before .before .before .before .before .before .before .before .before .before .before .before .before .before .before .before .before .before .before .before .before .before .before .before .before .before .pre) _ _ _ (c .before .before .before .before .serve-within .ensures) (c .before .before .if1 .left)) in omega (arith, w .0, w .1)
 
--- src/lib.rt:105:17
 shared-slice-read-t26 : tie.Need-shared-slice-read-t26
 shared-slice-read-t26 c = let w = (sent-index _ _ _ (c .before .before .before .before .before .before .before .before .before .before .before .before .before .before .before .before .before .before .before .before .before .before .before .before .before .before .before .pre) _ _ _ (c .before .before .before .before .before .serve-within .ensures) (c .before .before .before .if1 .left)) in omega (arith, w .1, c .before .before .before .before .before .before .before .before .before .before .before .before .before .before .before .before .before .before .before .before .before .before .before .before .before .before .before .pre .ids-all)
 
--- src/lib.rt:106:17
 mul-t51 : tie.Need-mul-t51
 mul-t51 c = let w = (sent-index _ _ _ (c .before .before .before .before .before .before .before .before .before .before .before .before .before .before .before .before .before .before .before .before .before .before .before .before .before .before .before .pre) _ _ _ (c .before .before .before .before .before .serve-within .ensures) (c .before .before .before .if1 .left)) in omega (arith, w .0, w .1)
 
--- src/lib.rt:106:17
 shared-slice-read-t53 : tie.Need-shared-slice-read-t53
 shared-slice-read-t53 c = let w = (sent-index _ _ _ (c .before .before .before .before .before .before .before .before .before .before .before .before .before .before .before .before .before .before .before .before .before .before .before .before .before .before .before .before .pre) _ _ _ (c .before .before .before .before .before .before .serve-within .ensures) (c .before .before .before .before .if1 .left)) in omega (arith, w .1, c .before .before .before .before .before .before .before .before .before .before .before .before .before .before .before .before .before .before .before .before .before .before .before .before .before .before .before .before .pre .lens-all)
 
--- src/lib.rt:66:1
 returns-2 : tie.Need-returns-2
 returns-2 c = serve-goes _ _ _ (c .before .before .before .before .before .before .before .before .before .before .before .before .before .before .before .before .before .before .before .before .before .before .before .before .before .before .before .before .pre) 65536 (omega arith) _ (c .before .before .before .before .before .before .serve-within .ensures) (c .before .before .before .before .if1 .left) _ (c .before .before .before .rebuilt .ensures)
 

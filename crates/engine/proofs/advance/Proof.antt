@@ -17,56 +17,43 @@ Inv-loop from to pending heads held₀ set₀ k₀ held set k =
 abbrev μ-loop : tie.MeasureT-loop
 μ-loop from to pending heads held₀ set₀ k₀ held set k = 17 - k
 
--- src/engine.rt:97:5
 loop-holds : tie.Need-loop-holds Inv-loop μ-loop
 unfolding turned
 loop-holds c = (omega arith, refl)
 
--- src/engine.rt:98:12
 shr-if1 : tie.Need-shr-if1 Inv-loop μ-loop
 shr-if1 c = search needs
 
--- src/engine.rt:98:25
 shr-if1-2 : tie.Need-shr-if1-2 Inv-loop μ-loop
 shr-if1-2 c = search needs
 
--- src/engine.rt:99:13
 returns : tie.Need-returns Inv-loop μ-loop
 returns c = sym (c .before .before .loop .inv .1 ∙ turn-stop _ _ _ _ _ (c .before .loop-test .taken) (c .if1 .taken))
 
--- src/engine.rt:101:9
 mul-held : tie.Need-mul-held Inv-loop μ-loop
 mul-held c = search needs
 
--- src/engine.rt:101:9
 element-write-held : tie.Need-element-write-held Inv-loop μ-loop
 element-write-held c = search needs
 
--- src/engine.rt:102:12
 element-copy-out-if2 : tie.Need-element-copy-out-if2 Inv-loop μ-loop
 element-copy-out-if2 c = search needs
 
--- src/engine.rt:103:39
 cast-with-bit : tie.Need-cast-with-bit Inv-loop μ-loop
 cast-with-bit c = search needs
 
--- src/engine.rt:103:13
 with-bit-requires : tie.Need-with-bit-requires Inv-loop μ-loop
 with-bit-requires c κs = search needs
 
--- src/engine.rt:105:9
 add-k : tie.Need-add-k Inv-loop μ-loop
 add-k c = search needs
 
--- src/engine.rt:97:5
 loop-less : tie.Need-loop-less Inv-loop μ-loop
 loop-less c = search needs
 
--- src/engine.rt:97:5
 loop-again : tie.Need-loop-again Inv-loop μ-loop
 loop-again c = (omega (arith, c .before .before .before .loop-test .taken), c .before .before .before .before .loop .inv .1 ∙ turn-on _ _ _ _ _ (c .before .before .before .loop-test .taken) (c .before .before .if1 .left) ∙ ⊎-elim (λ w. rw (w .2, w .1 .ensures, ne-eqb _ _ (w .0 .taken))) (λ w. rw (w .1, eq-eqb _ _ (w .0 .left))) (c .if2 .came))
 
--- src/engine.rt:92:1
 returns-2 : tie.Need-returns-2 Inv-loop μ-loop
 returns-2 c = let z : 17 - c .before .loop .k ≡ 0 = omega (arith, c .loop-test .left) in sym (c .before .loop .inv .1 ∙ turn-out _ _ _ _ _ _ z)
 

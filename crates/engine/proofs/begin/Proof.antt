@@ -11,64 +11,49 @@ use borrow.Author.Needs.{needs}
 use Rattle.engine.proofs.begin.Statement.{statement}
 use Rattle.engine.proofs.begin.Tie as tie
 
--- src/engine.rt:195:9
 advance-requires : tie.Need-advance-requires
 advance-requires c κs = search needs
 
--- src/engine.rt:196:5
 leave-requires : tie.Need-leave-requires
 leave-requires c κs = (c .before .before .before .before .before .before .pre .inside, omega (arith, c .before .before .before .before .before .before .pre .class, class-le (getD (c .before .before .before .before .before .before .args .shares .now) (c .before .before .before .before .before .before .args .place) 0)))
 
--- src/engine.rt:197:5
 mul-ready : tie.Need-mul-ready
 mul-ready c = search needs
 
--- src/engine.rt:197:5
 element-write-ready : tie.Need-element-write-ready
 element-write-ready c = search needs
 
--- src/engine.rt:198:9
 still-pending-requires : tie.Need-still-pending-requires
 unfolding leftLinks
 still-pending-requires c κs = (omega (arith, c .before .before .before .before .before .before .before .before .before .pre .class, class-le (getD (c .before .before .before .before .before .before .before .before .before .args .shares .now) (c .before .before .before .before .before .before .before .before .before .args .place) 0)), rw (ap (λ (l : Links). l .heads) (c .before .before .leave .ensures)) (set-bound (c .before .before .before .before .before .before .before .before .before .args .heads .now) (c .before .before .before .before .before .before .before .before .before .args .k) _ 64 (c .before .before .before .before .before .before .before .before .before .pre .behind)))
 
--- src/engine.rt:199:32
 mul-credit : tie.Need-mul-credit
 mul-credit c = search needs
 
--- src/engine.rt:199:32
 element-copy-out-credit : tie.Need-element-copy-out-credit
 element-copy-out-credit c = search needs
 
--- src/engine.rt:199:47
 cast-credit : tie.Need-cast-credit
 cast-credit c = let h : c .before .before .before .before .before .before .before .before .before .before .before .args .k < 17 = omega (arith, c .before .before .before .before .before .before .before .before .before .before .before .pre .class, class-le (getD (c .before .before .before .before .before .before .before .before .before .before .before .args .shares .now) (c .before .before .before .before .before .before .before .before .before .before .before .args .place) 0)) in omega arith
 
--- src/engine.rt:199:9
 credit-requires : tie.Need-credit-requires
 credit-requires c κs = search needs
 
--- src/engine.rt:200:22
 mul-owed : tie.Need-mul-owed
 mul-owed c = search needs
 
--- src/engine.rt:200:22
 element-copy-out-owed : tie.Need-element-copy-out-owed
 element-copy-out-owed c = search needs
 
--- src/engine.rt:200:22
 add-t34 : tie.Need-add-t34
 add-t34 c = let a = credit-under (c .before .before .before .before .before .before .before .before .before .before .before .before .before .before .args .largest) (getD (c .before .before .before .before .before .before .before .before .before .before .before .before .before .before .args .shares .now) (c .before .before .before .before .before .before .before .before .before .before .before .before .before .before .args .place) 0) (c .before .before .before .before .before .before .before .before .before .before .before .before .before .before .pre .high) (most-pos (c .before .before .before .before .before .before .before .before .before .before .before .before .before .before .args .largest) (c .before .before .before .before .before .before .before .before .before .before .before .before .before .before .pre .least)) in let b = charge-small (c .before .before .before .before .before .before .before .before .before .before .before .before .before .before .args .largest) (c .before .before .before .before .before .before .before .before .before .before .before .before .before .before .pre .most) in omega (arith, a, b, c .before .before .credit .ensures, c .before .before .before .before .before .before .before .before .before .before .before .before .before .before .pre .owed)
 
--- src/engine.rt:201:5
 mul-deficits : tie.Need-mul-deficits
 mul-deficits c = search needs
 
--- src/engine.rt:201:5
 element-write-deficits : tie.Need-element-write-deficits
 element-write-deficits c = search needs
 
--- src/engine.rt:177:1
 returns : tie.Need-returns
 unfolding beganAt
 returns c = rw (← c .before .before .before .before .before .before .before .before .before .before .before .advance .ensures, ← c .before .before .before .before .before .before .before .leave .ensures, c .before .before .before .before .still-pending .ensures, c .before .before .credit .ensures)

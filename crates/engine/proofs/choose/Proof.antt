@@ -4,42 +4,33 @@ use borrow.Author.Needs.{needs}
 use Rattle.engine.proofs.choose.Statement.{statement}
 use Rattle.engine.proofs.choose.Tie as tie
 
--- src/engine.rt:180:21
 sub-place : tie.Need-sub-place
 sub-place c = search needs
 
--- src/engine.rt:181:9
 returns : tie.Need-returns
 unfolding choice
 returns c = rw (ne-eqb _ _ (c .if1 .taken))
 
--- src/engine.rt:184:9
 returns-2 : tie.Need-returns-2
 unfolding choice
 returns-2 c = rw (eq-eqb _ _ (c .before .if1 .left), eq-eqb _ _ (c .if2 .taken))
 
--- src/engine.rt:186:9
 chosen-class-requires : tie.Need-chosen-class-requires
 chosen-class-requires c κs = search needs
 
--- src/engine.rt:187:9
 slot-clock-requires : tie.Need-slot-clock-requires
 slot-clock-requires c κs = (rw (c .chosen-class .ensures) (c .before .before .before .pre .class (c .before .before .if1 .left) (c .before .if2 .left)), c .before .before .before .pre .time)
 
--- src/engine.rt:189:9
 returns-3 : tie.Need-returns-3
 unfolding choice
 returns-3 c = rw (eq-eqb _ _ (c .before .before .before .before .if1 .left), ne-eqb _ _ (c .before .before .before .if2 .left), ← c .before .before .chosen-class .ensures, ← c .before .slot-clock .ensures, le-leb _ _ (c .if3 .taken))
 
--- src/engine.rt:191:26
 cast-first-of : tie.Need-cast-first-of
 cast-first-of c = search needs
 
--- src/engine.rt:191:9
 first-of-requires : tie.Need-first-of-requires
 first-of-requires c κs = (rw (c .before .before .chosen-class .ensures) (c .before .before .before .before .before .pre .class (c .before .before .before .before .if1 .left) (c .before .before .before .if2 .left)), rw (c .before .before .chosen-class .ensures) (c .before .before .before .before .before .pre .first (c .before .before .before .before .if1 .left) (c .before .before .before .if2 .left)))
 
--- src/engine.rt:175:1
 returns-4 : tie.Need-returns-4
 unfolding choice
 returns-4 c = rw (eq-eqb _ _ (c .before .before .before .before .before .if1 .left), ne-eqb _ _ (c .before .before .before .before .if2 .left), ← c .before .before .before .chosen-class .ensures, ← c .before .before .slot-clock .ensures, lt-leb _ _ (c .before .if3 .left), c .first-of .ensures)

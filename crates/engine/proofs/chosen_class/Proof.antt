@@ -4,20 +4,16 @@ use borrow.Author.Needs.{needs}
 use Rattle.engine.proofs.chosen_class.Statement.{statement}
 use Rattle.engine.proofs.chosen_class.Tie as tie
 
--- src/engine.rt:138:9
 lowest-requires : tie.Need-lowest-requires
 lowest-requires c κs = search needs
 
--- src/engine.rt:138:9
 returns : tie.Need-returns
 unfolding chosenClass
 returns c = rw (eq-eqb _ _ (c .before .if1 .taken)) (c .lowest .ensures)
 
--- src/engine.rt:140:5
 lowest-requires-2 : tie.Need-lowest-requires-2
 lowest-requires-2 c κs = search needs
 
--- src/engine.rt:134:1
 returns-2 : tie.Need-returns-2
 unfolding chosenClass
 returns-2 c = rw (ne-eqb _ _ (c .before .if1 .left)) (c .lowest2 .ensures)

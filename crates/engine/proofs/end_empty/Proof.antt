@@ -5,27 +5,21 @@ use borrow.Author.Needs.{needs}
 use Rattle.engine.proofs.end_empty.Statement.{statement}
 use Rattle.engine.proofs.end_empty.Tie as tie
 
--- src/engine.rt:224:30
 add-advance : tie.Need-add-advance
 add-advance c = search needs
 
--- src/engine.rt:224:9
 advance-requires : tie.Need-advance-requires
 advance-requires c κs = search needs
 
--- src/engine.rt:225:9
 still-active-requires : tie.Need-still-active-requires
 still-active-requires c κs = search needs
 
--- src/engine.rt:227:9
 clear-held-requires : tie.Need-clear-held-requires
 clear-held-requires c κs = search needs
 
--- src/engine.rt:230:16
 add-t9 : tie.Need-add-t9
 add-t9 c = search needs
 
--- src/engine.rt:220:1
 returns : tie.Need-returns
 unfolding endedEmpty
 returns c = ⊎-elim (λ w. rw (w .3, w .2 .ensures, ← c .before .before .advance .ensures, ← c .before .still-active .ensures, eq-eqb _ _ (w .0 .taken))) (λ w. rw (w .1, ← c .before .before .advance .ensures, ← c .before .still-active .ensures, ne-eqb _ _ (w .0 .left))) (c .if1 .came)

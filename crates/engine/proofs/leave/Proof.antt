@@ -4,28 +4,22 @@ use borrow.Author.Needs.{needs}
 use Rattle.engine.proofs.leave.Statement.{statement}
 use Rattle.engine.proofs.leave.Tie as tie
 
--- src/engine.rt:82:18
 element-copy-out-behind : tie.Need-element-copy-out-behind
 element-copy-out-behind c = search needs
 
--- src/engine.rt:83:5
 element-write-next : tie.Need-element-write-next
 element-write-next c = search needs
 
--- src/engine.rt:84:5
 element-write-heads : tie.Need-element-write-heads
 element-write-heads c = search needs
 
--- src/engine.rt:86:9
 element-write-tails : tie.Need-element-write-tails
 element-write-tails c = search needs
 
--- src/engine.rt:78:1
 returns : tie.Need-returns
 unfolding leftLinks
 returns c = rw (eq-eqb _ _ (c .if1 .taken))
 
--- src/engine.rt:78:1
 returns-2 : tie.Need-returns-2
 unfolding leftLinks
 returns-2 c = rw (ne-eqb _ _ (c .if1 .left))

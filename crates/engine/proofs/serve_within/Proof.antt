@@ -6,73 +6,56 @@ use borrow.Author.Needs.{needs}
 use Rattle.engine.proofs.serve_within.Statement.{statement}
 use Rattle.engine.proofs.serve_within.Tie as tie
 
--- src/engine.rt:423:9
 choose-requires : tie.Need-choose-requires
 choose-requires c κs = search needs
 
--- src/engine.rt:425:22
 enum-known-chosen : tie.Need-enum-known-chosen
 enum-known-chosen c = search needs
 
--- src/engine.rt:425:31
 stay-requires : tie.Need-stay-requires
 stay-requires c κs = search needs
 
--- src/engine.rt:426:20
 enum-known-chosen-2 : tie.Need-enum-known-chosen-2
 enum-known-chosen-2 c = search needs
 
--- src/engine.rt:428:17
 stay-requires-2 : tie.Need-stay-requires-2
 stay-requires-2 c κs = search needs
 
--- src/engine.rt:428:17
 returns : tie.Need-returns
 returns c = within-full _ _ _ _ _ _ _ _ (sym (c .before .before .before .before .before .choose .ensures) ∙ c .before .before .before .chosen2 .given .1) _ (c .before .if1 .taken) (c .stay2 .ensures)
 
--- src/engine.rt:430:44
 element-copy-out-front-entry : tie.Need-element-copy-out-front-entry
 element-copy-out-front-entry c = (can-ring _ _ _ _ _ _ (c .before .before .before .before .before .before .before .pre .enacts _ _ (sym (c .before .before .before .before .choose .ensures) ∙ c .before .before .chosen2 .given .1))) .0
 
--- src/engine.rt:430:17
 front-entry-requires : tie.Need-front-entry-requires
 front-entry-requires c κs = ((can-ring _ _ _ _ _ _ (c .before .before .before .before .before .before .before .before .pre .enacts _ _ (sym (c .before .before .before .before .before .choose .ensures) ∙ c .before .before .before .chosen2 .given .1))) .0, (can-ring _ _ _ _ _ _ (c .before .before .before .before .before .before .before .before .pre .enacts _ _ (sym (c .before .before .before .before .before .choose .ensures) ∙ c .before .before .before .chosen2 .given .1))) .1)
 
--- src/engine.rt:431:47
 mul-t33 : tie.Need-mul-t33
 unfolding frontEntry
 mul-t33 c = let w = (can-ring _ _ _ _ _ _ (c .before .before .before .before .before .before .before .before .before .pre .enacts _ _ (sym (c .before .before .before .before .before .before .choose .ensures) ∙ c .before .before .before .before .chosen2 .given .1))) in omega (arith, c .front-entry .ensures, w .0, w .1, w .2)
 
--- src/engine.rt:431:47
 shared-slice-read-t35 : tie.Need-shared-slice-read-t35
 unfolding frontEntry
 shared-slice-read-t35 c = let w = (can-ring _ _ _ _ _ _ (c .before .before .before .before .before .before .before .before .before .before .pre .enacts _ _ (sym (c .before .before .before .before .before .before .before .choose .ensures) ∙ c .before .before .before .before .before .chosen2 .given .1))) in omega (arith, c .before .front-entry .ensures, w .0, w .1, w .2)
 
--- src/engine.rt:431:47
 cast-t36 : tie.Need-cast-t36
 cast-t36 c = omega (arith, c .shared-slice-known2 .given (c .before .front-entry .result))
 
--- src/engine.rt:431:17
 charged-requires : tie.Need-charged-requires
 charged-requires c κs = omega (arith, c .shared-slice-known2 .given (c .before .front-entry .result))
 
--- src/engine.rt:433:17
 stay-requires-3 : tie.Need-stay-requires-3
 stay-requires-3 c κs = search needs
 
--- src/engine.rt:433:17
 returns-2 : tie.Need-returns-2
 returns-2 c = within-long _ _ _ _ _ _ _ _ (sym (c .before .before .before .before .before .before .before .before .before .before .before .before .choose .ensures) ∙ c .before .before .before .before .before .before .before .before .before .before .chosen2 .given .1) _ _ (c .before .before .before .before .before .before .before .before .if1 .left) (c .before .before .before .before .before .before .front-entry .ensures) (c .before .before .before .before .charged .ensures) _ (c .before .if2 .taken) (c .stay3 .ensures)
 
--- src/engine.rt:435:17
 enact-requires : tie.Need-enact-requires
 enact-requires c κs = c .before .before .before .before .before .before .before .before .before .before .before .before .before .before .before .before .before .before .before .before .before .before .pre .enacts _ _ (sym (c .before .before .before .before .before .before .before .before .before .before .before .before .before .before .before .before .before .before .before .choose .ensures) ∙ c .before .before .before .before .before .before .before .before .before .before .before .before .before .before .before .before .before .chosen2 .given .1)
 
--- src/engine.rt:400:1
 returns-3 : tie.Need-returns-3
 returns-3 c = within-stop _ _ _ _ _ _ _ _ (sym (c .before .before .before .before .choose .ensures) ∙ c .before .before .chosen .given .1) (c .stay .ensures)
 
--- src/engine.rt:400:1
 returns-4 : tie.Need-returns-4
 returns-4 c = within-done _ _ _ _ _ _ _ _ (sym (c .before .before .before .before .before .before .before .before .before .before .before .before .before .before .before .before .before .before .before .before .before .choose .ensures) ∙ c .before .before .before .before .before .before .before .before .before .before .before .before .before .before .before .before .before .before .before .chosen2 .given .1) _ _ (c .before .before .before .before .before .before .before .before .before .before .before .before .before .before .before .before .before .if1 .left) (c .before .before .before .before .before .before .before .before .before .before .before .before .before .before .before .front-entry .ensures) (c .before .before .before .before .before .before .before .before .before .before .before .before .before .charged .ensures) (c .before .before .before .before .before .before .before .before .before .before .if2 .left) _ (c .before .enact .ensures)
 

@@ -4,16 +4,13 @@ use borrow.Author.Needs.{needs}
 use Rattle.engine.proofs.slot_clock.Statement.{statement}
 use Rattle.engine.proofs.slot_clock.Tie as tie
 
--- src/engine.rt:149:9
 next-start-requires : tie.Need-next-start-requires
 next-start-requires c κs = search needs
 
--- src/engine.rt:149:9
 returns : tie.Need-returns
 unfolding slotClock
 returns c = rw (eq-eqb _ _ (c .before .if1 .taken)) (c .next-start .ensures)
 
--- src/engine.rt:144:1
 returns-2 : tie.Need-returns-2
 unfolding slotClock
 returns-2 c = rw (ne-eqb _ _ (c .if1 .left))

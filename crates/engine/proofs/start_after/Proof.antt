@@ -4,11 +4,9 @@ use borrow.Author.Needs.{needs}
 use Rattle.engine.proofs.start_after.Statement.{statement}
 use Rattle.engine.proofs.start_after.Tie as tie
 
--- src/engine.rt:274:6
 add-result : tie.Need-add-result
 add-result c = search needs
 
--- src/engine.rt:270:1
 returns : tie.Need-returns
 unfolding startAfter
 returns c = refl

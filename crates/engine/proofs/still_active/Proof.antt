@@ -4,24 +4,19 @@ use borrow.Author.Needs.{needs}
 use Rattle.engine.proofs.still_active.Statement.{statement}
 use Rattle.engine.proofs.still_active.Tie as tie
 
--- src/engine.rt:131:8
 element-copy-out-if1 : tie.Need-element-copy-out-if1
 element-copy-out-if1 c = search needs
 
--- src/engine.rt:132:39
 cast-without-bit : tie.Need-cast-without-bit
 cast-without-bit c = search needs
 
--- src/engine.rt:132:9
 without-bit-requires : tie.Need-without-bit-requires
 without-bit-requires c κs = search needs
 
--- src/engine.rt:132:9
 returns : tie.Need-returns
 unfolding stillActive
 returns c = rw (eq-eqb _ _ (c .before .if1 .taken)) (c .without-bit .ensures)
 
--- src/engine.rt:127:1
 returns-2 : tie.Need-returns-2
 unfolding stillActive
 returns-2 c = rw (ne-eqb _ _ (c .if1 .left))

@@ -4,53 +4,41 @@ use borrow.Author.Needs.{needs}
 use Rattle.engine.proofs.still_pending.Statement.{statement}
 use Rattle.engine.proofs.still_pending.Tie as tie
 
--- src/engine.rt:115:17
 element-copy-out-first : tie.Need-element-copy-out-first
 element-copy-out-first c = search needs
 
--- src/engine.rt:117:39
 cast-without-bit : tie.Need-cast-without-bit
 cast-without-bit c = search needs
 
--- src/engine.rt:117:9
 without-bit-requires : tie.Need-without-bit-requires
 without-bit-requires c κs = search needs
 
--- src/engine.rt:117:9
 returns : tie.Need-returns
 unfolding stillPending
 returns c = rw (eq-eqb _ _ (c .before .if1 .taken)) (c .without-bit .ensures)
 
--- src/engine.rt:119:14
 cast-at : tie.Need-cast-at
 cast-at c = search needs
 
--- src/engine.rt:119:14
 sub-at : tie.Need-sub-at
 sub-at c = search needs
 
--- src/engine.rt:120:16
 mul-if2 : tie.Need-mul-if2
 mul-if2 c = search needs
 
--- src/engine.rt:120:16
 element-copy-out-if2 : tie.Need-element-copy-out-if2
 element-copy-out-if2 c = search needs
 
--- src/engine.rt:121:39
 cast-without-bit-2 : tie.Need-cast-without-bit-2
 cast-without-bit-2 c = search needs
 
--- src/engine.rt:121:9
 without-bit-requires-2 : tie.Need-without-bit-requires-2
 without-bit-requires-2 c κs = search needs
 
--- src/engine.rt:121:9
 returns-2 : tie.Need-returns-2
 unfolding stillPending
 returns-2 c = rw (ne-eqb _ _ (c .before .before .before .if1 .left), lt-ltb _ _ (c .before .if2 .taken)) (c .without-bit2 .ensures)
 
--- src/engine.rt:111:1
 returns-3 : tie.Need-returns-3
 unfolding stillPending
 returns-3 c = rw (ne-eqb _ _ (c .before .before .if1 .left), le-ltb _ _ (c .if2 .left))

@@ -10,29 +10,23 @@ use Rattle.orders.proofs.of_class.Reads as of-class-reads
 use Rattle.orders.proofs.ready_in_range.Reads as ready-in-range-reads
 use Rattle.places.proofs.in_order.Reads as in-order-reads
 
--- src/lib.rt:48:9
 in-order-requires : tie.Need-in-order-requires
 in-order-requires c κs = search needs
 
--- src/lib.rt:49:9
 returns : tie.Need-returns
 unfolding blockInRange
 returns c = rw (sym (c .before .in-order .ensures) ∙ not-true _ (c .if1 .taken))
 
--- src/lib.rt:51:9
 of-class-requires : tie.Need-of-class-requires
 of-class-requires c κs = search needs
 
--- src/lib.rt:52:9
 returns-2 : tie.Need-returns-2
 unfolding blockInRange
 returns-2 c = rw (sym (c .before .before .before .in-order .ensures) ∙ not-false _ (c .before .before .if1 .left), sym (c .before .of-class .ensures) ∙ not-true _ (c .if2 .taken))
 
--- src/lib.rt:54:5
 ready-in-range-requires : tie.Need-ready-in-range-requires
 ready-in-range-requires c κs = search needs
 
--- src/lib.rt:44:1
 returns-3 : tie.Need-returns-3
 unfolding blockInRange
 returns-3 c = rw (sym (c .before .before .before .before .in-order .ensures) ∙ not-false _ (c .before .before .before .if1 .left), sym (c .before .before .of-class .ensures) ∙ not-false _ (c .before .if2 .left)) (c .ready-in-range .ensures)

@@ -22,39 +22,30 @@ Inv-loop slot counts blocks₀ p₀ blocks p = (p ≤ 64) × ((blocks ≤ p) × 
 abbrev μ-loop : tie.MeasureT-loop
 μ-loop slot counts blocks₀ p₀ blocks p = 64 - p
 
--- src/lib.rt:96:5
 loop-holds : tie.Need-loop-holds Inv-loop μ-loop
 loop-holds c = (omega arith, (omega arith, sym (below-none _)))
 
--- src/lib.rt:97:42
 element-copy-out-in-order : tie.Need-element-copy-out-in-order Inv-loop μ-loop
 element-copy-out-in-order c = search needs
 
--- src/lib.rt:97:13
 in-order-requires : tie.Need-in-order-requires Inv-loop μ-loop
 in-order-requires c κs = search needs
 
--- src/lib.rt:98:19
 one-if-requires : tie.Need-one-if-requires Inv-loop μ-loop
 one-if-requires c κs = search needs
 
--- src/lib.rt:98:9
 add-blocks : tie.Need-add-blocks Inv-loop μ-loop
 add-blocks c = omega (arith, c .one-if .ensures, oneIf-le (c .before .in-order .result))
 
--- src/lib.rt:99:9
 add-p : tie.Need-add-p Inv-loop μ-loop
 add-p c = search needs
 
--- src/lib.rt:96:5
 loop-less : tie.Need-loop-less Inv-loop μ-loop
 loop-less c = search needs
 
--- src/lib.rt:96:5
 loop-again : tie.Need-loop-again Inv-loop μ-loop
 loop-again c = (omega arith, (omega (arith, c .one-if .ensures, oneIf-le (c .before .in-order .result)), omega (arith, c .one-if .ensures ∙ ap oneIf (c .before .in-order .ensures), c .before .before .before .before .loop .inv .1 .1, below-more (λ i. oneIf (inOrder i (getD (now (c .before .before .before .before .before .args .counts)) i 0) (c .before .before .before .before .before .args .slot))) (c .before .before .before .before .loop .p))))
 
--- src/lib.rt:91:1
 returns : tie.Need-returns Inv-loop μ-loop
 unfolding blocksInOrder
 returns c = let e : c .before .loop .p ≡ 64 = omega arith in c .before .loop .inv .1 .1 ∙ ap (below (λ i. oneIf (inOrder i (getD (now (c .before .before .args .counts)) i 0) (c .before .before .args .slot)))) e

@@ -7,42 +7,33 @@ use Rattle.orders.proofs.class_active.Reads as reads
 use Rattle.orders.proofs.class_active.Lts as lts
 use Rattle.orders.proofs.of_class.Reads as of-class-reads
 
--- src/lib.rt:133:8
 element-copy-out-if1 : tie.Need-element-copy-out-if1
 element-copy-out-if1 c = search needs
 
--- src/lib.rt:134:9
 returns : tie.Need-returns
 unfolding classActive
 returns c = rw (ne-eqb _ _ (c .if1 .taken))
 
--- src/lib.rt:137:9
 returns-2 : tie.Need-returns-2
 unfolding classActive
 returns-2 c = rw (eq-eqb _ _ (c .before .if1 .left), eq-eqb _ _ (c .if2 .taken))
 
--- src/lib.rt:140:9
 returns-3 : tie.Need-returns-3
 unfolding classActive
 returns-3 c = rw (eq-eqb _ _ (c .before .before .if1 .left), ne-eqb _ _ (c .before .if2 .left), lt-leb _ _ (c .if3 .taken))
 
--- src/lib.rt:142:13
 sub-p : tie.Need-sub-p
 sub-p c = search needs
 
--- src/lib.rt:143:17
 mul-of-class : tie.Need-mul-of-class
 mul-of-class c = search needs
 
--- src/lib.rt:143:17
 element-copy-out-of-class : tie.Need-element-copy-out-of-class
 element-copy-out-of-class c = search needs
 
--- src/lib.rt:143:5
 of-class-requires : tie.Need-of-class-requires
 of-class-requires c κs = search needs
 
--- src/lib.rt:128:1
 returns-4 : tie.Need-returns-4
 unfolding classActive
 returns-4 c = rw (eq-eqb _ _ (c .before .before .before .before .if1 .left), ne-eqb _ _ (c .before .before .before .if2 .left), le-leb _ _ (c .before .before .if3 .left)) (c .of-class .ensures)

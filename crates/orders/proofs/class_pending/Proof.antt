@@ -6,37 +6,29 @@ use Rattle.orders.proofs.class_pending.Tie as tie
 use Rattle.orders.proofs.class_pending.Reads as reads
 use Rattle.orders.proofs.class_pending.Lts as lts
 
--- src/lib.rt:503:13
 element-copy-out-h : tie.Need-element-copy-out-h
 element-copy-out-h c = search needs
 
--- src/lib.rt:505:9
 returns : tie.Need-returns
 unfolding classPending
 returns c = rw (eq-eqb _ _ (c .if1 .taken))
 
--- src/lib.rt:508:9
 returns-2 : tie.Need-returns-2
 unfolding classPending
 returns-2 c = rw (ne-eqb _ _ (c .before .if1 .left), lt-leb _ _ (c .if2 .taken))
 
--- src/lib.rt:510:13
 cast-p : tie.Need-cast-p
 cast-p c = search needs
 
--- src/lib.rt:510:13
 sub-p : tie.Need-sub-p
 sub-p c = search needs
 
--- src/lib.rt:511:5
 mul-result : tie.Need-mul-result
 mul-result c = search needs
 
--- src/lib.rt:511:5
 element-copy-out-result : tie.Need-element-copy-out-result
 element-copy-out-result c = search needs
 
--- src/lib.rt:498:1
 returns-3 : tie.Need-returns-3
 unfolding classPending
 returns-3 c = rw (ne-eqb _ _ (c .before .before .if1 .left), le-leb _ _ (c .before .if2 .left))

@@ -5,7 +5,6 @@ use Rattle.orders.proofs.clock_in_range.Tie as tie
 use Rattle.orders.proofs.clock_in_range.Reads as reads
 use Rattle.orders.proofs.clock_in_range.Lts as lts
 
--- src/lib.rt:26:1
 returns : tie.Need-returns
 unfolding clockInRange
 returns c = refl

@@ -9,20 +9,16 @@ use Rattle.orders.proofs.of_class.Reads as reads
 use Rattle.orders.proofs.of_class.Lts as lts
 use Rattle.units.proofs.interval.Reads as interval-reads
 
--- src/lib.rt:374:9
 interval-requires : tie.Need-interval-requires
 interval-requires c κs = search needs
 
--- src/lib.rt:375:18
 mul-scaled : tie.Need-mul-scaled
 mul-scaled c = omega (arith, scaled-fits (c .before .args .share) (c .before .args .k) (c .interval .result) (omega arith) (c .before .pre) (c .interval .ensures))
 
--- src/lib.rt:377:9
 returns : tie.Need-returns
 unfolding ofClass
 returns c = rw (← c .before .interval .ensures, lt-leb _ _ (c .if1 .taken))
 
--- src/lib.rt:370:1
 returns-2 : tie.Need-returns-2
 unfolding ofClass
 returns-2 c = rw (← c .before .interval .ensures, le-leb _ _ (c .if1 .left))

@@ -19,75 +19,57 @@ Inv-loop k start slot tail head shares counts ready next met₀ h₀ least₀ la
 abbrev μ-loop : tie.MeasureT-loop
 μ-loop k start slot tail head shares counts ready next met₀ h₀ least₀ last₀ met h least last = 64 - met
 
--- src/lib.rt:421:5
 loop-holds : tie.Need-loop-holds Inv-loop μ-loop
 loop-holds c = (omega arith, refl)
 
--- src/lib.rt:423:13
 returns : tie.Need-returns Inv-loop μ-loop
 returns c = sym (c .before .before .loop .inv .1 ∙ walk-long (c .before .before .before .args .k) (c .before .before .before .args .start) (c .before .before .before .args .slot) (c .before .before .before .args .tail) (now (c .before .before .before .args .shares)) (now (c .before .before .before .args .counts)) (now (c .before .before .before .args .ready)) (now (c .before .before .before .args .next)) (c .before .before .loop .met) (c .before .before .loop .h) (c .before .before .loop .least) (c .before .before .loop .last) _ (omega arith) (c .before .loop-test .taken))
 
--- src/lib.rt:426:13
 returns-2 : tie.Need-returns-2 Inv-loop μ-loop
 returns-2 c = sym (c .before .before .before .loop .inv .1 ∙ walk-far (c .before .before .before .before .args .k) (c .before .before .before .before .args .start) (c .before .before .before .before .args .slot) (c .before .before .before .before .args .tail) (now (c .before .before .before .before .args .shares)) (now (c .before .before .before .before .args .counts)) (now (c .before .before .before .before .args .ready)) (now (c .before .before .before .before .args .next)) (c .before .before .before .loop .met) (c .before .before .before .loop .h) (c .before .before .before .loop .least) (c .before .before .before .loop .last) (c .before .if1 .left) (c .before .before .loop-test .taken) (c .if2 .taken))
 
--- src/lib.rt:428:17
 cast-p : tie.Need-cast-p Inv-loop μ-loop
 cast-p c = search needs
 
--- src/lib.rt:428:17
 sub-p : tie.Need-sub-p Inv-loop μ-loop
 sub-p c = search needs
 
--- src/lib.rt:429:18
 mul-at : tie.Need-mul-at Inv-loop μ-loop
 mul-at c = search needs
 
--- src/lib.rt:429:18
 element-copy-out-at : tie.Need-element-copy-out-at Inv-loop μ-loop
 element-copy-out-at c = search needs
 
--- src/lib.rt:430:54
 mul-block-in-range : tie.Need-mul-block-in-range Inv-loop μ-loop
 mul-block-in-range c = search needs
 
--- src/lib.rt:430:54
 element-copy-out-block-in-range : tie.Need-element-copy-out-block-in-range Inv-loop μ-loop
 element-copy-out-block-in-range c = search needs
 
--- src/lib.rt:430:65
 element-copy-out-block-in-range-2 : tie.Need-element-copy-out-block-in-range-2 Inv-loop μ-loop
 element-copy-out-block-in-range-2 c = search needs
 
--- src/lib.rt:430:13
 block-in-range-requires : tie.Need-block-in-range-requires Inv-loop μ-loop
 block-in-range-requires c κs = search needs
 
--- src/lib.rt:431:13
 returns-3 : tie.Need-returns-3 Inv-loop μ-loop
 returns-3 c = sym (c .before .before .before .before .before .before .before .before .loop .inv .1 ∙ walk-refused (c .before .before .before .before .before .before .before .before .before .args .k) (c .before .before .before .before .before .before .before .before .before .args .start) (c .before .before .before .before .before .before .before .before .before .args .slot) (c .before .before .before .before .before .before .before .before .before .args .tail) (now (c .before .before .before .before .before .before .before .before .before .args .shares)) (now (c .before .before .before .before .before .before .before .before .before .args .counts)) (now (c .before .before .before .before .before .before .before .before .before .args .ready)) (now (c .before .before .before .before .before .before .before .before .before .args .next)) (c .before .before .before .before .before .before .before .before .loop .met) (c .before .before .before .before .before .before .before .before .loop .h) (c .before .before .before .before .before .before .before .before .loop .least) (c .before .before .before .before .before .before .before .before .loop .last) (c .before .before .before .before .before .before .if1 .left) (c .before .before .before .before .before .before .before .loop-test .taken) (c .before .before .before .before .before .if2 .left) (sym (c .before .block-in-range .ensures) ∙ not-true _ (c .if3 .taken)))
 
--- src/lib.rt:433:9
 add-met : tie.Need-add-met Inv-loop μ-loop
 add-met c = search needs
 
--- src/lib.rt:436:13
 element-copy-out-h : tie.Need-element-copy-out-h Inv-loop μ-loop
 element-copy-out-h c = search needs
 
--- src/lib.rt:421:5
 loop-less : tie.Need-loop-less Inv-loop μ-loop
 loop-less c = search needs
 
--- src/lib.rt:421:5
 loop-again : tie.Need-loop-again Inv-loop μ-loop
 loop-again c = (omega arith, c .before .before .before .before .before .before .before .before .before .loop .inv .1 ∙ walk-on (c .before .before .before .before .before .before .before .before .before .before .args .k) (c .before .before .before .before .before .before .before .before .before .before .args .start) (c .before .before .before .before .before .before .before .before .before .before .args .slot) (c .before .before .before .before .before .before .before .before .before .before .args .tail) (now (c .before .before .before .before .before .before .before .before .before .before .args .shares)) (now (c .before .before .before .before .before .before .before .before .before .before .args .counts)) (now (c .before .before .before .before .before .before .before .before .before .before .args .ready)) (now (c .before .before .before .before .before .before .before .before .before .before .args .next)) (c .before .before .before .before .before .before .before .before .before .loop .met) (c .before .before .before .before .before .before .before .before .before .loop .h) (c .before .before .before .before .before .before .before .before .before .loop .least) (c .before .before .before .before .before .before .before .before .before .loop .last) (c .before .before .before .before .before .before .before .if1 .left) (c .before .before .before .before .before .before .before .before .loop-test .taken) (c .before .before .before .before .before .before .if2 .left) (sym (c .before .before .block-in-range .ensures) ∙ not-false _ (c .before .if3 .left)))
 
--- src/lib.rt:439:9
 returns-4 : tie.Need-returns-4 Inv-loop μ-loop
 returns-4 c = sym (c .before .before .loop .inv .1 ∙ walk-end (c .before .before .before .args .k) (c .before .before .before .args .start) (c .before .before .before .args .slot) (c .before .before .before .args .tail) (now (c .before .before .before .args .shares)) (now (c .before .before .before .args .counts)) (now (c .before .before .before .args .ready)) (now (c .before .before .before .args .next)) (c .before .before .loop .met) (c .before .before .loop .h) (c .before .before .loop .least) (c .before .before .loop .last) _ (c .before .loop-test .left) ∙ ap (λ (t : Bool). cond t (c .before .before .loop .met) 65) (ne-eqb _ _ (c .if4 .taken)))
 
--- src/lib.rt:413:1
 returns-5 : tie.Need-returns-5 Inv-loop μ-loop
 returns-5 c = sym (c .before .before .loop .inv .1 ∙ walk-end (c .before .before .before .args .k) (c .before .before .before .args .start) (c .before .before .before .args .slot) (c .before .before .before .args .tail) (now (c .before .before .before .args .shares)) (now (c .before .before .before .args .counts)) (now (c .before .before .before .args .ready)) (now (c .before .before .before .args .next)) (c .before .before .loop .met) (c .before .before .loop .h) (c .before .before .loop .least) (c .before .before .loop .last) _ (c .before .loop-test .left) ∙ ap (λ (t : Bool). cond t (c .before .before .loop .met) 65) (eq-eqb _ _ (c .if4 .left)))
 

@@ -27,66 +27,51 @@ Inv-loop clock slot heads tails shares counts ready next total₀ k₀ total k =
 abbrev μ-loop : tie.MeasureT-loop
 μ-loop clock slot heads tails shares counts ready next total₀ k₀ total k = 17 - k
 
--- src/lib.rt:108:9
 clock-in-range-requires : tie.Need-clock-in-range-requires Inv-loop μ-loop
 clock-in-range-requires c κs = search needs
 
--- src/lib.rt:109:9
 returns : tie.Need-returns Inv-loop μ-loop
 unfolding ordersListed
 returns c = rw (sym (c .before .clock-in-range .ensures) ∙ not-true _ (c .if1 .taken))
 
--- src/lib.rt:113:5
 loop-holds : tie.Need-loop-holds Inv-loop μ-loop
 loop-holds c = (omega arith, (omega arith, (all-none _, sym (below-none _))))
 
--- src/lib.rt:114:21
 cast-class : tie.Need-cast-class Inv-loop μ-loop
 cast-class c = search needs
 
--- src/lib.rt:115:13
 next-start-requires : tie.Need-next-start-requires Inv-loop μ-loop
 unfolding clockInRange
 next-start-requires c κs = (omega (arith, c .loop-test .taken), true-le (c .before .before .before .before .args .clock) (2 ^ 62) (sym (c .before .before .before .clock-in-range .ensures) ∙ not-false _ (c .before .before .if1 .left)))
 
--- src/lib.rt:116:51
 element-copy-out-order-length : tie.Need-element-copy-out-order-length Inv-loop μ-loop
 element-copy-out-order-length c = search needs
 
--- src/lib.rt:116:65
 element-copy-out-order-length-2 : tie.Need-element-copy-out-order-length-2 Inv-loop μ-loop
 element-copy-out-order-length-2 c = search needs
 
--- src/lib.rt:116:13
 order-length-requires : tie.Need-order-length-requires Inv-loop μ-loop
 order-length-requires c κs = search needs
 
--- src/lib.rt:118:13
 returns-2 : tie.Need-returns-2 Inv-loop μ-loop
 unfolding ordersListed
 returns-2 c = let len = length-as (c .before .before .before .before .before .before .before .before .before .args .clock) (c .before .before .before .before .before .before .before .before .before .args .slot) (now (c .before .before .before .before .before .before .before .before .before .args .heads)) (now (c .before .before .before .before .before .before .before .before .before .args .tails)) (now (c .before .before .before .before .before .before .before .before .before .args .shares)) (now (c .before .before .before .before .before .before .before .before .before .args .counts)) (now (c .before .before .before .before .before .before .before .before .before .args .ready)) (now (c .before .before .before .before .before .before .before .before .before .args .next)) (c .before .before .before .before .before .before .loop .k) _ _ (c .before .before .before .before .next-start .ensures) (c .before .order-length .ensures) in rw (sym (c .before .before .before .before .before .before .before .before .clock-in-range .ensures) ∙ not-false _ (c .before .before .before .before .before .before .before .if1 .left), all-stop (λ j. leb (orderLength (c .before .before .before .before .before .before .before .before .before .args .clock) (c .before .before .before .before .before .before .before .before .before .args .slot) (now (c .before .before .before .before .before .before .before .before .before .args .heads)) (now (c .before .before .before .before .before .before .before .before .before .args .tails)) (now (c .before .before .before .before .before .before .before .before .before .args .shares)) (now (c .before .before .before .before .before .before .before .before .before .args .counts)) (now (c .before .before .before .before .before .before .before .before .before .args .ready)) (now (c .before .before .before .before .before .before .before .before .before .args .next)) j) 64) 17 (c .before .before .before .before .before .before .loop .k) (c .before .before .before .before .before .loop-test .taken) (lt-leb (orderLength (c .before .before .before .before .before .before .before .before .before .args .clock) (c .before .before .before .before .before .before .before .before .before .args .slot) (now (c .before .before .before .before .before .before .before .before .before .args .heads)) (now (c .before .before .before .before .before .before .before .before .before .args .tails)) (now (c .before .before .before .before .before .before .before .before .before .args .shares)) (now (c .before .before .before .before .before .before .before .before .before .args .counts)) (now (c .before .before .before .before .before .before .before .before .before .args .ready)) (now (c .before .before .before .before .before .before .before .before .before .args .next)) (c .before .before .before .before .before .before .loop .k)) 64 (omega (arith, len, c .if2 .taken))))
 
--- src/lib.rt:120:9
 add-total : tie.Need-add-total Inv-loop μ-loop
 add-total c = omega (arith, c .before .before .before .before .before .before .loop .inv .1 .0, c .if2 .left)
 
--- src/lib.rt:121:9
 add-k : tie.Need-add-k Inv-loop μ-loop
 add-k c = search needs
 
--- src/lib.rt:113:5
 loop-less : tie.Need-loop-less Inv-loop μ-loop
 loop-less c = search needs
 
--- src/lib.rt:113:5
 loop-again : tie.Need-loop-again Inv-loop μ-loop
 loop-again c = let len = length-as (c .before .before .before .before .before .before .before .before .before .args .clock) (c .before .before .before .before .before .before .before .before .before .args .slot) (now (c .before .before .before .before .before .before .before .before .before .args .heads)) (now (c .before .before .before .before .before .before .before .before .before .args .tails)) (now (c .before .before .before .before .before .before .before .before .before .args .shares)) (now (c .before .before .before .before .before .before .before .before .before .args .counts)) (now (c .before .before .before .before .before .before .before .before .before .args .ready)) (now (c .before .before .before .before .before .before .before .before .before .args .next)) (c .before .before .before .before .before .before .loop .k) _ _ (c .before .before .before .before .next-start .ensures) (c .before .order-length .ensures) in (omega arith, (omega (arith, c .before .before .before .before .before .before .loop .inv .1 .0, c .if2 .left), (all-more (λ j. leb (orderLength (c .before .before .before .before .before .before .before .before .before .args .clock) (c .before .before .before .before .before .before .before .before .before .args .slot) (now (c .before .before .before .before .before .before .before .before .before .args .heads)) (now (c .before .before .before .before .before .before .before .before .before .args .tails)) (now (c .before .before .before .before .before .before .before .before .before .args .shares)) (now (c .before .before .before .before .before .before .before .before .before .args .counts)) (now (c .before .before .before .before .before .before .before .before .before .args .ready)) (now (c .before .before .before .before .before .before .before .before .before .args .next)) j) 64) (c .before .before .before .before .before .before .loop .k) (c .before .before .before .before .before .before .loop .inv .1 .1 .0) (le-leb (orderLength (c .before .before .before .before .before .before .before .before .before .args .clock) (c .before .before .before .before .before .before .before .before .before .args .slot) (now (c .before .before .before .before .before .before .before .before .before .args .heads)) (now (c .before .before .before .before .before .before .before .before .before .args .tails)) (now (c .before .before .before .before .before .before .before .before .before .args .shares)) (now (c .before .before .before .before .before .before .before .before .before .args .counts)) (now (c .before .before .before .before .before .before .before .before .before .args .ready)) (now (c .before .before .before .before .before .before .before .before .before .args .next)) (c .before .before .before .before .before .before .loop .k)) 64 (omega (arith, len, c .if2 .left))), omega (arith, len, c .before .before .before .before .before .before .loop .inv .1 .1 .1, below-more (orderLength (c .before .before .before .before .before .before .before .before .before .args .clock) (c .before .before .before .before .before .before .before .before .before .args .slot) (now (c .before .before .before .before .before .before .before .before .before .args .heads)) (now (c .before .before .before .before .before .before .before .before .before .args .tails)) (now (c .before .before .before .before .before .before .before .before .before .args .shares)) (now (c .before .before .before .before .before .before .before .before .before .args .counts)) (now (c .before .before .before .before .before .before .before .before .before .args .ready)) (now (c .before .before .before .before .before .before .before .before .before .args .next))) (c .before .before .before .before .before .before .loop .k)))))
 
--- src/lib.rt:123:9
 blocks-in-order-requires : tie.Need-blocks-in-order-requires Inv-loop μ-loop
 blocks-in-order-requires c κs = search needs
 
--- src/lib.rt:105:1
 returns-3 : tie.Need-returns-3 Inv-loop μ-loop
 unfolding ordersListed
 returns-3 c = let e : c .before .before .loop .k ≡ 17 = omega arith in rw (sym (c .before .before .before .before .clock-in-range .ensures) ∙ not-false _ (c .before .before .before .if1 .left), rw e at (c .before .before .loop .inv .1 .1 .0), ← c .blocks-in-order .ensures) (ap (λ (n : ℕ). eqb n (c .blocks-in-order .result)) (c .before .before .loop .inv .1 .1 .1 ∙ ap (below (orderLength (c .before .before .before .before .before .args .clock) (c .before .before .before .before .before .args .slot) (now (c .before .before .before .before .before .args .heads)) (now (c .before .before .before .before .before .args .tails)) (now (c .before .before .before .before .before .args .shares)) (now (c .before .before .before .before .before .args .counts)) (now (c .before .before .before .before .before .args .ready)) (now (c .before .before .before .before .before .args .next)))) e))

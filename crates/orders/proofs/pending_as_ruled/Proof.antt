@@ -21,31 +21,24 @@ Inv-loop pending clock ready heads set₀ k₀ set k = (k ≤ 17) × (set ≡ se
 abbrev μ-loop : tie.MeasureT-loop
 μ-loop pending clock ready heads set₀ k₀ set k = 17 - k
 
--- src/lib.rt:546:5
 loop-holds : tie.Need-loop-holds Inv-loop μ-loop
 loop-holds c = (omega arith, sym (set-none _))
 
--- src/lib.rt:547:13
 class-pending-requires : tie.Need-class-pending-requires Inv-loop μ-loop
 class-pending-requires c κs = search needs
 
--- src/lib.rt:548:9
 set-with-requires : tie.Need-set-with-requires Inv-loop μ-loop
 set-with-requires c κs = search needs
 
--- src/lib.rt:549:9
 add-k : tie.Need-add-k Inv-loop μ-loop
 add-k c = search needs
 
--- src/lib.rt:546:5
 loop-less : tie.Need-loop-less Inv-loop μ-loop
 loop-less c = search needs
 
--- src/lib.rt:546:5
 loop-again : tie.Need-loop-again Inv-loop μ-loop
 loop-again c = (omega arith, c .set-with .ensures ∙ ap₂ (λ (m : Bool) (s : ℕ). cond m (withBit s (c .before .before .before .loop .k)) s) (c .before .class-pending .ensures) (c .before .before .before .loop .inv .1) ∙ sym (set-next (classPending (c .before .before .before .before .args .clock) (now (c .before .before .before .before .args .ready)) (now (c .before .before .before .before .args .heads))) (c .before .before .before .loop .k)))
 
--- src/lib.rt:541:1
 returns : tie.Need-returns Inv-loop μ-loop
 unfolding pendingAsRuled
 returns c = let e : c .before .loop .k ≡ 17 = omega arith in ap (eqb (c .before .before .args .pending)) (c .before .loop .inv .1 ∙ ap (λ (n : ℕ). setBelow n (classPending (c .before .before .args .clock) (now (c .before .before .args .ready)) (now (c .before .before .args .heads)))) e)

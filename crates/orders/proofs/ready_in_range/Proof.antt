@@ -10,25 +10,20 @@ use Rattle.orders.proofs.ready_in_range.Tie as tie
 use Rattle.orders.proofs.ready_in_range.Reads as reads
 use Rattle.orders.proofs.ready_in_range.Lts as lts
 
--- src/lib.rt:387:18
 shr-whole : tie.Need-shr-whole
 shr-whole c = search needs
 
--- src/lib.rt:387:17
 shl-whole : tie.Need-shl-whole
 shl-whole c = search needs
 
--- src/lib.rt:389:9
 returns : tie.Need-returns
 unfolding readyInRange
 returns c = let f : c .before .args .ready < 2 ^ 64 = omega arith in rw (ne-eqb _ _ (λ e. c .if1 .taken (whole-is (c .before .args .ready) (c .before .args .k) f ∙ e)))
 
--- src/lib.rt:392:9
 returns-2 : tie.Need-returns-2
 unfolding readyInRange
 returns-2 c = let f : c .before .before .args .ready < 2 ^ 64 = omega arith in rw (eq-eqb _ _ (sym (whole-is (c .before .before .args .ready) (c .before .before .args .k) f) ∙ c .before .if1 .left), lt-leb _ _ (c .if2 .taken))
 
--- src/lib.rt:383:1
 returns-3 : tie.Need-returns-3
 unfolding readyInRange
 returns-3 c = let f : c .before .before .args .ready < 2 ^ 64 = omega arith in rw (eq-eqb _ _ (sym (whole-is (c .before .before .args .ready) (c .before .before .args .k) f) ∙ c .before .if1 .left), le-leb _ _ (c .if2 .left))

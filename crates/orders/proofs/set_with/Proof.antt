@@ -5,15 +5,12 @@ use Rattle.orders.proofs.set_with.Reads as reads
 use Rattle.orders.proofs.set_with.Lts as lts
 use Rattle.bits.proofs.with_bit.Reads as with-bit-reads
 
--- src/lib.rt:520:9
 with-bit-requires : tie.Need-with-bit-requires
 with-bit-requires c κs = search needs
 
--- src/lib.rt:520:9
 returns : tie.Need-returns
 returns c = rw (c .before .if1 .taken) (c .with-bit .ensures)
 
--- src/lib.rt:515:1
 returns-2 : tie.Need-returns-2
 returns-2 c = rw (c .if1 .left)
 

@@ -7,21 +7,17 @@ use Rattle.places.proofs.deficit_in_range.Reads as reads
 use Rattle.places.proofs.deficit_in_range.Lts as lts
 use Rattle.units.proofs.charge.Reads as charge-reads
 
--- src/lib.rt:116:9
 charge-requires : tie.Need-charge-requires
 charge-requires c κs = search needs
 
--- src/lib.rt:118:9
 returns : tie.Need-returns
 unfolding deficitInRange
 returns c = rw (← c .before .before .before .charge .ensures, le-ltb _ _ (c .if1 .taken))
 
--- src/lib.rt:121:9
 returns-2 : tie.Need-returns-2
 unfolding deficitInRange
 returns-2 c = rw (← c .before .before .before .before .charge .ensures, lt-ltb _ _ (c .before .if1 .left), c .if2 .taken)
 
--- src/lib.rt:113:1
 returns-3 : tie.Need-returns-3
 unfolding deficitInRange
 returns-3 c = rw (← c .before .before .before .before .before .charge .ensures, lt-ltb _ _ (c .before .before .if1 .left), c .before .if2 .left)

@@ -5,27 +5,22 @@ use Rattle.places.proofs.free_is_zero.Tie as tie
 use Rattle.places.proofs.free_is_zero.Reads as reads
 use Rattle.places.proofs.free_is_zero.Lts as lts
 
--- src/lib.rt:131:9
 returns : tie.Need-returns
 unfolding freeIsZero
 returns c = rw (lt-ltb _ _ (c .if1 .taken))
 
--- src/lib.rt:134:9
 returns-2 : tie.Need-returns-2
 unfolding freeIsZero
 returns-2 c = rw (le-ltb _ _ (c .before .if1 .left), ne-eqb _ _ (c .if2 .taken))
 
--- src/lib.rt:137:9
 returns-3 : tie.Need-returns-3
 unfolding freeIsZero
 returns-3 c = rw (le-ltb _ _ (c .before .before .if1 .left), eq-eqb _ _ (c .before .if2 .left), ne-eqb _ _ (c .if3 .taken))
 
--- src/lib.rt:140:9
 returns-4 : tie.Need-returns-4
 unfolding freeIsZero
 returns-4 c = rw (le-ltb _ _ (c .before .before .before .if1 .left), eq-eqb _ _ (c .before .before .if2 .left), eq-eqb _ _ (c .before .if3 .left), ne-eqb _ _ (c .if4 .taken))
 
--- src/lib.rt:127:1
 returns-5 : tie.Need-returns-5
 unfolding freeIsZero
 returns-5 c = rw (le-ltb _ _ (c .before .before .before .before .if1 .left), eq-eqb _ _ (c .before .before .before .if2 .left), eq-eqb _ _ (c .before .before .if3 .left), eq-eqb _ _ (c .before .if4 .left))

@@ -18,39 +18,30 @@ Inv-loop held sum₀ k₀ sum k = (k ≤ 17) × ((sum ≤ k * 4294967296) × (su
 abbrev μ-loop : tie.MeasureT-loop
 μ-loop held sum₀ k₀ sum k = 17 - k
 
--- src/lib.rt:283:5
 loop-holds : tie.Need-loop-holds Inv-loop μ-loop
 loop-holds c = (omega arith, (omega arith, sym (below-none _)))
 
--- src/lib.rt:284:21
 mul-wide : tie.Need-mul-wide Inv-loop μ-loop
 mul-wide c = search needs
 
--- src/lib.rt:284:21
 element-copy-out-wide : tie.Need-element-copy-out-wide Inv-loop μ-loop
 element-copy-out-wide c = search needs
 
--- src/lib.rt:284:16
 wide-requires : tie.Need-wide-requires Inv-loop μ-loop
 wide-requires c κs = search needs
 
--- src/lib.rt:284:9
 add-sum : tie.Need-add-sum Inv-loop μ-loop
 add-sum c = omega (arith, c .wide .ensures, c .before .before .before .loop .inv .1 .0)
 
--- src/lib.rt:285:9
 add-k : tie.Need-add-k Inv-loop μ-loop
 add-k c = search needs
 
--- src/lib.rt:283:5
 loop-less : tie.Need-loop-less Inv-loop μ-loop
 loop-less c = search needs
 
--- src/lib.rt:283:5
 loop-again : tie.Need-loop-again Inv-loop μ-loop
 loop-again c = (omega arith, (omega (arith, c .wide .ensures, c .before .before .before .loop .inv .1 .0), omega (arith, c .wide .ensures, c .before .before .before .loop .inv .1 .1, below-more (λ i. getD (now (c .before .before .before .before .args .held)) i 0) (c .before .before .before .loop .k))))
 
--- src/lib.rt:278:1
 returns : tie.Need-returns Inv-loop μ-loop
 returns c = let e : c .before .loop .k ≡ 17 = omega arith in c .before .loop .inv .1 .1 ∙ ap (below (λ i. getD (now (c .before .before .args .held)) i 0)) e
 

@@ -7,16 +7,13 @@ use Rattle.places.proofs.held_while_waiting.Reads as reads
 use Rattle.places.proofs.held_while_waiting.Lts as lts
 use Rattle.places.proofs.none_held.Reads as none-held-reads
 
--- src/lib.rt:309:9
 returns : tie.Need-returns
 unfolding heldWhileWaiting
 returns c = rw (ne-eqb _ _ (c .if1 .taken))
 
--- src/lib.rt:311:5
 none-held-requires : tie.Need-none-held-requires
 none-held-requires c κs = search needs
 
--- src/lib.rt:305:1
 returns-2 : tie.Need-returns-2
 unfolding heldWhileWaiting
 returns-2 c = rw (eq-eqb _ _ (c .before .if1 .left)) (c .none-held .ensures)

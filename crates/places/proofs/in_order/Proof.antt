@@ -7,21 +7,17 @@ use Rattle.places.proofs.in_order.Tie as tie
 use Rattle.places.proofs.in_order.Reads as reads
 use Rattle.places.proofs.in_order.Lts as lts
 
--- src/lib.rt:100:9
 returns : tie.Need-returns
 unfolding inOrder
 returns c = rw (eq-eqb _ _ (c .if1 .taken))
 
--- src/lib.rt:103:9
 returns-2 : tie.Need-returns-2
 unfolding inOrder
 returns-2 c = rw (ne-eqb _ _ (c .before .if1 .left), no-link _ (c .before .before .args .p) (c .if2 .taken))
 
--- src/lib.rt:105:5
 sub-result : tie.Need-sub-result
 sub-result c = search needs
 
--- src/lib.rt:96:1
 returns-3 : tie.Need-returns-3
 unfolding inOrder
 returns-3 c = rw (ne-eqb _ _ (c .before .if1 .left), link-as (c .before .before .args .slot) (c .before .before .args .p) (c .if2 .left))

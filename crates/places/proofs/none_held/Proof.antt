@@ -20,36 +20,28 @@ Inv-loop held k₀ k = (k ≤ 17) × (allBelow k (λ i. eqb (getD held i 0) 0) �
 abbrev μ-loop : tie.MeasureT-loop
 μ-loop held k₀ k = 17 - k
 
--- src/lib.rt:295:5
 loop-holds : tie.Need-loop-holds Inv-loop μ-loop
 loop-holds c = (omega arith, all-none _)
 
--- src/lib.rt:296:12
 mul-if1 : tie.Need-mul-if1 Inv-loop μ-loop
 mul-if1 c = search needs
 
--- src/lib.rt:296:12
 element-copy-out-if1 : tie.Need-element-copy-out-if1 Inv-loop μ-loop
 element-copy-out-if1 c = search needs
 
--- src/lib.rt:297:13
 returns : tie.Need-returns Inv-loop μ-loop
 unfolding noneHeld
 returns c = sym (all-stop _ 17 (c .before .before .before .loop .k) (c .before .before .loop-test .taken) (ne-eqb _ _ (c .if1 .taken)))
 
--- src/lib.rt:299:9
 add-k : tie.Need-add-k Inv-loop μ-loop
 add-k c = search needs
 
--- src/lib.rt:295:5
 loop-less : tie.Need-loop-less Inv-loop μ-loop
 loop-less c = search needs
 
--- src/lib.rt:295:5
 loop-again : tie.Need-loop-again Inv-loop μ-loop
 loop-again c = (omega arith, all-more _ (c .before .before .before .loop .k) (c .before .before .before .loop .inv .1) (eq-eqb _ _ (c .if1 .left)))
 
--- src/lib.rt:291:1
 returns-2 : tie.Need-returns-2 Inv-loop μ-loop
 unfolding noneHeld
 returns-2 c = let e : c .before .loop .k ≡ 17 = omega arith in sym (rw e at (c .before .loop .inv .1))

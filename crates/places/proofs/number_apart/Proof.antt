@@ -7,16 +7,13 @@ use Rattle.places.proofs.number_apart.Reads as reads
 use Rattle.places.proofs.number_apart.Lts as lts
 use Rattle.places.proofs.times_found.Reads as times-found-reads
 
--- src/lib.rt:61:9
 returns : tie.Need-returns
 unfolding numberApart
 returns c = rw (eq-eqb _ _ (c .if1 .taken))
 
--- src/lib.rt:63:9
 times-found-requires : tie.Need-times-found-requires
 times-found-requires c κs = search needs
 
--- src/lib.rt:57:1
 returns-2 : tie.Need-returns-2
 unfolding numberApart
 returns-2 c = rw (ne-eqb _ _ (c .before .if1 .left), ← c .times-found .ensures)

@@ -20,40 +20,31 @@ Inv-loop numbers p₀ p = (p ≤ 64) × (allBelow p (λ i. numberApart numbers (
 abbrev μ-loop : tie.MeasureT-loop
 μ-loop numbers p₀ p = 64 - p
 
--- src/lib.rt:72:5
 loop-holds : tie.Need-loop-holds Inv-loop μ-loop
 loop-holds c = (omega arith, all-none _)
 
--- src/lib.rt:73:35
 mul-number-apart : tie.Need-mul-number-apart Inv-loop μ-loop
 mul-number-apart c = search needs
 
--- src/lib.rt:73:35
 element-copy-out-number-apart : tie.Need-element-copy-out-number-apart Inv-loop μ-loop
 element-copy-out-number-apart c = search needs
 
--- src/lib.rt:73:13
 number-apart-requires : tie.Need-number-apart-requires Inv-loop μ-loop
 number-apart-requires c κs = search needs
 
--- src/lib.rt:74:13
 returns : tie.Need-returns Inv-loop μ-loop
 unfolding numbersApart
 returns c = sym (all-stop _ 64 (c .before .before .before .before .loop .p) (c .before .before .before .loop-test .taken) (sym (c .before .number-apart .ensures) ∙ not-true _ (c .if1 .taken)))
 
--- src/lib.rt:76:9
 add-p : tie.Need-add-p Inv-loop μ-loop
 add-p c = search needs
 
--- src/lib.rt:72:5
 loop-less : tie.Need-loop-less Inv-loop μ-loop
 loop-less c = search needs
 
--- src/lib.rt:72:5
 loop-again : tie.Need-loop-again Inv-loop μ-loop
 loop-again c = (omega arith, all-more _ (c .before .before .before .before .loop .p) (c .before .before .before .before .loop .inv .1) (sym (c .before .number-apart .ensures) ∙ not-false _ (c .if1 .left)))
 
--- src/lib.rt:68:1
 returns-2 : tie.Need-returns-2 Inv-loop μ-loop
 unfolding numbersApart
 returns-2 c = let e : c .before .loop .p ≡ 64 = omega arith in sym (rw e at (c .before .loop .inv .1))

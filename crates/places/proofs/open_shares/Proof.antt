@@ -18,39 +18,30 @@ Inv-loop shares sum₀ p₀ sum p = (p ≤ 64) × ((sum ≤ p * 4294967296) × (
 abbrev μ-loop : tie.MeasureT-loop
 μ-loop shares sum₀ p₀ sum p = 64 - p
 
--- src/lib.rt:270:5
 loop-holds : tie.Need-loop-holds Inv-loop μ-loop
 loop-holds c = (omega arith, (omega arith, sym (below-none _)))
 
--- src/lib.rt:271:21
 mul-wide : tie.Need-mul-wide Inv-loop μ-loop
 mul-wide c = search needs
 
--- src/lib.rt:271:21
 element-copy-out-wide : tie.Need-element-copy-out-wide Inv-loop μ-loop
 element-copy-out-wide c = search needs
 
--- src/lib.rt:271:16
 wide-requires : tie.Need-wide-requires Inv-loop μ-loop
 wide-requires c κs = search needs
 
--- src/lib.rt:271:9
 add-sum : tie.Need-add-sum Inv-loop μ-loop
 add-sum c = omega (arith, c .wide .ensures, c .before .before .before .loop .inv .1 .0)
 
--- src/lib.rt:272:9
 add-p : tie.Need-add-p Inv-loop μ-loop
 add-p c = search needs
 
--- src/lib.rt:270:5
 loop-less : tie.Need-loop-less Inv-loop μ-loop
 loop-less c = search needs
 
--- src/lib.rt:270:5
 loop-again : tie.Need-loop-again Inv-loop μ-loop
 loop-again c = (omega arith, (omega (arith, c .wide .ensures, c .before .before .before .loop .inv .1 .0), omega (arith, c .wide .ensures, c .before .before .before .loop .inv .1 .1, below-more (λ i. getD (now (c .before .before .before .before .args .shares)) i 0) (c .before .before .before .loop .p))))
 
--- src/lib.rt:265:1
 returns : tie.Need-returns Inv-loop μ-loop
 returns c = let e : c .before .loop .p ≡ 64 = omega arith in c .before .loop .inv .1 .1 ∙ ap (below (λ i. getD (now (c .before .before .args .shares)) i 0)) e
 

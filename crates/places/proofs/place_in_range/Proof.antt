@@ -15,60 +15,47 @@ use Rattle.places.proofs.ring_in_range.Reads as ring-in-range-reads
 use Rattle.places.proofs.share_in_range.Reads as share-in-range-reads
 use Rattle.places.proofs.unused_is_zero.Reads as unused-is-zero-reads
 
--- src/lib.rt:158:9
 number-in-range-requires : tie.Need-number-in-range-requires
 number-in-range-requires c κs = search needs
 
--- src/lib.rt:159:9
 returns : tie.Need-returns
 unfolding placeInRange
 returns c = rw (sym (c .before .number-in-range .ensures) ∙ not-true _ (c .if1 .taken))
 
--- src/lib.rt:161:9
 share-in-range-requires : tie.Need-share-in-range-requires
 share-in-range-requires c κs = search needs
 
--- src/lib.rt:162:9
 returns-2 : tie.Need-returns-2
 unfolding placeInRange
 returns-2 c = rw (sym (c .before .before .before .number-in-range .ensures) ∙ not-false _ (c .before .before .if1 .left), sym (c .before .share-in-range .ensures) ∙ not-true _ (c .if2 .taken))
 
--- src/lib.rt:164:9
 ring-in-range-requires : tie.Need-ring-in-range-requires
 ring-in-range-requires c κs = search needs
 
--- src/lib.rt:165:9
 returns-3 : tie.Need-returns-3
 unfolding placeInRange
 returns-3 c = rw (sym (c .before .before .before .before .before .number-in-range .ensures) ∙ not-false _ (c .before .before .before .before .if1 .left), sym (c .before .before .before .share-in-range .ensures) ∙ not-false _ (c .before .before .if2 .left), sym (c .before .ring-in-range .ensures) ∙ not-true _ (c .if3 .taken))
 
--- src/lib.rt:167:9
 in-order-requires : tie.Need-in-order-requires
 in-order-requires c κs = search needs
 
--- src/lib.rt:168:9
 deficit-in-range-requires : tie.Need-deficit-in-range-requires
 deficit-in-range-requires c κs = search needs
 
--- src/lib.rt:169:9
 returns-4 : tie.Need-returns-4
 unfolding placeInRange
 returns-4 c = rw (sym (c .before .before .before .before .before .before .before .before .number-in-range .ensures) ∙ not-false _ (c .before .before .before .before .before .before .before .if1 .left), sym (c .before .before .before .before .before .before .share-in-range .ensures) ∙ not-false _ (c .before .before .before .before .before .if2 .left), sym (c .before .before .before .before .ring-in-range .ensures) ∙ not-false _ (c .before .before .before .if3 .left), ← c .before .before .in-order .ensures, sym (c .before .deficit-in-range .ensures) ∙ not-true _ (c .if4 .taken))
 
--- src/lib.rt:171:9
 free-is-zero-requires : tie.Need-free-is-zero-requires
 free-is-zero-requires c κs = search needs
 
--- src/lib.rt:172:9
 returns-5 : tie.Need-returns-5
 unfolding placeInRange
 returns-5 c = rw (sym (c .before .before .before .before .before .before .before .before .before .before .number-in-range .ensures) ∙ not-false _ (c .before .before .before .before .before .before .before .before .before .if1 .left), sym (c .before .before .before .before .before .before .before .before .share-in-range .ensures) ∙ not-false _ (c .before .before .before .before .before .before .before .if2 .left), sym (c .before .before .before .before .before .before .ring-in-range .ensures) ∙ not-false _ (c .before .before .before .before .before .if3 .left), ← c .before .before .before .before .in-order .ensures, sym (c .before .before .before .deficit-in-range .ensures) ∙ not-false _ (c .before .before .if4 .left), sym (c .before .free-is-zero .ensures) ∙ not-true _ (c .if5 .taken))
 
--- src/lib.rt:174:5
 unused-is-zero-requires : tie.Need-unused-is-zero-requires
 unused-is-zero-requires c κs = search needs
 
--- src/lib.rt:155:1
 returns-6 : tie.Need-returns-6
 unfolding placeInRange
 returns-6 c = rw (sym (c .before .before .before .before .before .before .before .before .before .before .before .number-in-range .ensures) ∙ not-false _ (c .before .before .before .before .before .before .before .before .before .before .if1 .left), sym (c .before .before .before .before .before .before .before .before .before .share-in-range .ensures) ∙ not-false _ (c .before .before .before .before .before .before .before .before .if2 .left), sym (c .before .before .before .before .before .before .before .ring-in-range .ensures) ∙ not-false _ (c .before .before .before .before .before .before .if3 .left), ← c .before .before .before .before .before .in-order .ensures, sym (c .before .before .before .before .deficit-in-range .ensures) ∙ not-false _ (c .before .before .before .if4 .left), sym (c .before .before .free-is-zero .ensures) ∙ not-false _ (c .before .if5 .left)) (c .unused-is-zero .ensures ∙ last-test _)

@@ -20,76 +20,58 @@ Inv-loop largest slot numbers shares starts counts deficits ready next p₀ p = 
 abbrev μ-loop : tie.MeasureT-loop
 μ-loop largest slot numbers shares starts counts deficits ready next p₀ p = 64 - p
 
--- src/lib.rt:194:5
 loop-holds : tie.Need-loop-holds Inv-loop μ-loop
 loop-holds c = (omega arith, all-none _)
 
--- src/lib.rt:195:46
 mul-place-in-range : tie.Need-mul-place-in-range Inv-loop μ-loop
 mul-place-in-range c = search needs
 
--- src/lib.rt:195:46
 element-copy-out-place-in-range : tie.Need-element-copy-out-place-in-range Inv-loop μ-loop
 element-copy-out-place-in-range c = search needs
 
--- src/lib.rt:195:58
 mul-place-in-range-2 : tie.Need-mul-place-in-range-2 Inv-loop μ-loop
 mul-place-in-range-2 c = search needs
 
--- src/lib.rt:195:58
 element-copy-out-place-in-range-2 : tie.Need-element-copy-out-place-in-range-2 Inv-loop μ-loop
 element-copy-out-place-in-range-2 c = search needs
 
--- src/lib.rt:195:69
 element-copy-out-place-in-range-3 : tie.Need-element-copy-out-place-in-range-3 Inv-loop μ-loop
 element-copy-out-place-in-range-3 c = search needs
 
--- src/lib.rt:195:80
 element-copy-out-place-in-range-4 : tie.Need-element-copy-out-place-in-range-4 Inv-loop μ-loop
 element-copy-out-place-in-range-4 c = search needs
 
--- src/lib.rt:195:97
 mul-t26 : tie.Need-mul-t26 Inv-loop μ-loop
 mul-t26 c = search needs
 
--- src/lib.rt:195:97
 element-copy-out-t29 : tie.Need-element-copy-out-t29 Inv-loop μ-loop
 element-copy-out-t29 c = search needs
 
--- src/lib.rt:195:111
 mul-place-in-range-3 : tie.Need-mul-place-in-range-3 Inv-loop μ-loop
 mul-place-in-range-3 c = search needs
 
--- src/lib.rt:195:111
 element-copy-out-place-in-range-5 : tie.Need-element-copy-out-place-in-range-5 Inv-loop μ-loop
 element-copy-out-place-in-range-5 c = search needs
 
--- src/lib.rt:195:121
 element-copy-out-place-in-range-6 : tie.Need-element-copy-out-place-in-range-6 Inv-loop μ-loop
 element-copy-out-place-in-range-6 c = search needs
 
--- src/lib.rt:195:13
 place-in-range-requires : tie.Need-place-in-range-requires Inv-loop μ-loop
 place-in-range-requires c κs = search needs
 
--- src/lib.rt:196:13
 returns : tie.Need-returns Inv-loop μ-loop
 unfolding placesInRange
 returns c = sym (all-stop _ 64 (c .before .before .before .before .before .before .before .before .before .before .loop .p) (c .before .before .before .before .before .before .before .before .before .loop-test .taken) (sym (c .before .place-in-range .ensures) ∙ not-true _ (c .if1 .taken)))
 
--- src/lib.rt:198:9
 add-p : tie.Need-add-p Inv-loop μ-loop
 add-p c = search needs
 
--- src/lib.rt:194:5
 loop-less : tie.Need-loop-less Inv-loop μ-loop
 loop-less c = search needs
 
--- src/lib.rt:194:5
 loop-again : tie.Need-loop-again Inv-loop μ-loop
 loop-again c = (omega arith, all-more _ (c .before .before .before .before .before .before .before .before .before .before .loop .p) (c .before .before .before .before .before .before .before .before .before .before .loop .inv .1) (sym (c .before .place-in-range .ensures) ∙ not-false _ (c .if1 .left)))
 
--- src/lib.rt:190:1
 returns-2 : tie.Need-returns-2 Inv-loop μ-loop
 unfolding placesInRange
 returns-2 c = let e : c .before .loop .p ≡ 64 = omega arith in sym (rw e at (c .before .loop .inv .1))

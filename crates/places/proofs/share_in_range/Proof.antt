@@ -5,7 +5,6 @@ use Rattle.places.proofs.share_in_range.Tie as tie
 use Rattle.places.proofs.share_in_range.Reads as reads
 use Rattle.places.proofs.share_in_range.Lts as lts
 
--- src/lib.rt:85:1
 returns : tie.Need-returns
 unfolding shareInRange
 returns c = refl

@@ -14,29 +14,23 @@ use Rattle.places.proofs.shares_fit.Lts as lts
 use Rattle.places.proofs.held_shares.Reads as held-shares-reads
 use Rattle.places.proofs.open_shares.Reads as open-shares-reads
 
--- src/lib.rt:279:9
 open-shares-requires : tie.Need-open-shares-requires
 open-shares-requires c κs = search needs
 
--- src/lib.rt:281:9
 returns : tie.Need-returns
 unfolding sharesFit
 returns c = sym (lt-leb (below (λ i. getD (now (c .before .before .args .shares)) i 0) 64 + below (λ i. getD (now (c .before .before .args .held)) i 0) 17) 65536 (omega (arith, c .before .open-shares .ensures, c .if1 .taken)))
 
--- src/lib.rt:283:9
 held-shares-requires : tie.Need-held-shares-requires
 held-shares-requires c κs = search needs
 
--- src/lib.rt:285:9
 returns-2 : tie.Need-returns-2
 unfolding sharesFit
 returns-2 c = sym (lt-leb (below (λ i. getD (now (c .before .before .before .before .args .shares)) i 0) 64 + below (λ i. getD (now (c .before .before .before .before .args .held)) i 0) 17) 65536 (omega (arith, c .before .held-shares .ensures, c .if2 .taken)))
 
--- src/lib.rt:287:5
 add-result : tie.Need-add-result
 add-result c = search needs
 
--- src/lib.rt:276:1
 returns-3 : tie.Need-returns-3
 unfolding sharesFit
 returns-3 c = rw (← c .before .before .before .open-shares .ensures, ← c .before .held-shares .ensures)

@@ -5,12 +5,10 @@ use Rattle.places.proofs.size_in_range.Tie as tie
 use Rattle.places.proofs.size_in_range.Reads as reads
 use Rattle.places.proofs.size_in_range.Lts as lts
 
--- src/lib.rt:20:9
 returns : tie.Need-returns
 unfolding sizeInRange
 returns c = rw (lt-leb _ _ (c .if1 .taken))
 
--- src/lib.rt:16:1
 returns-2 : tie.Need-returns-2
 unfolding sizeInRange
 returns-2 c = rw (le-leb _ _ (c .if1 .left))

@@ -21,39 +21,30 @@ Inv-loop numbers n found₀ p₀ found p = (p ≤ 64) × ((found ≤ p) × (foun
 abbrev μ-loop : tie.MeasureT-loop
 μ-loop numbers n found₀ p₀ found p = 64 - p
 
--- src/lib.rt:50:5
 loop-holds : tie.Need-loop-holds Inv-loop μ-loop
 loop-holds c = (omega arith, (omega arith, sym (below-none _)))
 
--- src/lib.rt:51:25
 mul-one-if : tie.Need-mul-one-if Inv-loop μ-loop
 mul-one-if c = search needs
 
--- src/lib.rt:51:25
 element-copy-out-one-if : tie.Need-element-copy-out-one-if Inv-loop μ-loop
 element-copy-out-one-if c = search needs
 
--- src/lib.rt:51:18
 one-if-requires : tie.Need-one-if-requires Inv-loop μ-loop
 one-if-requires c κs = search needs
 
--- src/lib.rt:51:9
 add-found : tie.Need-add-found Inv-loop μ-loop
 add-found c = omega (arith, c .one-if .ensures, oneIf-le (eqb (getD (now (c .before .before .before .before .args .numbers)) (c .before .before .before .loop .p) 0) (c .before .before .before .before .args .n)))
 
--- src/lib.rt:52:9
 add-p : tie.Need-add-p Inv-loop μ-loop
 add-p c = search needs
 
--- src/lib.rt:50:5
 loop-less : tie.Need-loop-less Inv-loop μ-loop
 loop-less c = search needs
 
--- src/lib.rt:50:5
 loop-again : tie.Need-loop-again Inv-loop μ-loop
 loop-again c = (omega arith, (omega (arith, c .one-if .ensures, oneIf-le (eqb (getD (now (c .before .before .before .before .args .numbers)) (c .before .before .before .loop .p) 0) (c .before .before .before .before .args .n))), omega (arith, c .one-if .ensures, c .before .before .before .loop .inv .1 .1, below-more (λ q. oneIf (eqb (getD (now (c .before .before .before .before .args .numbers)) q 0) (c .before .before .before .before .args .n))) (c .before .before .before .loop .p))))
 
--- src/lib.rt:45:1
 returns : tie.Need-returns Inv-loop μ-loop
 unfolding timesFound
 returns c = let e : c .before .loop .p ≡ 64 = omega arith in c .before .loop .inv .1 .1 ∙ ap (below (λ q. oneIf (eqb (getD (now (c .before .before .args .numbers)) q 0) (c .before .before .args .n)))) e

@@ -5,17 +5,14 @@ use Rattle.places.proofs.unused_is_zero.Tie as tie
 use Rattle.places.proofs.unused_is_zero.Reads as reads
 use Rattle.places.proofs.unused_is_zero.Lts as lts
 
--- src/lib.rt:150:9
 returns : tie.Need-returns
 unfolding unusedIsZero
 returns c = rw (c .if1 .taken)
 
--- src/lib.rt:153:9
 returns-2 : tie.Need-returns-2
 unfolding unusedIsZero
 returns-2 c = rw (c .before .if1 .left, ne-eqb _ _ (c .if2 .taken))
 
--- src/lib.rt:146:1
 returns-3 : tie.Need-returns-3
 unfolding unusedIsZero
 returns-3 c = rw (c .before .if1 .left, eq-eqb _ _ (c .if2 .left))

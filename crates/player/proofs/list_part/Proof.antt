@@ -1,67 +1,49 @@
+-- `player::list_part` meets its contract. A state that is not refused goes on from its first field, or from the field after the last. Assumes nothing.
 use mathlib.Core.Path.{sym, _∙_}
 use Rattle.player.proofs.Parts.{refused-part, done-part}
 use borrow.Author.Needs.{needs}
 use Rattle.player.proofs.list_part.Statement.{statement}
 use Rattle.player.proofs.list_part.Tie as tie
-use Rattle.player.proofs.list_part.Reads as reads
-use Rattle.player.proofs.list_part.Lts as lts
-use Rattle.player.proofs.first_part.Reads as first-part-reads
-use Rattle.player.proofs.next_part.Reads as next-part-reads
-use Rattle.player.proofs.unready.Reads as unready-reads
 
--- src/lib.rt:454:9
 unready-requires : tie.Need-unready-requires
 unready-requires c κs = search needs
 
--- src/lib.rt:456:9
 same-length : tie.Need-same-length
 same-length c = search needs
 
--- src/lib.rt:456:9
 same-length-2 : tie.Need-same-length-2
 same-length-2 c = search needs
 
--- src/lib.rt:456:9
 returns : tie.Need-returns
 returns c = refused-part _ _ _ _ _ _ (c .before .unready .ensures .0) (c .if1 .taken)
 
--- src/lib.rt:464:9
 next-part-requires : tie.Need-next-part-requires
 next-part-requires c κs = c .before .before .before .before .before .unready .ensures .1 (c .before .before .before .before .if1 .left) (c .before .before .before .if2 .taken)
 
--- src/lib.rt:464:9
 same-length-3 : tie.Need-same-length-3
 same-length-3 c = search needs
 
--- src/lib.rt:464:9
 same-length-4 : tie.Need-same-length-4
 same-length-4 c = search needs
 
--- src/lib.rt:464:9
 same-length-5 : tie.Need-same-length-5
 same-length-5 c = search needs
 
--- src/lib.rt:464:9
 returns-2 : tie.Need-returns-2
 returns-2 c = done-part _ _ _ _ _ _ _ _ _ (sym (c .before .before .before .before .before .before .before .before .before .before .before .before .unready .ensures .0) ∙ c .before .before .before .before .before .before .before .before .before .before .before .if1 .left) (c .before .before .before .before .before .before .next-part .ensures)
 
--- src/lib.rt:466:5
 first-part-requires : tie.Need-first-part-requires
 first-part-requires c κs = (c .before .before .before .if2 .left, sym (c .before .before .before .before .before .unready .ensures .0) ∙ c .before .before .before .before .if1 .left)
 
--- src/lib.rt:451:1
 same-length-6 : tie.Need-same-length-6
 same-length-6 c = search needs
 
--- src/lib.rt:451:1
 same-length-7 : tie.Need-same-length-7
 same-length-7 c = search needs
 
--- src/lib.rt:451:1
 same-length-8 : tie.Need-same-length-8
 same-length-8 c = search needs
 
--- src/lib.rt:451:1
 returns-3 : tie.Need-returns-3
 returns-3 c = done-part _ _ _ _ _ _ _ _ _ (sym (c .before .before .before .before .before .before .before .before .before .before .before .before .unready .ensures .0) ∙ c .before .before .before .before .before .before .before .before .before .before .before .if1 .left) (c .before .before .before .before .before .before .first-part .ensures)
 

@@ -1,4 +1,5 @@
-use mathlib.Core.Path.{_≡_, refl, sym, _∙_}
+-- `player::next_part` meets its contract. What is written up to a field, and the listing from it on, is what was left at the beginning; the rest of the log gets shorter. Assumes nothing.
+use mathlib.Core.Path.{refl, sym, _∙_}
 use mathlib.Core.Bool.{true}
 use Prim.Native.Nat.{_-_}
 use native.Mathlib.Omega.{arith}
@@ -11,14 +12,6 @@ use Rattle.player.proofs.Parts.{UnderWay, under-first, under-room, unde
 use borrow.Author.Needs.{needs}
 use Rattle.player.proofs.next_part.Statement.{statement}
 use Rattle.player.proofs.next_part.Tie as tie
-use Rattle.player.proofs.next_part.Lts as lts
-use Rattle.lines.proofs.put_broken.Reads as put-broken-reads
-use Rattle.lines.proofs.put_end.Reads as put-end-reads
-use Rattle.log.proofs.field_at.Reads as field-at-reads
-use Rattle.player.proofs.append.Reads as append-reads
-use Rattle.player.proofs.last_part.Reads as last-part-reads
-use Rattle.player.proofs.play_field.Reads as play-field-reads
-use Rattle.player.proofs.waiting.Reads as waiting-reads
 
 abbrev Inv-loop : tie.InvT-loop
 Inv-loop log ids₀ lens₀ out₀ s b numbers₀ shares₀ starts₀ counts₀ deficits₀ ready₀ next₀ heads₀ tails₀ held₀ clock₀ active₀ pending₀ slot₀ left₀ at₀ sent₀ used₀ line₀ ids lens out numbers shares starts counts deficits ready next heads tails held clock active pending slot left at sent used line =
@@ -28,115 +21,87 @@ abbrev μ-loop : tie.MeasureT-loop
 μ-loop log ids₀ lens₀ out₀ s b numbers₀ shares₀ starts₀ counts₀ deficits₀ ready₀ next₀ heads₀ tails₀ held₀ clock₀ active₀ pending₀ slot₀ left₀ at₀ sent₀ used₀ line₀ ids lens out numbers shares starts counts deficits ready next heads tails held clock active pending slot left at sent used line =
     length log - at
 
--- src/lib.rt:334:5
 loop-holds : tie.Need-loop-holds Inv-loop μ-loop
 loop-holds c = under-first _ _ _ _ (c .before .before .before .before .before .before .before .before .before .before .before .before .before .before .before .before .pre .good) (c .before .before .before .before .before .before .before .before .before .before .before .before .before .before .before .before .pre .few)
 
--- src/lib.rt:335:12
 sub-if1 : tie.Need-sub-if1 Inv-loop μ-loop
 sub-if1 c = omega (arith, c .loop .inv .fits, c .loop .inv .same)
 
--- src/lib.rt:354:13
 same-length : tie.Need-same-length Inv-loop μ-loop
 same-length c = c .before .loop .inv .good .ids-all ∙ sym (c .before .before .before .before .before .before .before .before .before .before .before .before .before .before .before .before .before .before .pre .good .ids-all)
 
--- src/lib.rt:354:13
 same-length-2 : tie.Need-same-length-2 Inv-loop μ-loop
 same-length-2 c = c .before .loop .inv .good .lens-all ∙ sym (c .before .before .before .before .before .before .before .before .before .before .before .before .before .before .before .before .before .before .pre .good .lens-all)
 
--- src/lib.rt:354:13
 same-length-3 : tie.Need-same-length-3 Inv-loop μ-loop
 same-length-3 c = c .before .loop .inv .same
 
--- src/lib.rt:354:13
 returns : tie.Need-returns Inv-loop μ-loop
 returns c = under-more _ _ _ _ _ _ _ _ (c .before .loop .inv) _ _ _ (left-is _ _ _ _ (c .before .before .before .before .before .before .before .before .before .before .before .before .before .before .before .before .before .before .pre)) (c .before .before .before .before .before .before .before .before .before .before .before .before .before .before .before .before .before .before .pre .short) (read-is _ _ _ _ (c .before .before .before .before .before .before .before .before .before .before .before .before .before .before .before .before .before .before .pre)) (c .if1 .taken)
 
--- src/lib.rt:367:64
 waiting-requires : tie.Need-waiting-requires Inv-loop μ-loop
 waiting-requires c κs = search needs
 
--- src/lib.rt:367:17
 put-end-requires : tie.Need-put-end-requires Inv-loop μ-loop
 put-end-requires c κs = search needs
 
--- src/lib.rt:368:17
 append-requires : tie.Need-append-requires Inv-loop μ-loop
 append-requires c κs = (c .before .before .put-end .ensures .1, under-fits _ _ _ _ _ _ _ _ (c .before .before .before .before .before .before .before .before .loop .inv) (c .before .before .before .before .before .before .before .if1 .left) _ (c .before .before .put-end .ensures .1))
 
--- src/lib.rt:369:13
 last-part-requires : tie.Need-last-part-requires Inv-loop μ-loop
 last-part-requires c κs = search needs
 
--- src/lib.rt:369:13
 same-length-4 : tie.Need-same-length-4 Inv-loop μ-loop
 same-length-4 c = c .before .before .before .before .before .before .before .before .before .before .before .before .loop .inv .good .ids-all ∙ sym (c .before .before .before .before .before .before .before .before .before .before .before .before .before .before .before .before .before .before .before .before .before .before .before .before .before .before .before .before .before .pre .good .ids-all)
 
--- src/lib.rt:369:13
 same-length-5 : tie.Need-same-length-5 Inv-loop μ-loop
 same-length-5 c = c .before .before .before .before .before .before .before .before .before .before .before .before .loop .inv .good .lens-all ∙ sym (c .before .before .before .before .before .before .before .before .before .before .before .before .before .before .before .before .before .before .before .before .before .before .before .before .before .before .before .before .before .pre .good .lens-all)
 
--- src/lib.rt:369:13
 same-length-6 : tie.Need-same-length-6 Inv-loop μ-loop
 same-length-6 c = c .before .before .before .append .kept .0 ∙ c .before .before .before .before .before .before .before .before .before .before .before .before .loop .inv .same
 
--- src/lib.rt:369:13
 returns-2 : tie.Need-returns-2 Inv-loop μ-loop
 returns-2 c = rw (c .last-part .ensures) (under-last _ _ _ _ _ _ _ _ (c .before .before .before .before .before .before .before .before .before .before .before .before .loop .inv) _ _ _ _ _ _ (c .before .before .before .before .before .before .put-end .ensures .0) (c .before .before .before .before .before .before .put-end .ensures .1) (under-room _ _ _ _ _ _ _ _ (c .before .before .before .before .before .before .before .before .before .before .before .before .loop .inv) (c .before .before .before .before .before .before .before .before .before .before .before .if1 .left)) (c .before .before .before .append .ensures) _ _ _ (left-is _ _ _ _ (c .before .before .before .before .before .before .before .before .before .before .before .before .before .before .before .before .before .before .before .before .before .before .before .before .before .before .before .before .before .pre)) _ _ (end-listing _ (c .before .before .before .before .before .before .before .before .before .before .before .before .loop .inv .good) _ _ _ _ (c .before .before .before .before .before .before .before .before .before .before .if2 .taken) refl (c .before .before .before .before .before .before .before .waiting .ensures)))
 
--- src/lib.rt:371:39
 field-at-requires : tie.Need-field-at-requires Inv-loop μ-loop
 field-at-requires c κs = search needs
 
--- src/lib.rt:371:26
 enum-known-event : tie.Need-enum-known-event Inv-loop μ-loop
 enum-known-event c = search needs
 
--- src/lib.rt:372:43
 enum-told : tie.Need-enum-told Inv-loop μ-loop
 enum-told c = search needs
 
--- src/lib.rt:372:17
 put-broken-requires : tie.Need-put-broken-requires Inv-loop μ-loop
 put-broken-requires c κs = search needs
 
--- src/lib.rt:373:17
 append-requires-2 : tie.Need-append-requires-2 Inv-loop μ-loop
 append-requires-2 c κs = (c .before .before .put-broken .ensures .1, under-fits _ _ _ _ _ _ _ _ (c .before .before .before .before .before .before .before .before .before .loop .inv) (c .before .before .before .before .before .before .before .before .if1 .left) _ (c .before .before .put-broken .ensures .1))
 
--- src/lib.rt:374:13
 last-part-requires-2 : tie.Need-last-part-requires-2 Inv-loop μ-loop
 last-part-requires-2 c κs = search needs
 
--- src/lib.rt:374:13
 same-length-7 : tie.Need-same-length-7 Inv-loop μ-loop
 same-length-7 c = c .before .before .before .before .before .before .before .before .before .before .before .before .before .loop .inv .good .ids-all ∙ sym (c .before .before .before .before .before .before .before .before .before .before .before .before .before .before .before .before .before .before .before .before .before .before .before .before .before .before .before .before .before .before .pre .good .ids-all)
 
--- src/lib.rt:374:13
 same-length-8 : tie.Need-same-length-8 Inv-loop μ-loop
 same-length-8 c = c .before .before .before .before .before .before .before .before .before .before .before .before .before .loop .inv .good .lens-all ∙ sym (c .before .before .before .before .before .before .before .before .before .before .before .before .before .before .before .before .before .before .before .before .before .before .before .before .before .before .before .before .before .before .pre .good .lens-all)
 
--- src/lib.rt:374:13
 same-length-9 : tie.Need-same-length-9 Inv-loop μ-loop
 same-length-9 c = c .before .before .before .append2 .kept .0 ∙ c .before .before .before .before .before .before .before .before .before .before .before .before .before .loop .inv .same
 
--- src/lib.rt:374:13
 returns-3 : tie.Need-returns-3 Inv-loop μ-loop
 returns-3 c = rw (c .last-part2 .ensures) (under-last _ _ _ _ _ _ _ _ (c .before .before .before .before .before .before .before .before .before .before .before .before .before .loop .inv) _ _ _ _ _ _ (c .before .before .before .before .before .before .put-broken .ensures .0) (c .before .before .before .before .before .before .put-broken .ensures .1) (under-room _ _ _ _ _ _ _ _ (c .before .before .before .before .before .before .before .before .before .before .before .before .before .loop .inv) (c .before .before .before .before .before .before .before .before .before .before .before .before .if1 .left)) (c .before .before .before .append2 .ensures) _ _ _ (left-is _ _ _ _ (c .before .before .before .before .before .before .before .before .before .before .before .before .before .before .before .before .before .before .before .before .before .before .before .before .before .before .before .before .before .before .pre)) _ _ (broken-listing _ (c .before .before .before .before .before .before .before .before .before .before .before .before .before .loop .inv .good) _ _ _ (c .before .before .before .before .before .before .before .before .before .before .before .if2 .left) (sym (c .before .before .before .before .before .before .before .before .before .before .field-at .ensures) ∙ c .before .before .before .before .before .before .before .before .enum-told .given .1)))
 
--- src/lib.rt:376:13
 play-field-requires : tie.Need-play-field-requires Inv-loop μ-loop
 play-field-requires c κs = let f = sym (c .before .before .before .before .before .before .before .before .before .before .before .before .before .before .before .before .field-at .ensures) ∙ c .before .before .before .before .before .before .before .before .before .before .before .before .before .before .event .given .1 in (c .before .before .before .before .before .before .before .before .before .before .before .before .before .before .before .before .before .before .before .loop .inv .good, (under-small _ _ _ _ _ _ _ _ (c .before .before .before .before .before .before .before .before .before .before .before .before .before .before .before .before .before .before .before .loop .inv) _ _ f (c .before .before .before .before .before .before .before .before .before .before .before .before .before .before .before .before .before .before .before .before .before .before .before .before .before .before .before .before .before .before .before .before .before .before .before .before .pre .short), whole-is _ _ _ _ _ f .turn))
 
--- src/lib.rt:399:9
 append-requires-3 : tie.Need-append-requires-3 Inv-loop μ-loop
 append-requires-3 c κs = (c .before .before .before .before .before .before .play-field .ensures .short, under-fits _ _ _ _ _ _ _ _ (c .before .before .before .before .before .before .before .before .before .before .before .before .before .before .before .before .before .before .before .before .before .before .before .before .before .before .loop .inv) (c .before .before .before .before .before .before .before .before .before .before .before .before .before .before .before .before .before .before .before .before .before .before .before .before .before .if1 .left) _ (c .before .before .before .before .before .before .play-field .ensures .short))
 
--- src/lib.rt:334:5
 loop-less : tie.Need-loop-less Inv-loop μ-loop
 loop-less c = let f = whole-next _ _ _ _ _ (sym (c .before .before .before .before .before .before .before .before .before .before .before .before .before .before .before .before .before .before .before .before .before .before .before .before .before .before .before .field-at .ensures) ∙ c .before .before .before .before .before .before .before .before .before .before .before .before .before .before .before .before .before .before .before .before .before .before .before .before .before .event .given .1) in omega (arith, f .0, f .1)
 
--- src/lib.rt:334:5
 loop-again : tie.Need-loop-again Inv-loop μ-loop
 loop-again c = under-next _ _ _ _ _ _ _ _ (c .before .before .before .before .before .before .before .before .before .before .before .before .before .before .before .before .before .before .before .before .before .before .before .before .before .before .before .before .before .before .loop .inv) _ _ _ _ _ _ (c .before .before .before .before .before .before .before .before .before .before .play-field .ensures .line) (c .before .before .before .before .before .before .before .before .before .before .play-field .ensures .short) (under-room _ _ _ _ _ _ _ _ (c .before .before .before .before .before .before .before .before .before .before .before .before .before .before .before .before .before .before .before .before .before .before .before .before .before .before .before .before .before .before .loop .inv) (c .before .before .before .before .before .before .before .before .before .before .before .before .before .before .before .before .before .before .before .before .before .before .before .before .before .before .before .before .before .if1 .left)) (c .before .before .before .append3 .ensures) _ _ (sym (c .before .before .before .before .before .before .before .before .before .before .before .before .before .before .before .before .before .before .before .before .before .before .before .before .before .before .before .field-at .ensures) ∙ c .before .before .before .before .before .before .before .before .before .before .before .before .before .before .before .before .before .before .before .before .before .before .before .before .before .event .given .1) _ (c .before .before .before .before .before .before .before .before .before .before .play-field .ensures) (c .before .before .before .append3 .kept .0)
 

@@ -1,91 +1,63 @@
+-- `player::play_field` meets its contract. Each kind of field by its law. Assumes nothing.
 use native.Mathlib.Omega.{arith}
-use mathlib.Core.Path.{_≡_, subst}
+use mathlib.Core.Path.{_≡_, subst, refl}
 use mathlib.Core.Bool.{true}
 use Rattle.log.specs.declared.Event.{Event}
 use Rattle.calls.proofs.Known.{record-needs, close-needs}
-use mathlib.Core.Path.{refl, ap}
 use Rattle.log.specs.Format.{inTurn}
 use Rattle.player.proofs.Fields.{open-plays, close-plays, rename-plays, record-plays, passed-plays, no-second}
 use borrow.Author.Needs.{needs}
 use Rattle.player.proofs.play_field.Statement.{statement}
 use Rattle.player.proofs.play_field.Tie as tie
-use Rattle.player.proofs.play_field.Reads as reads
-use Rattle.player.proofs.play_field.Lts as lts
-use Rattle.engine.proofs.close_in.Reads as close-in-reads
-use Rattle.engine.proofs.open_in.Reads as open-in-reads
-use Rattle.engine.proofs.record_in.Reads as record-in-reads
-use Rattle.engine.proofs.rename_in.Reads as rename-in-reads
-use Rattle.lines.proofs.put_close.Reads as put-close-reads
-use Rattle.lines.proofs.put_in.Reads as put-in-reads
-use Rattle.lines.proofs.put_name.Reads as put-name-reads
-use Rattle.lines.proofs.put_open.Reads as put-open-reads
-use Rattle.player.proofs.play_serve.Reads as play-serve-reads
 
--- src/lib.rt:141:21
 enum-known-event : tie.Need-enum-known-event
 enum-known-event c = search needs
 
--- src/lib.rt:142:17
 open-in-requires : tie.Need-open-in-requires
 open-in-requires c κs = search needs
 
--- src/lib.rt:143:13
 put-open-requires : tie.Need-put-open-requires
 put-open-requires c κs = search needs
 
--- src/lib.rt:145:22
 enum-known-event-2 : tie.Need-enum-known-event-2
 enum-known-event-2 c = search needs
 
--- src/lib.rt:146:17
 close-in-requires : tie.Need-close-in-requires
 close-in-requires c κs = close-needs _ _ _ (c .before .before .before .before .before .before .before .before .before .before .pre .0)
 
--- src/lib.rt:147:13
 put-close-requires : tie.Need-put-close-requires
 put-close-requires c κs = search needs
 
--- src/lib.rt:149:23
 enum-known-event-3 : tie.Need-enum-known-event-3
 enum-known-event-3 c = search needs
 
--- src/lib.rt:150:17
 rename-in-requires : tie.Need-rename-in-requires
 rename-in-requires c κs = search needs
 
--- src/lib.rt:151:13
 put-name-requires : tie.Need-put-name-requires
 put-name-requires c κs = search needs
 
--- src/lib.rt:153:23
 enum-known-event-4 : tie.Need-enum-known-event-4
 enum-known-event-4 c = search needs
 
--- src/lib.rt:154:17
 record-in-requires : tie.Need-record-in-requires
 record-in-requires c κs = record-needs _ _ _ (c .before .before .before .before .before .before .before .before .before .before .before .before .before .before .before .pre .0)
 
--- src/lib.rt:173:13
 put-in-requires : tie.Need-put-in-requires
 put-in-requires c κs = search needs
 
--- src/lib.rt:184:17
 enum-told : tie.Need-enum-told
 enum-told c = search needs
 
--- src/lib.rt:176:13
 play-serve-requires : tie.Need-play-serve-requires
 play-serve-requires c κs = search needs
 
--- src/lib.rt:176:13
 same-length : tie.Need-same-length
 same-length c = search needs
 
--- src/lib.rt:176:13
 same-length-2 : tie.Need-same-length-2
 same-length-2 c = search needs
 
--- src/lib.rt:176:13
 returns : tie.Need-returns
 returns c = rw (c .before .before .before .before .before .before .before .before .before .before .before .before .before .before .enum-told .given .1) (c .play-serve .ensures)
 
@@ -95,35 +67,27 @@ enum-told-2 c = search needs
 enum-told-3 : tie.Need-enum-told-3
 enum-told-3 c = search needs
 
--- src/lib.rt:112:1
 returns-2 : tie.Need-returns-2
 returns-2 c = rw (c .before .before .before .before .before .before .before .event .given .1) (open-plays _ (c .before .before .before .before .before .before .before .before .before .before .before .pre .0) _ _ _ (c .put-open .ensures .1) _ _ _ (c .before .before .open-in .ensures) (c .put-open .ensures .0))
 
--- src/lib.rt:112:1
 returns-3 : tie.Need-returns-3
 returns-3 c = rw (c .before .before .before .before .before .before .before .before .before .event2 .given .1) (close-plays _ (c .before .before .before .before .before .before .before .before .before .before .before .before .before .pre .0) _ _ _ (c .put-close .ensures .1) _ _ (c .before .before .close-in .ensures) (c .put-close .ensures .0))
 
--- src/lib.rt:112:1
 returns-4 : tie.Need-returns-4
 returns-4 c = rw (c .before .before .before .before .before .event3 .given .1) (rename-plays _ (c .before .before .before .before .before .before .before .before .before .pre .0) _ _ _ (c .put-name .ensures .1) _ _ _ (c .before .before .rename-in .ensures) (c .put-name .ensures .0))
 
--- src/lib.rt:112:1
 same-length-3 : tie.Need-same-length-3
 same-length-3 c = search needs
 
--- src/lib.rt:112:1
 same-length-4 : tie.Need-same-length-4
 same-length-4 c = search needs
 
--- src/lib.rt:112:1
 returns-5 : tie.Need-returns-5
 returns-5 c = rw (c .before .before .before .before .before .before .before .before .before .before .before .before .before .before .before .before .before .before .event4 .given .1) (record-plays _ (c .before .before .before .before .before .before .before .before .before .before .before .before .before .before .before .before .before .before .before .before .before .before .pre .0) _ _ _ (c .put-in .ensures .1) _ _ _ _ (c .before .before .before .before .before .before .record-in .ensures) (c .put-in .ensures .0))
 
--- src/lib.rt:112:1
 returns-6 : tie.Need-returns-6
 returns-6 c = rw (c .enum-told2 .given .1) (passed-plays _ (c .before .before .before .before .pre .0) _ _ _ (omega arith) refl refl)
 
--- src/lib.rt:112:1
 returns-7 : tie.Need-returns-7
 returns-7 c = absurd (no-second _ (subst (λ (e : Event). inTurn e true ≡ true) (c .enum-told3 .given .1) (c .before .before .before .before .pre .1 .1)))
 

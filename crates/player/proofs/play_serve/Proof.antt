@@ -1,29 +1,21 @@
+-- `player::play_serve` meets its contract. A serve is one with room for a record and bytes for any. Assumes nothing.
 use Rattle.player.specs.Fields.{stand}
 use mathlib.Core.List.{[]}
 use native.Mathlib.Omega.{arith}
 use Rattle.calls.proofs.Promises.{can-known, sent-index}
 use Rattle.player.proofs.Fields.{serve-small, serve-plays}
-use borrow.Author.Needs.{needs}
 use Rattle.player.proofs.play_serve.Statement.{statement}
 use Rattle.player.proofs.play_serve.Tie as tie
-use Rattle.player.proofs.play_serve.Reads as reads
-use Rattle.player.proofs.play_serve.Lts as lts
-use Rattle.engine.proofs.serve_within.Reads as serve-within-reads
-use Rattle.player.proofs.show_serve.Reads as show-serve-reads
 
--- src/lib.rt:77:9
 serve-within-requires : tie.Need-serve-within-requires
 serve-within-requires c κs = can-known _ _ _ (c .before .before .before .before .before .before .before .before .before .before .pre .0)
 
--- src/lib.rt:97:9
 show-serve-requires : tie.Need-show-serve-requires
 show-serve-requires c κs = (c .before .before .before .before .before .before .before .before .before .before .before .before .pre .0 .ids-all, (c .before .before .before .before .before .before .before .before .before .before .before .before .pre .0 .lens-all, sent-index _ _ _ (c .before .before .before .before .before .before .before .before .before .before .before .before .pre .0) _ _ _ (c .before .serve-within .ensures)))
 
--- src/lib.rt:102:15
 add-t35 : tie.Need-add-t35
 add-t35 c = omega (arith, serve-small (stand _ _ _ 0) (c .before .before .before .before .before .before .before .before .before .before .before .before .before .before .before .before .pre .0) [] 0 [] (omega arith) _ (c .before .before .before .before .before .serve-within .ensures), c .before .before .before .before .before .before .before .before .before .before .before .before .before .before .before .before .pre .1)
 
--- src/lib.rt:52:1
 returns : tie.Need-returns
 returns c = serve-plays _ (c .before .before .before .before .before .before .before .before .before .before .before .before .before .before .before .before .pre .0) _ _ _ (c .before .before .before .show-serve .ensures .1) _ (c .before .before .before .before .before .serve-within .ensures) (c .before .before .before .show-serve .ensures .0)
 

@@ -1,50 +1,37 @@
+-- `player::show_serve` meets its contract. A code of 0 is a record that stands in the tables. Assumes nothing.
 use borrow.Author.Tests.{eq-eqb, ne-eqb}
 use native.Mathlib.Omega.{arith}
 use borrow.Author.Needs.{needs}
 use Rattle.player.proofs.show_serve.Statement.{statement}
 use Rattle.player.proofs.show_serve.Tie as tie
-use Rattle.player.proofs.show_serve.Reads as reads
-use Rattle.player.proofs.show_serve.Lts as lts
-use Rattle.lines.proofs.put_out.Reads as put-out-reads
-use Rattle.lines.proofs.put_refused.Reads as put-refused-reads
 
--- src/lib.rt:46:9
 put-refused-requires : tie.Need-put-refused-requires
 put-refused-requires c κs = search needs
 
--- src/lib.rt:46:9
 returns : tie.Need-returns
 returns c = rw (ne-eqb _ _ (c .before .before .if1 .taken)) (c .put-refused .ensures)
 
--- src/lib.rt:48:26
 mul-put-out : tie.Need-mul-put-out
 mul-put-out c = omega (arith, c .before .before .before .before .pre .1 .1 (c .before .if1 .left) .0)
 
--- src/lib.rt:48:26
 element-copy-out-put-out : tie.Need-element-copy-out-put-out
 element-copy-out-put-out c = omega (arith, c .before .before .before .before .pre .1 .1 (c .before .if1 .left) .0)
 
--- src/lib.rt:48:42
 mul-put-out-2 : tie.Need-mul-put-out-2
 mul-put-out-2 c = omega (arith, c .before .before .before .before .before .pre .1 .1 (c .before .before .if1 .left) .1)
 
--- src/lib.rt:48:42
 shared-slice-read-put-out : tie.Need-shared-slice-read-put-out
 shared-slice-read-put-out c = omega (arith, c .before .before .before .before .before .before .pre .1 .1 (c .before .before .before .if1 .left) .1, c .before .before .before .before .before .before .pre .0)
 
--- src/lib.rt:48:54
 mul-put-out-3 : tie.Need-mul-put-out-3
 mul-put-out-3 c = omega (arith, c .before .before .before .before .before .before .pre .1 .1 (c .before .before .before .if1 .left) .1)
 
--- src/lib.rt:48:54
 shared-slice-read-put-out-2 : tie.Need-shared-slice-read-put-out-2
 shared-slice-read-put-out-2 c = omega (arith, c .before .before .before .before .before .before .before .pre .1 .1 (c .before .before .before .before .if1 .left) .1, c .before .before .before .before .before .before .before .pre .1 .0)
 
--- src/lib.rt:48:5
 put-out-requires : tie.Need-put-out-requires
 put-out-requires c κs = search needs
 
--- src/lib.rt:32:1
 returns-2 : tie.Need-returns-2
 returns-2 c = rw (eq-eqb _ _ (c .before .before .before .before .before .if1 .left)) (c .put-out .ensures)
 

@@ -1,9 +1,10 @@
+-- `player::sum_of` meets its contract. The sum up to an index. Assumes nothing.
 use Rattle.engine.proofs.Sums.{below-none, below-more}
 use Rattle.engine.specs.Opening.{totalOf}
 use Rattle.base.specs.Sums.{below}
 use lib.ListN.{length, getD}
 use native.Mathlib.Omega.{arith}
-use Prim.Native.Nat.{_-_, _*_, _^_, _≤_}
+use Prim.Native.Nat.{_-_, _*_, _≤_}
 use mathlib.Core.Path.{_≡_, _∙_, ap}
 use denote.Ref.{now}
 use borrow.Author.Needs.{needs}

@@ -8,19 +8,15 @@ use Rattle.sound.proofs.entry_of.Tie as tie
 use Rattle.sound.proofs.entry_of.Reads as reads
 use Rattle.sound.proofs.entry_of.Lts as lts
 
--- src/lib.rt:220:5
 mul-result : tie.Need-mul-result
 mul-result c = search needs
 
--- src/lib.rt:220:15
 add-result : tie.Need-add-result
 add-result c = search needs
 
--- src/lib.rt:220:5
 add-result-2 : tie.Need-add-result-2
 add-result-2 c = search needs
 
--- src/lib.rt:216:1
 returns : tie.Need-returns
 unfolding entryOf entry firstEntry
 returns c = (refl, omega arith)

@@ -23,44 +23,34 @@ Inv-loop lens largest p start count waiting j₀ j = (j ≤ waiting) × ((waitin
 abbrev μ-loop : tie.MeasureT-loop
 μ-loop lens largest p start count waiting j₀ j = waiting - j
 
--- src/lib.rt:230:5
 loop-holds : tie.Need-loop-holds Inv-loop μ-loop
 loop-holds c = (omega arith, (refl, (omega arith, all-none _)))
 
--- src/lib.rt:231:13
 entry-of-requires : tie.Need-entry-of-requires Inv-loop μ-loop
 entry-of-requires c κs = omega (arith, c .before .loop .inv, c .loop-test .taken)
 
--- src/lib.rt:232:38
 mul-length-in-range : tie.Need-mul-length-in-range Inv-loop μ-loop
 mul-length-in-range c = search needs
 
--- src/lib.rt:232:38
 shared-slice-read-length-in-range : tie.Need-shared-slice-read-length-in-range Inv-loop μ-loop
 shared-slice-read-length-in-range c = omega (arith, c .before .entry-of .ensures .1)
 
--- src/lib.rt:232:13
 length-in-range-requires : tie.Need-length-in-range-requires Inv-loop μ-loop
 length-in-range-requires c κs = search needs
 
--- src/lib.rt:233:13
 returns : tie.Need-returns Inv-loop μ-loop
 unfolding laneInRange
 returns c = sym (all-stop _ (c .before .before .before .before .before .before .before .args .count) (c .before .before .before .before .before .loop .j) (c .before .before .before .before .loop-test .taken) (ap (λ (i : ℕ). lengthInRange (c .before .before .before .before .before .before .before .args .largest) (getD (now (c .before .before .before .before .before .before .before .args .lens)) i 0)) (sym (c .before .before .before .entry-of .ensures .0)) ∙ sym (c .before .length-in-range .ensures) ∙ not-true _ (c .if1 .taken)))
 
--- src/lib.rt:235:9
 add-j : tie.Need-add-j Inv-loop μ-loop
 add-j c = search needs
 
--- src/lib.rt:230:5
 loop-less : tie.Need-loop-less Inv-loop μ-loop
 loop-less c = search needs
 
--- src/lib.rt:230:5
 loop-again : tie.Need-loop-again Inv-loop μ-loop
 loop-again c = (omega (arith, c .before .before .before .before .loop-test .taken), (refl, (c .before .before .before .before .before .loop .inv .1 .1 .0, all-more _ (c .before .before .before .before .before .loop .j) (c .before .before .before .before .before .loop .inv .1 .1 .1) (ap (λ (i : ℕ). lengthInRange (c .before .before .before .before .before .before .before .args .largest) (getD (now (c .before .before .before .before .before .before .before .args .lens)) i 0)) (sym (c .before .before .before .entry-of .ensures .0)) ∙ sym (c .before .length-in-range .ensures) ∙ not-false _ (c .if1 .left)))))
 
--- src/lib.rt:224:1
 returns-2 : tie.Need-returns-2 Inv-loop μ-loop
 unfolding laneInRange
 returns-2 c = let e : c .before .loop .j ≡ c .before .before .before .args .count = omega (arith, c .before .loop .inv, c .loop-test .left) in sym (rw e at (c .before .loop .inv .1 .1 .1))

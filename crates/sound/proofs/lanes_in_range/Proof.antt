@@ -21,40 +21,31 @@ Inv-loop lens largest starts counts p₀ p = (p ≤ 64) × (allBelow p (λ i. la
 abbrev μ-loop : tie.MeasureT-loop
 μ-loop lens largest starts counts p₀ p = 64 - p
 
--- src/lib.rt:238:5
 loop-holds : tie.Need-loop-holds Inv-loop μ-loop
 loop-holds c = (omega arith, all-none _)
 
--- src/lib.rt:239:45
 element-copy-out-lane-in-range : tie.Need-element-copy-out-lane-in-range Inv-loop μ-loop
 element-copy-out-lane-in-range c = search needs
 
--- src/lib.rt:239:56
 element-copy-out-lane-in-range-2 : tie.Need-element-copy-out-lane-in-range-2 Inv-loop μ-loop
 element-copy-out-lane-in-range-2 c = search needs
 
--- src/lib.rt:239:13
 lane-in-range-requires : tie.Need-lane-in-range-requires Inv-loop μ-loop
 lane-in-range-requires c κs = search needs
 
--- src/lib.rt:240:13
 returns : tie.Need-returns Inv-loop μ-loop
 unfolding lanesInRange
 returns c = sym (all-stop _ 64 (c .before .before .before .before .before .loop .p) (c .before .before .before .before .loop-test .taken) (sym (c .before .lane-in-range .ensures) ∙ not-true _ (c .if1 .taken)))
 
--- src/lib.rt:242:9
 add-p : tie.Need-add-p Inv-loop μ-loop
 add-p c = search needs
 
--- src/lib.rt:238:5
 loop-less : tie.Need-loop-less Inv-loop μ-loop
 loop-less c = search needs
 
--- src/lib.rt:238:5
 loop-again : tie.Need-loop-again Inv-loop μ-loop
 loop-again c = (omega arith, all-more _ (c .before .before .before .before .before .loop .p) (c .before .before .before .before .before .loop .inv .1) (sym (c .before .lane-in-range .ensures) ∙ not-false _ (c .if1 .left)))
 
--- src/lib.rt:233:1
 returns-2 : tie.Need-returns-2 Inv-loop μ-loop
 unfolding lanesInRange
 returns-2 c = let e : c .before .loop .p ≡ 64 = omega arith in sym (rw e at (c .before .loop .inv .1))

@@ -6,12 +6,10 @@ use Rattle.sound.proofs.length_in_range.Tie as tie
 use Rattle.sound.proofs.length_in_range.Reads as reads
 use Rattle.sound.proofs.length_in_range.Lts as lts
 
--- src/lib.rt:210:9
 returns : tie.Need-returns
 unfolding lengthInRange
 returns c = rw (lt-leb 1 (c .before .args .len) (let e = c .if1 .taken in omega arith))
 
--- src/lib.rt:206:1
 returns-2 : tie.Need-returns-2
 unfolding lengthInRange
 returns-2 c = rw (le-leb 1 (c .before .args .len) (let e = c .if1 .left in omega arith))

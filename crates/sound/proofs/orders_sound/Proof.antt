@@ -10,27 +10,21 @@ use Rattle.orders.proofs.active_as_ruled.Reads as active-as-ruled-reads
 use Rattle.orders.proofs.orders_listed.Reads as orders-listed-reads
 use Rattle.orders.proofs.pending_as_ruled.Reads as pending-as-ruled-reads
 
--- src/lib.rt:140:9
 orders-listed-requires : tie.Need-orders-listed-requires
 orders-listed-requires c κs = search needs
 
--- src/lib.rt:150:9
 returns : tie.Need-returns
 returns c = rw (sym (c .before .orders-listed .ensures) ∙ not-true _ (c .if1 .taken))
 
--- src/lib.rt:152:9
 active-as-ruled-requires : tie.Need-active-as-ruled-requires
 active-as-ruled-requires c κs = search needs
 
--- src/lib.rt:153:9
 returns-2 : tie.Need-returns-2
 returns-2 c = rw (sym (c .before .before .before .before .before .before .orders-listed .ensures) ∙ not-false _ (c .before .before .before .before .before .if1 .left), sym (c .before .active-as-ruled .ensures) ∙ not-true _ (c .if2 .taken))
 
--- src/lib.rt:155:5
 pending-as-ruled-requires : tie.Need-pending-as-ruled-requires
 pending-as-ruled-requires c κs = search needs
 
--- src/lib.rt:137:1
 returns-3 : tie.Need-returns-3
 returns-3 c = rw (sym (c .before .before .before .before .before .before .before .before .before .before .orders-listed .ensures) ∙ not-false _ (c .before .before .before .before .before .before .before .before .before .if1 .left), sym (c .before .before .before .before .before .active-as-ruled .ensures) ∙ not-false _ (c .before .before .before .before .if2 .left)) (c .pending-as-ruled .ensures ∙ last-test _)
 

@@ -8,45 +8,35 @@ use Rattle.sound.proofs.slot_in_range.Lts as lts
 use Rattle.sound.proofs.entry_of.Reads as entry-of-reads
 use Rattle.sound.proofs.slot_open.Reads as slot-open-reads
 
--- src/lib.rt:356:9
 returns : tie.Need-returns
 unfolding slotInRange
 returns c = rw (eq-eqb _ _ (c .before .if1 .taken))
 
--- src/lib.rt:359:9
 returns-2 : tie.Need-returns-2
 unfolding slotInRange
 returns-2 c = rw (ne-eqb _ _ (c .before .if1 .left), lt-leb _ _ (c .if2 .taken))
 
--- src/lib.rt:361:13
 sub-p : tie.Need-sub-p
 sub-p c = search needs
 
--- src/lib.rt:362:25
 element-copy-out-entry-of : tie.Need-element-copy-out-entry-of
 element-copy-out-entry-of c = search needs
 
--- src/lib.rt:362:9
 entry-of-requires : tie.Need-entry-of-requires
 entry-of-requires c κs = search needs
 
--- src/lib.rt:363:37
 element-copy-out-slot-open : tie.Need-element-copy-out-slot-open
 element-copy-out-slot-open c = search needs
 
--- src/lib.rt:363:48
 mul-slot-open : tie.Need-mul-slot-open
 mul-slot-open c = search needs
 
--- src/lib.rt:363:48
 shared-slice-read-slot-open : tie.Need-shared-slice-read-slot-open
 shared-slice-read-slot-open c = search needs
 
--- src/lib.rt:363:5
 slot-open-requires : tie.Need-slot-open-requires
 slot-open-requires c κs = search needs
 
--- src/lib.rt:351:1
 returns-3 : tie.Need-returns-3
 unfolding slotInRange
 returns-3 c = rw (ne-eqb _ _ (c .before .before .before .before .before .before .if1 .left), le-leb _ _ (c .before .before .before .before .before .if2 .left), ← c .before .before .before .entry-of .ensures .0) (c .slot-open .ensures)

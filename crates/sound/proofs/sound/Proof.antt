@@ -21,83 +21,65 @@ use Rattle.sound.proofs.places_sound.Reads as places-sound-reads
 use Rattle.sound.proofs.slot_in_range.Reads as slot-in-range-reads
 use Rattle.sound.proofs.tables_whole.Reads as tables-whole-reads
 
--- src/lib.rt:162:9
 tables-whole-requires : tie.Need-tables-whole-requires
 tables-whole-requires c κs = search needs
 
--- src/lib.rt:163:9
 returns : tie.Need-returns
 unfolding soundTest
 returns c = rw (sym (c .before .tables-whole .ensures) ∙ not-true _ (c .if1 .taken))
 
--- src/lib.rt:165:9
 size-in-range-requires : tie.Need-size-in-range-requires
 size-in-range-requires c κs = search needs
 
--- src/lib.rt:166:9
 returns-2 : tie.Need-returns-2
 unfolding soundTest
 returns-2 c = rw (sym (c .before .before .before .tables-whole .ensures) ∙ not-false _ (c .before .before .if1 .left), sym (c .before .size-in-range .ensures) ∙ not-true _ (c .if2 .taken))
 
--- src/lib.rt:168:9
 numbers-apart-requires : tie.Need-numbers-apart-requires
 numbers-apart-requires c κs = search needs
 
--- src/lib.rt:169:9
 returns-3 : tie.Need-returns-3
 unfolding soundTest
 returns-3 c = rw (sym (c .before .before .before .before .before .before .before .tables-whole .ensures) ∙ not-false _ (c .before .before .before .before .before .before .if1 .left), sym (c .before .before .before .before .before .size-in-range .ensures) ∙ not-false _ (c .before .before .before .before .if2 .left), sym (c .before .numbers-apart .ensures) ∙ not-true _ (c .if3 .taken))
 
--- src/lib.rt:171:9
 places-sound-requires : tie.Need-places-sound-requires
 places-sound-requires c κs = search needs
 
--- src/lib.rt:172:9
 returns-4 : tie.Need-returns-4
 unfolding soundTest
 returns-4 c = rw (sym (c .before .before .before .before .before .before .before .before .before .tables-whole .ensures) ∙ not-false _ (c .before .before .before .before .before .before .before .before .if1 .left), sym (c .before .before .before .before .before .before .before .size-in-range .ensures) ∙ not-false _ (c .before .before .before .before .before .before .if2 .left), sym (c .before .before .before .numbers-apart .ensures) ∙ not-false _ (c .before .before .if3 .left), sym (c .before .places-sound .ensures) ∙ not-true _ (c .if4 .taken))
 
--- src/lib.rt:174:9
 lanes-in-range-requires : tie.Need-lanes-in-range-requires
 lanes-in-range-requires c κs = eqb-true (length (now (c .before .before .before .before .before .before .before .before .before .before .before .before .before .before .before .args .lens))) 2048 (and-right (eqb (length (now (c .before .before .before .before .before .before .before .before .before .before .before .before .before .before .before .args .ids))) 2048) (eqb (length (now (c .before .before .before .before .before .before .before .before .before .before .before .before .before .before .before .args .lens))) 2048) (sym (c .before .before .before .before .before .before .before .before .before .before .before .before .tables-whole .ensures) ∙ not-false _ (c .before .before .before .before .before .before .before .before .before .before .before .if1 .left)))
 
--- src/lib.rt:175:9
 returns-5 : tie.Need-returns-5
 unfolding soundTest
 returns-5 c = rw (sym (c .before .before .before .before .before .before .before .before .before .before .before .before .before .before .tables-whole .ensures) ∙ not-false _ (c .before .before .before .before .before .before .before .before .before .before .before .before .before .if1 .left), sym (c .before .before .before .before .before .before .before .before .before .before .before .before .size-in-range .ensures) ∙ not-false _ (c .before .before .before .before .before .before .before .before .before .before .before .if2 .left), sym (c .before .before .before .before .before .before .before .before .numbers-apart .ensures) ∙ not-false _ (c .before .before .before .before .before .before .before .if3 .left), sym (c .before .before .before .before .before .before .places-sound .ensures) ∙ not-false _ (c .before .before .before .before .before .if4 .left), sym (c .before .lanes-in-range .ensures) ∙ not-true _ (c .if5 .taken))
 
--- src/lib.rt:177:9
 shares-fit-requires : tie.Need-shares-fit-requires
 shares-fit-requires c κs = search needs
 
--- src/lib.rt:178:9
 returns-6 : tie.Need-returns-6
 unfolding soundTest
 returns-6 c = rw (sym (c .before .before .before .before .before .before .before .before .before .before .before .before .before .before .before .before .before .before .before .tables-whole .ensures) ∙ not-false _ (c .before .before .before .before .before .before .before .before .before .before .before .before .before .before .before .before .before .before .if1 .left), sym (c .before .before .before .before .before .before .before .before .before .before .before .before .before .before .before .before .before .size-in-range .ensures) ∙ not-false _ (c .before .before .before .before .before .before .before .before .before .before .before .before .before .before .before .before .if2 .left), sym (c .before .before .before .before .before .before .before .before .before .before .before .before .before .numbers-apart .ensures) ∙ not-false _ (c .before .before .before .before .before .before .before .before .before .before .before .before .if3 .left), sym (c .before .before .before .before .before .before .before .before .before .before .before .places-sound .ensures) ∙ not-false _ (c .before .before .before .before .before .before .before .before .before .before .if4 .left), sym (c .before .before .before .before .before .before .lanes-in-range .ensures) ∙ not-false _ (c .before .before .before .before .before .if5 .left), sym (c .before .shares-fit .ensures) ∙ not-true _ (c .if6 .taken))
 
--- src/lib.rt:180:9
 held-while-waiting-requires : tie.Need-held-while-waiting-requires
 held-while-waiting-requires c κs = search needs
 
--- src/lib.rt:181:9
 returns-7 : tie.Need-returns-7
 unfolding soundTest
 returns-7 c = rw (sym (c .before .before .before .before .before .before .before .before .before .before .before .before .before .before .before .before .before .before .before .before .before .before .before .tables-whole .ensures) ∙ not-false _ (c .before .before .before .before .before .before .before .before .before .before .before .before .before .before .before .before .before .before .before .before .before .before .if1 .left), sym (c .before .before .before .before .before .before .before .before .before .before .before .before .before .before .before .before .before .before .before .before .before .size-in-range .ensures) ∙ not-false _ (c .before .before .before .before .before .before .before .before .before .before .before .before .before .before .before .before .before .before .before .before .if2 .left), sym (c .before .before .before .before .before .before .before .before .before .before .before .before .before .before .before .before .before .numbers-apart .ensures) ∙ not-false _ (c .before .before .before .before .before .before .before .before .before .before .before .before .before .before .before .before .if3 .left), sym (c .before .before .before .before .before .before .before .before .before .before .before .before .before .before .before .places-sound .ensures) ∙ not-false _ (c .before .before .before .before .before .before .before .before .before .before .before .before .before .before .if4 .left), sym (c .before .before .before .before .before .before .before .before .before .before .lanes-in-range .ensures) ∙ not-false _ (c .before .before .before .before .before .before .before .before .before .if5 .left), sym (c .before .before .before .before .before .shares-fit .ensures) ∙ not-false _ (c .before .before .before .before .if6 .left), sym (c .before .held-while-waiting .ensures) ∙ not-true _ (c .if7 .taken))
 
--- src/lib.rt:184:9
 slot-in-range-requires : tie.Need-slot-in-range-requires
 slot-in-range-requires c κs = eqb-true (length (now (c .before .before .before .before .before .before .before .before .before .before .before .before .before .before .before .before .before .before .before .before .before .before .before .before .before .before .before .before .before .before .args .lens))) 2048 (and-right (eqb (length (now (c .before .before .before .before .before .before .before .before .before .before .before .before .before .before .before .before .before .before .before .before .before .before .before .before .before .before .before .before .before .before .args .ids))) 2048) (eqb (length (now (c .before .before .before .before .before .before .before .before .before .before .before .before .before .before .before .before .before .before .before .before .before .before .before .before .before .before .before .before .before .before .args .lens))) 2048) (sym (c .before .before .before .before .before .before .before .before .before .before .before .before .before .before .before .before .before .before .before .before .before .before .before .before .before .before .before .tables-whole .ensures) ∙ not-false _ (c .before .before .before .before .before .before .before .before .before .before .before .before .before .before .before .before .before .before .before .before .before .before .before .before .before .before .if1 .left)))
 
--- src/lib.rt:185:9
 returns-8 : tie.Need-returns-8
 unfolding soundTest
 returns-8 c = rw (sym (c .before .before .before .before .before .before .before .before .before .before .before .before .before .before .before .before .before .before .before .before .before .before .before .before .before .before .before .before .before .tables-whole .ensures) ∙ not-false _ (c .before .before .before .before .before .before .before .before .before .before .before .before .before .before .before .before .before .before .before .before .before .before .before .before .before .before .before .before .if1 .left), sym (c .before .before .before .before .before .before .before .before .before .before .before .before .before .before .before .before .before .before .before .before .before .before .before .before .before .before .before .size-in-range .ensures) ∙ not-false _ (c .before .before .before .before .before .before .before .before .before .before .before .before .before .before .before .before .before .before .before .before .before .before .before .before .before .before .if2 .left), sym (c .before .before .before .before .before .before .before .before .before .before .before .before .before .before .before .before .before .before .before .before .before .before .before .numbers-apart .ensures) ∙ not-false _ (c .before .before .before .before .before .before .before .before .before .before .before .before .before .before .before .before .before .before .before .before .before .before .if3 .left), sym (c .before .before .before .before .before .before .before .before .before .before .before .before .before .before .before .before .before .before .before .before .before .places-sound .ensures) ∙ not-false _ (c .before .before .before .before .before .before .before .before .before .before .before .before .before .before .before .before .before .before .before .before .if4 .left), sym (c .before .before .before .before .before .before .before .before .before .before .before .before .before .before .before .before .lanes-in-range .ensures) ∙ not-false _ (c .before .before .before .before .before .before .before .before .before .before .before .before .before .before .before .if5 .left), sym (c .before .before .before .before .before .before .before .before .before .before .before .shares-fit .ensures) ∙ not-false _ (c .before .before .before .before .before .before .before .before .before .before .if6 .left), sym (c .before .before .before .before .before .before .before .held-while-waiting .ensures) ∙ not-false _ (c .before .before .before .before .before .before .if7 .left), sym (c .before .slot-in-range .ensures) ∙ not-true _ (c .if8 .taken))
 
--- src/lib.rt:187:5
 orders-sound-requires : tie.Need-orders-sound-requires
 orders-sound-requires c κs = search needs
 
--- src/lib.rt:159:1
 returns-9 : tie.Need-returns-9
 unfolding soundTest
 returns-9 c = rw (sym (c .before .before .before .before .before .before .before .before .before .before .before .before .before .before .before .before .before .before .before .before .before .before .before .before .before .before .before .before .before .before .tables-whole .ensures) ∙ not-false _ (c .before .before .before .before .before .before .before .before .before .before .before .before .before .before .before .before .before .before .before .before .before .before .before .before .before .before .before .before .before .if1 .left), sym (c .before .before .before .before .before .before .before .before .before .before .before .before .before .before .before .before .before .before .before .before .before .before .before .before .before .before .before .before .size-in-range .ensures) ∙ not-false _ (c .before .before .before .before .before .before .before .before .before .before .before .before .before .before .before .before .before .before .before .before .before .before .before .before .before .before .before .if2 .left), sym (c .before .before .before .before .before .before .before .before .before .before .before .before .before .before .before .before .before .before .before .before .before .before .before .before .numbers-apart .ensures) ∙ not-false _ (c .before .before .before .before .before .before .before .before .before .before .before .before .before .before .before .before .before .before .before .before .before .before .before .if3 .left), sym (c .before .before .before .before .before .before .before .before .before .before .before .before .before .before .before .before .before .before .before .before .before .before .places-sound .ensures) ∙ not-false _ (c .before .before .before .before .before .before .before .before .before .before .before .before .before .before .before .before .before .before .before .before .before .if4 .left), sym (c .before .before .before .before .before .before .before .before .before .before .before .before .before .before .before .before .before .lanes-in-range .ensures) ∙ not-false _ (c .before .before .before .before .before .before .before .before .before .before .before .before .before .before .before .before .if5 .left), sym (c .before .before .before .before .before .before .before .before .before .before .before .before .shares-fit .ensures) ∙ not-false _ (c .before .before .before .before .before .before .before .before .before .before .before .if6 .left), sym (c .before .before .before .before .before .before .before .before .held-while-waiting .ensures) ∙ not-false _ (c .before .before .before .before .before .before .before .if7 .left), sym (c .before .before .slot-in-range .ensures) ∙ not-false _ (c .before .if8 .left)) (c .orders-sound .ensures)

@@ -4,11 +4,9 @@ use Rattle.sound.proofs.tables_whole.Tie as tie
 use Rattle.sound.proofs.tables_whole.Reads as reads
 use Rattle.sound.proofs.tables_whole.Lts as lts
 
--- src/lib.rt:561:9
 returns : tie.Need-returns
 returns c = rw (ne-eqb _ _ (c .if1 .taken))
 
--- src/lib.rt:557:1
 returns-2 : tie.Need-returns-2
 returns-2 c = rw (eq-eqb _ _ (c .if1 .left))
 

@@ -7,16 +7,13 @@ use Rattle.units.proofs.charge.Reads as reads
 use Rattle.units.proofs.charge.Lts as lts
 use Rattle.units.proofs.charged.Reads as charged-reads
 
--- src/lib.rt:73:9
 charged-requires : tie.Need-charged-requires
 charged-requires c κs = search needs
 
--- src/lib.rt:74:11
 mul-t3 : tie.Need-mul-t3
 unfolding framing charged
 mul-t3 c = record { fits = omega arith }
 
--- src/lib.rt:69:1
 returns : tie.Need-returns
 unfolding chargeOf
 returns c = rw (c .before .charged .ensures)

@@ -6,11 +6,9 @@ use Rattle.units.proofs.charged.Tie as tie
 use Rattle.units.proofs.charged.Reads as reads
 use Rattle.units.proofs.charged.Lts as lts
 
--- src/lib.rt:57:11
 add-t2 : tie.Need-add-t2
 add-t2 c = search needs
 
--- src/lib.rt:53:1
 returns : tie.Need-returns
 unfolding framing charged
 returns c = refl

@@ -19,28 +19,22 @@ Inv-loop share k₀ limit₀ k limit = (k ≤ 16) × ((limit ≡ 2 ^ (16 - k)) �
 abbrev μ-loop : tie.MeasureT-loop
 μ-loop share k₀ limit₀ k limit = 16 - k
 
--- src/lib.rt:25:5
 loop-holds : tie.Need-loop-holds Inv-loop μ-loop
 loop-holds c = (omega arith, (search needs, λ j h. absurd (omega arith)))
 
--- src/lib.rt:27:13
 returns : tie.Need-returns Inv-loop μ-loop
 unfolding classOf
 returns c = sym (least-found (reaches (c .before .before .before .args .share)) 16 (c .before .before .loop .k) (omega arith) (c .before .before .loop .inv .1 .1) (leb-yes (2 ^ (16 - c .before .before .loop .k)) _ (rw (← c .before .before .loop .inv .1 .0) (c .if1 .taken))))
 
--- src/lib.rt:30:9
 add-k : tie.Need-add-k Inv-loop μ-loop
 add-k c = omega arith
 
--- src/lib.rt:25:5
 loop-less : tie.Need-loop-less Inv-loop μ-loop
 loop-less c = omega arith
 
--- src/lib.rt:25:5
 loop-again : tie.Need-loop-again Inv-loop μ-loop
 loop-again c = (omega arith, (rw (c .before .before .loop .inv .1 .0) (half-power 16 (c .before .before .loop .k) (c .before .loop-test .taken)), below-next (λ j. reaches (c .before .before .before .args .share) j ≡ false) (c .before .before .loop .k) (c .before .before .loop .inv .1 .1) (leb-no (2 ^ (16 - c .before .before .loop .k)) _ (rw (← c .before .before .loop .inv .1 .0) (c .if1 .left)))))
 
--- src/lib.rt:19:1
 returns-2 : tie.Need-returns-2 Inv-loop μ-loop
 unfolding classOf
 returns-2 c = let e : c .before .loop .k ≡ 16 = omega arith in e ∙ sym (least-none (reaches (c .before .before .args .share)) 16 (λ j h. c .before .loop .inv .1 .1 j (omega arith)))

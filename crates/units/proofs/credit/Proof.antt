@@ -13,23 +13,18 @@ use Rattle.units.proofs.credit.Lts as lts
 use Rattle.units.proofs.interval.Reads as interval-reads
 use Rattle.units.proofs.largest_charge.Reads as largest-charge-reads
 
--- src/lib.rt:82:9
 largest-charge-requires : tie.Need-largest-charge-requires
 largest-charge-requires c κs = search needs
 
--- src/lib.rt:83:9
 interval-requires : tie.Need-interval-requires
 interval-requires c κs = omega (arith, class-le (c .before .args .share))
 
--- src/lib.rt:84:11
 mul-t7 : tie.Need-mul-t7
 mul-t7 c = record { fits = rw (c .interval .ensures, c .before .before .pre .1 .1 .0) (omega (arith, class-hi (c .before .before .args .share) (c .before .before .pre .1 .0))) }
 
--- src/lib.rt:84:11
 mul-t8 : tie.Need-mul-t8
 mul-t8 c = record { fits = rw (c .before .interval .ensures, c .before .before .before .pre .1 .1 .0, c .before .before .largest-charge .ensures) (credit-fits (c .before .before .before .args .share * 2 ^ classOf (c .before .before .before .args .share)) _ (class-hi (c .before .before .before .args .share) (c .before .before .before .pre .1 .0)) (charge-small (c .before .before .before .args .largest .0) (c .before .before .before .pre .1 .1 .1))) }
 
--- src/lib.rt:78:1
 returns : tie.Need-returns
 unfolding creditOf
 returns c = rw (c .before .interval .ensures, c .before .before .before .pre .1 .1 .0, c .before .before .largest-charge .ensures)

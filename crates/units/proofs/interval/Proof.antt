@@ -9,11 +9,9 @@ use Rattle.units.proofs.interval.Tie as tie
 use Rattle.units.proofs.interval.Reads as reads
 use Rattle.units.proofs.interval.Lts as lts
 
--- src/lib.rt:40:5
 shl-result : tie.Need-shl-result
 shl-result c = search needs
 
--- src/lib.rt:36:1
 returns : tie.Need-returns
 returns c = shl-exact 1 (c .args .k) 64 (lit< tt) (omega arith) ∙ one-mul _
 

@@ -6,11 +6,9 @@ use Rattle.units.proofs.largest_charge.Reads as reads
 use Rattle.units.proofs.largest_charge.Lts as lts
 use Rattle.units.proofs.charged.Reads as charged-reads
 
--- src/lib.rt:65:5
 charged-requires : tie.Need-charged-requires
 charged-requires c κs = search needs
 
--- src/lib.rt:61:1
 returns : tie.Need-returns
 unfolding largestCharge
 returns c = c .charged .ensures

@@ -10,24 +10,19 @@ use Rattle.units.proofs.next_start.Reads as reads
 use Rattle.units.proofs.next_start.Lts as lts
 use Rattle.units.proofs.interval.Reads as interval-reads
 
--- src/lib.rt:48:9
 interval-requires : tie.Need-interval-requires
 interval-requires c κs = search needs
 
--- src/lib.rt:49:6
 div-result : tie.Need-div-result
 div-result c = rw (c .interval .ensures) (pow-pos _)
 
--- src/lib.rt:49:6
 add-result : tie.Need-add-result
 add-result c = omega (arith, div-le-self (c .before .args .clock) (c .interval .result))
 
--- src/lib.rt:49:5
 mul-result : tie.Need-mul-result
 unfolding nextStart
 mul-result c = record { fits = rw (c .interval .ensures) (next-fits (c .before .args .k) (c .before .args .clock) (c .before .pre .0) (c .before .pre .1)) }
 
--- src/lib.rt:44:1
 returns : tie.Need-returns
 unfolding nextStart
 returns c = rw (c .interval .ensures)
