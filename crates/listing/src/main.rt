@@ -5,20 +5,20 @@ use libc::STDOUT_FILENO;
 // The bytes of a log that is read, and one more, so that a longer one is seen to be long.
 const MOST: usize = 32769;
 
-// A part of the listing at a time. A write that fails is not tried again: whoever reads the listing finds it short.
+// A piece of the listing at a time. A write that fails is not tried again: whoever reads the listing finds it short.
 fn write_listing(log: &[u8]) {
     let mut ids = [0u32; 2048];
     let mut lens = [0u16; 2048];
     let mut out = [0u8; 4096];
     let mut state = player::begin();
     loop {
-        let part = player::list_part(log, &mut ids, &mut lens, &mut out, state);
-        let used = part.used;
+        let piece = player::list_piece(log, &mut ids, &mut lens, &mut out, state);
+        let used = piece.used;
         io::write_all(STDOUT_FILENO, &out[..used]);
-        if part.over {
+        if piece.over {
             return;
         }
-        let next = part.state;
+        let next = piece.state;
         state = next;
     }
 }

@@ -1,4 +1,4 @@
-// The player of a log: it writes the listing in parts, each into a lent buffer, and works on the engine's arrays from field to field.
+// The player of a log: it writes the listing in pieces, each into a lent buffer, and works on the engine's arrays from field to field.
 ghost use mathlib.Core.Path.{_≡_};
 ghost use mathlib.Core.Bool.{true, false};
 ghost use Prim.Native.Nat.{_+_, _^_, _<_, _≤_};
@@ -9,14 +9,14 @@ ghost use Rattle.lines.specs.Text.{Line, Written};
 ghost use Rattle.engine.specs.Opening.{totalOf};
 ghost use Rattle.engine.specs.Serving.{numbersNow};
 ghost use Rattle.player.specs.Fields.{boardNow, stand, Good, Plays, shownLine};
-ghost use Rattle.player.specs.Parts.{begins, partCode, Ready, endedPart, PartDone, PartOf};
+ghost use Rattle.player.specs.Pieces.{begins, pieceCode, Ready, endedPiece, PieceDone, PieceOf};
 use board::Board;
 use log::Event;
 use log::Field;
 use units::Bytes;
 use units::Parts;
 
-// What stands between two parts of a listing: whether L has been read, the offset of the next field, the bytes sent so far, and the board.
+// What stands between two pieces of a listing: whether L has been read, the offset of the next field, the bytes sent so far, and the board.
 pub struct State {
     pub begun: bool,
     pub at: usize,
@@ -24,8 +24,8 @@ pub struct State {
     pub board: Board,
 }
 
-// A part of a listing: the code of a refusal, or 0; how many bytes were written; whether it was the last; and where the next one goes on.
-pub struct Part {
+// A piece of a listing: the code of a refusal, or 0; how many bytes were written; whether it was the last; and where the next one goes on.
+pub struct Piece {
     pub code: u8,
     pub used: usize,
     pub over: bool,
@@ -230,7 +230,7 @@ fn play_field(
     }
 }
 
-// ---- A part of the listing
+// ---- A piece of the listing
 
 // The sum of some lanes' counts.
 fn sum_of(counts: &[u8]) -> u32
@@ -269,9 +269,9 @@ fn append(out: &mut [u8], used: usize, line: &[u8; 64], count: usize) -> usize
     put_front(out, used, line, count)
 }
 
-// Whether a part may go on from a state: 3 for the tables, 2 for a state that no part of such a log leaves.
+// Whether a piece may go on from a state: 3 for the tables, 2 for a state that no piece of such a log leaves.
 fn unready(len: usize, ids: &[u32], lens: &[u16], s: State) -> u8
-    ensures { λ r. ⌜ (r ≡ partCode len s (now (ids .entry)) (now (lens .entry))) × (r ≡ 0 → s .begun ≡ true → Ready len s (now (ids .entry)) (now (lens .entry))) ⌝ }
+    ensures { λ r. ⌜ (r ≡ pieceCode len s (now (ids .entry)) (now (lens .entry))) × (r ≡ 0 → s .begun ≡ true → Ready len s (now (ids .entry)) (now (lens .entry))) ⌝ }
 {
     if ids.len() != 2048 {
         return 3;
@@ -291,11 +291,11 @@ fn unready(len: usize, ids: &[u32], lens: &[u16], s: State) -> u8
     calls::early(ids, lens, s.board)
 }
 
-// The last part: what was written, and the listing is over.
-fn last_part(used: usize, s: State) -> Part
-    ensures { λ r. ⌜ r ≡ endedPart used s ⌝ }
+// The last piece: what was written, and the listing is over.
+fn last_piece(used: usize, s: State) -> Piece
+    ensures { λ r. ⌜ r ≡ endedPiece used s ⌝ }
 {
-    Part {
+    Piece {
         code: 0,
         used: used,
         over: true,
@@ -304,9 +304,9 @@ fn last_part(used: usize, s: State) -> Part
 }
 
 // The fields after L in turn, as long as there is room for a line, and then the last line.
-fn next_part(log: &[u8], ids: &mut [u32], lens: &mut [u16], out: &mut [u8], s: State) -> Part
+fn next_piece(log: &[u8], ids: &mut [u32], lens: &mut [u16], out: &mut [u8], s: State) -> Piece
     requires { ⌜ Ready (length (now log)) s (now ids) (now lens) ⌝ }
-    ensures { λ r. ⌜ PartDone (now (log .entry)) s (now (ids .entry)) (now (lens .entry)) (now (out .entry)) r (now (ids .exit)) (now (lens .exit)) (now (out .exit)) ⌝ }
+    ensures { λ r. ⌜ PieceDone (now (log .entry)) s (now (ids .entry)) (now (lens .entry)) (now (out .entry)) r (now (ids .exit)) (now (lens .exit)) (now (out .exit)) ⌝ }
 {
     let b = s.board;
     let mut numbers = b.numbers;
@@ -348,7 +348,7 @@ fn next_part(log: &[u8], ids: &mut [u32], lens: &mut [u16], out: &mut [u8], s: S
                 slot: slot,
                 left: left,
             };
-            return Part {
+            return Piece {
                 code: 0,
                 used: used,
                 over: false,
@@ -363,12 +363,12 @@ fn next_part(log: &[u8], ids: &mut [u32], lens: &mut [u16], out: &mut [u8], s: S
         if at == log.len() {
             let count = lines::put_end(&mut line, clock, sent, waiting(&counts));
             let end = append(out, used, &line, count);
-            return last_part(end, s);
+            return last_piece(end, s);
         }
         let Field::Whole(event, on) = log::field_at(log, at, true) else {
             let count = lines::put_broken(&mut line, at as u64);
             let end = append(out, used, &line, count);
-            return last_part(end, s);
+            return last_piece(end, s);
         };
         let moved = play_field(
             event,
@@ -406,12 +406,12 @@ fn next_part(log: &[u8], ids: &mut [u32], lens: &mut [u16], out: &mut [u8], s: S
 }
 
 // The first field: the board is made, or the listing is one line.
-fn first_part(log: &[u8], ids: &mut [u32], lens: &mut [u16], out: &mut [u8], s: State) -> Part
-    requires { ⌜ (s .begun ≡ false) × (partCode (length (now log)) s (now ids) (now lens) ≡ 0) ⌝ }
-    ensures { λ r. ⌜ PartDone (now (log .entry)) s (now (ids .entry)) (now (lens .entry)) (now (out .entry)) r (now (ids .exit)) (now (lens .exit)) (now (out .exit)) ⌝ }
+fn first_piece(log: &[u8], ids: &mut [u32], lens: &mut [u16], out: &mut [u8], s: State) -> Piece
+    requires { ⌜ (s .begun ≡ false) × (pieceCode (length (now log)) s (now ids) (now lens) ≡ 0) ⌝ }
+    ensures { λ r. ⌜ PieceDone (now (log .entry)) s (now (ids .entry)) (now (lens .entry)) (now (out .entry)) r (now (ids .exit)) (now (lens .exit)) (now (out .exit)) ⌝ }
 {
     if out.len() < 64 {
-        return Part {
+        return Piece {
             code: 0,
             used: 0,
             over: false,
@@ -422,19 +422,19 @@ fn first_part(log: &[u8], ids: &mut [u32], lens: &mut [u16], out: &mut [u8], s: 
     if log::is_long(log.len()) {
         let count = lines::put_long(&mut line);
         let end = append(out, 0, &line, count);
-        return last_part(end, s);
+        return last_piece(end, s);
     }
     let Field::Whole(event, on) = log::field_at(log, 0, false) else {
         let count = lines::put_broken(&mut line, 0);
         let end = append(out, 0, &line, count);
-        return last_part(end, s);
+        return last_piece(end, s);
     };
     let Event::Largest(largest) = event else {
-        return last_part(0, s);
+        return last_piece(0, s);
     };
     let made = calls::make(ids, lens, largest);
     let board = made.board;
-    Part {
+    Piece {
         code: 0,
         used: 0,
         over: false,
@@ -447,13 +447,13 @@ fn first_part(log: &[u8], ids: &mut [u32], lens: &mut [u16], out: &mut [u8], s: 
     }
 }
 
-// The next part of a log's listing, into a lent buffer.
-pub fn list_part(log: &[u8], ids: &mut [u32], lens: &mut [u16], out: &mut [u8], s: State) -> Part
-    ensures { λ r. ⌜ PartOf (now (log .entry)) s (now (ids .entry)) (now (lens .entry)) (now (out .entry)) r (now (ids .exit)) (now (lens .exit)) (now (out .exit)) ⌝ }
+// The next piece of a log's listing, into a lent buffer.
+pub fn list_piece(log: &[u8], ids: &mut [u32], lens: &mut [u16], out: &mut [u8], s: State) -> Piece
+    ensures { λ r. ⌜ PieceOf (now (log .entry)) s (now (ids .entry)) (now (lens .entry)) (now (out .entry)) r (now (ids .exit)) (now (lens .exit)) (now (out .exit)) ⌝ }
 {
     let refusal = unready(log.len(), &ids[..], &lens[..], s);
     if refusal != 0 {
-        return Part {
+        return Piece {
             code: refusal,
             used: 0,
             over: true,
@@ -461,9 +461,9 @@ pub fn list_part(log: &[u8], ids: &mut [u32], lens: &mut [u16], out: &mut [u8], 
         };
     }
     if s.begun {
-        return next_part(log, ids, lens, out, s);
+        return next_piece(log, ids, lens, out, s);
     }
-    first_part(log, ids, lens, out, s)
+    first_piece(log, ids, lens, out, s)
 }
 
 // Where a listing begins: L has not been read, and there is no board yet.

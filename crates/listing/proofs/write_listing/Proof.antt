@@ -1,18 +1,18 @@
--- `listing::write_listing` is safe and ends. From part to part the state is not refused, and the rest of the log gets shorter. Assumes nothing.
+-- `listing::write_listing` is safe and ends. From piece to piece the state is not refused, and the rest of the log gets shorter. Assumes nothing.
 use denote.Ref.{now}
 use lib.ListN.{replicate, length}
 use mathlib.Core.Path.{_≡_, sym, _∙_}
 use Prim.Native.Nat.{_-_, _≤_}
 use native.Mathlib.Omega.{arith}
 use lib.Seq.{length-take-le}
-use Rattle.player.specs.Parts.{readTo, partCode}
-use Rattle.player.proofs.Parts.{begins-ready, part-fits, part-next, part-moves}
+use Rattle.player.specs.Pieces.{readTo, pieceCode}
+use Rattle.player.proofs.Pieces.{begins-ready, piece-fits, piece-next, piece-moves}
 use borrow.Author.Needs.{needs}
 use Rattle.listing.proofs.write_listing.Statement.{statement}
 use Rattle.listing.proofs.write_listing.Tie as tie
 
 abbrev Inv-loop : tie.InvT-loop
-Inv-loop log ids₀ lens₀ out₀ state₀ ids lens out state = (length ids ≡ 2048) × ((length lens ≡ 2048) × ((length out ≡ 4096) × ((partCode (length log) state ids lens ≡ 0) × (readTo state ≤ length log))))
+Inv-loop log ids₀ lens₀ out₀ state₀ ids lens out state = (length ids ≡ 2048) × ((length lens ≡ 2048) × ((length out ≡ 4096) × ((pieceCode (length log) state ids lens ≡ 0) × (readTo state ≤ length log))))
 
 abbrev μ-loop : tie.MeasureT-loop
 μ-loop log ids₀ lens₀ out₀ state₀ ids lens out state = length log - readTo state
@@ -23,23 +23,23 @@ begin-requires c κs = search needs
 loop-holds : tie.Need-loop-holds Inv-loop μ-loop
 loop-holds c = (search needs, (search needs, (search needs, (rw (c .begin .ensures) (begins-ready (now (c .before .before .args .log)) (replicate 2048 0) (replicate 2048 0) (search needs) (search needs)), rw (c .begin .ensures) (omega arith)))))
 
-slice-aggregate-list-part : tie.Need-slice-aggregate-list-part Inv-loop μ-loop
-slice-aggregate-list-part c = sym (c .before .loop .inv .0)
+slice-aggregate-list-piece : tie.Need-slice-aggregate-list-piece Inv-loop μ-loop
+slice-aggregate-list-piece c = sym (c .before .loop .inv .0)
 
-slice-aggregate-list-part-2 : tie.Need-slice-aggregate-list-part-2 Inv-loop μ-loop
-slice-aggregate-list-part-2 c = sym (c .before .before .loop .inv .1 .0)
+slice-aggregate-list-piece-2 : tie.Need-slice-aggregate-list-piece-2 Inv-loop μ-loop
+slice-aggregate-list-piece-2 c = sym (c .before .before .loop .inv .1 .0)
 
-slice-aggregate-list-part-3 : tie.Need-slice-aggregate-list-part-3 Inv-loop μ-loop
-slice-aggregate-list-part-3 c = sym (c .before .before .before .loop .inv .1 .1 .0)
+slice-aggregate-list-piece-3 : tie.Need-slice-aggregate-list-piece-3 Inv-loop μ-loop
+slice-aggregate-list-piece-3 c = sym (c .before .before .before .loop .inv .1 .1 .0)
 
-list-part-requires : tie.Need-list-part-requires Inv-loop μ-loop
-list-part-requires c κs = search needs
+list-piece-requires : tie.Need-list-piece-requires Inv-loop μ-loop
+list-piece-requires c κs = search needs
 
 array-share-prefix-out : tie.Need-array-share-prefix-out Inv-loop μ-loop
-array-share-prefix-out c = omega (arith, part-fits _ _ _ _ _ _ _ _ _ (c .before .before .before .list-part .ensures), c .before .before .before .list-part .kept .1 .1 .1 .0)
+array-share-prefix-out c = omega (arith, piece-fits _ _ _ _ _ _ _ _ _ (c .before .before .before .list-piece .ensures), c .before .before .before .list-piece .kept .1 .1 .1 .0)
 
 slice-aggregate-write-all : tie.Need-slice-aggregate-write-all Inv-loop μ-loop
-slice-aggregate-write-all c = sym (length-take-le _ _ (omega (arith, part-fits _ _ _ _ _ _ _ _ _ (c .before .before .before .before .list-part .ensures), c .before .before .before .before .list-part .kept .1 .1 .1 .0)))
+slice-aggregate-write-all c = sym (length-take-le _ _ (omega (arith, piece-fits _ _ _ _ _ _ _ _ _ (c .before .before .before .before .list-piece .ensures), c .before .before .before .before .list-piece .kept .1 .1 .1 .0)))
 
 write-all-requires : tie.Need-write-all-requires Inv-loop μ-loop
 write-all-requires c κs = search needs
@@ -48,10 +48,10 @@ returns : tie.Need-returns Inv-loop μ-loop
 returns c = tt
 
 loop-less : tie.Need-loop-less Inv-loop μ-loop
-loop-less c = let m = part-moves _ _ _ _ _ _ _ _ _ (c .before .before .before .before .before .before .before .list-part .ensures) (c .before .before .before .before .before .before .before .before .before .before .before .loop .inv .1 .1 .1 .0) (c .before .if1 .left) (omega (arith, c .before .before .before .before .before .before .before .before .before .before .before .loop .inv .1 .1 .0)) in omega (arith, m .0, m .1)
+loop-less c = let m = piece-moves _ _ _ _ _ _ _ _ _ (c .before .before .before .before .before .before .before .list-piece .ensures) (c .before .before .before .before .before .before .before .before .before .before .before .loop .inv .1 .1 .1 .0) (c .before .if1 .left) (omega (arith, c .before .before .before .before .before .before .before .before .before .before .before .loop .inv .1 .1 .0)) in omega (arith, m .0, m .1)
 
 loop-again : tie.Need-loop-again Inv-loop μ-loop
-loop-again c = let m = part-moves _ _ _ _ _ _ _ _ _ (c .before .before .before .before .before .before .before .list-part .ensures) (c .before .before .before .before .before .before .before .before .before .before .before .loop .inv .1 .1 .1 .0) (c .before .if1 .left) (omega (arith, c .before .before .before .before .before .before .before .before .before .before .before .loop .inv .1 .1 .0)) in (c .before .before .before .before .before .before .before .list-part .kept .1 .0 ∙ c .before .before .before .before .before .before .before .before .before .before .before .loop .inv .0, (c .before .before .before .before .before .before .before .list-part .kept .1 .1 .0 ∙ c .before .before .before .before .before .before .before .before .before .before .before .loop .inv .1 .0, (c .before .before .before .before .before .before .before .list-part .kept .1 .1 .1 .0 ∙ c .before .before .before .before .before .before .before .before .before .before .before .loop .inv .1 .1 .0, (part-next _ _ _ _ _ _ _ _ _ (c .before .before .before .before .before .before .before .list-part .ensures) (c .before .before .before .before .before .before .before .before .before .before .before .loop .inv .1 .1 .1 .0) (c .before .if1 .left), m .1))))
+loop-again c = let m = piece-moves _ _ _ _ _ _ _ _ _ (c .before .before .before .before .before .before .before .list-piece .ensures) (c .before .before .before .before .before .before .before .before .before .before .before .loop .inv .1 .1 .1 .0) (c .before .if1 .left) (omega (arith, c .before .before .before .before .before .before .before .before .before .before .before .loop .inv .1 .1 .0)) in (c .before .before .before .before .before .before .before .list-piece .kept .1 .0 ∙ c .before .before .before .before .before .before .before .before .before .before .before .loop .inv .0, (c .before .before .before .before .before .before .before .list-piece .kept .1 .1 .0 ∙ c .before .before .before .before .before .before .before .before .before .before .before .loop .inv .1 .0, (c .before .before .before .before .before .before .before .list-piece .kept .1 .1 .1 .0 ∙ c .before .before .before .before .before .before .before .before .before .before .before .loop .inv .1 .1 .0, (piece-next _ _ _ _ _ _ _ _ _ (c .before .before .before .before .before .before .before .list-piece .ensures) (c .before .before .before .before .before .before .before .before .before .before .before .loop .inv .1 .1 .1 .0) (c .before .if1 .left), m .1))))
 
 pub write-listing-spec : {M : Type 1} → statement M
 write-listing-spec =
@@ -61,10 +61,10 @@ write-listing-spec =
     μ-loop
     begin-requires
     loop-holds
-    slice-aggregate-list-part
-    slice-aggregate-list-part-2
-    slice-aggregate-list-part-3
-    list-part-requires
+    slice-aggregate-list-piece
+    slice-aggregate-list-piece-2
+    slice-aggregate-list-piece-3
+    list-piece-requires
     array-share-prefix-out
     slice-aggregate-write-all
     write-all-requires

@@ -1,4 +1,4 @@
--- `player::put_front` meets its contract. The part of the text is as long as its count. Assumes nothing.
+-- `player::put_front` meets its contract. The piece of the text is as long as its count. Assumes nothing.
 use denote.Ref.{now}
 use lib.Seq.{length-take-le}
 use mathlib.Core.Path.{sym}

@@ -1,9 +1,9 @@
 -- `player::unready` meets its contract. Test by test, in the order of the codes. Assumes nothing.
 use Rattle.calls.proofs.Making.{ids-wrong, lens-wrong}
-use Rattle.player.specs.Parts.{partCode}
+use Rattle.player.specs.Pieces.{pieceCode}
 use borrow.Author.Tests.{lt-ltb, le-ltb, not-true, not-false}
 use mathlib.Core.Path.{refl, sym, _∙_}
-use Rattle.player.proofs.Parts.{code-unbegun, code-long, code-bytes, code-early}
+use Rattle.player.proofs.Pieces.{code-unbegun, code-long, code-bytes, code-early}
 use mathlib.Core.Bool.{true≢false}
 use native.Mathlib.Omega.{arith}
 use borrow.Author.Needs.{needs}
@@ -11,11 +11,11 @@ use Rattle.player.proofs.unready.Statement.{statement}
 use Rattle.player.proofs.unready.Tie as tie
 
 returns : tie.Need-returns
-unfolding partCode
+unfolding pieceCode
 returns c = (rw (ids-wrong _ _ (c .if1 .taken)) refl, λ z. absurd (omega arith))
 
 returns-2 : tie.Need-returns-2
-unfolding partCode
+unfolding pieceCode
 returns-2 c = (rw (lens-wrong _ _ (c .if2 .taken)) refl, λ z. absurd (omega arith))
 
 returns-3 : tie.Need-returns-3

@@ -1,4 +1,4 @@
--- The code of a part, and what is written field by field is the listing.
+-- The code of a piece, and what is written field by field is the listing.
 use mathlib.Core.Path.{_≡_, refl, sym, ap, ap₂, subst, _∙_}
 use mathlib.Core.Bool.{Bool, true, false, cond, not, _&&_, _||_, true≢false}
 use mathlib.Core.Logic.{_⊎_, inl, inr, _≢_}
@@ -38,48 +38,48 @@ use Rattle.calls.proofs.Making.{none-wrong, Starts, made-starts}
 use Rattle.plays.specs.Listing.{Playing, unmade, waiting, listingFrom, listingOf}
 use Rattle.plays.proofs.Listing.{listing-whole, listing-broken, listing-end, listing-long, listing-first}
 use Rattle.player.specs.declared.State.{State}
-use Rattle.player.specs.declared.Part.{Part}
+use Rattle.player.specs.declared.Piece.{Piece}
 use Rattle.player.specs.Fields.{Stand, stand, reads, Good, Plays}
-use Rattle.player.specs.Parts.{begins, readTo, leftOf, leftAfter, unfit, partCode, Ready, refusedPart, endedPart, PartDone, PartOf, Parts, last, more, howMany, Roomy}
+use Rattle.player.specs.Pieces.{begins, readTo, leftOf, leftAfter, unfit, pieceCode, Ready, refusedPiece, endedPiece, PieceDone, PieceOf, Pieces, last, more, howMany, Roomy}
 
 -- ---- The code, test by test
 module _ (len : ℕ) (s : State) (ids lens : List ℕ) (a : length ids ≡ 2048) (d : length lens ≡ 2048) where
-  tables-right : partCode len s ids lens ≡ cond (s .begun) (cond (unfit len s ids lens) 2 0) 0
-  unfolding partCode
+  tables-right : pieceCode len s ids lens ≡ cond (s .begun) (cond (unfit len s ids lens) 2 0) 0
+  unfolding pieceCode
   tables-right = ap (λ (t : Bool). cond t 3 (cond (s .begun) (cond (unfit len s ids lens) 2 0) 0)) (none-wrong (length ids) (length lens) a d)
 
-  pub code-unbegun : s .begun ≡ false → 0 ≡ partCode len s ids lens
+  pub code-unbegun : s .begun ≡ false → 0 ≡ pieceCode len s ids lens
   code-unbegun e = sym (tables-right ∙ ap (λ (t : Bool). cond t (cond (unfit len s ids lens) 2 0) 0) e)
 
   module _ (b : s .begun ≡ true) where
-    begun-code : partCode len s ids lens ≡ cond (unfit len s ids lens) 2 0
+    begun-code : pieceCode len s ids lens ≡ cond (unfit len s ids lens) 2 0
     begun-code = tables-right ∙ ap (λ (t : Bool). cond t (cond (unfit len s ids lens) 2 0) 0) b
 
-    pub code-long : isLong len ≡ true → 2 ≡ partCode len s ids lens
+    pub code-long : isLong len ≡ true → 2 ≡ pieceCode len s ids lens
     code-long e = sym (begun-code ∙ ap (λ (t : Bool). cond (t || (ltb (s .at) (s .sent / 65536) || not (soundTest (s .board) ids lens))) 2 0) e)
 
     module _ (short : isLong len ≡ false) where
-      short-code : partCode len s ids lens ≡ cond (ltb (s .at) (s .sent / 65536) || not (soundTest (s .board) ids lens)) 2 0
+      short-code : pieceCode len s ids lens ≡ cond (ltb (s .at) (s .sent / 65536) || not (soundTest (s .board) ids lens)) 2 0
       short-code = begun-code ∙ ap (λ (t : Bool). cond (t || (ltb (s .at) (s .sent / 65536) || not (soundTest (s .board) ids lens))) 2 0) short
 
-      pub code-bytes : ltb (s .at) (s .sent / 65536) ≡ true → 2 ≡ partCode len s ids lens
+      pub code-bytes : ltb (s .at) (s .sent / 65536) ≡ true → 2 ≡ pieceCode len s ids lens
       code-bytes e = sym (short-code ∙ ap (λ (t : Bool). cond (t || not (soundTest (s .board) ids lens)) 2 0) e)
 
-      code-board : ltb (s .at) (s .sent / 65536) ≡ false → (t : Bool) → soundTest (s .board) ids lens ≡ t → _≡_ {A = ℕ} (cond t 0 2) (partCode len s ids lens)
+      code-board : ltb (s .at) (s .sent / 65536) ≡ false → (t : Bool) → soundTest (s .board) ids lens ≡ t → _≡_ {A = ℕ} (cond t 0 2) (pieceCode len s ids lens)
       code-board e t q = sym (short-code ∙ ap₂ (λ (x y : Bool). cond (x || not y) 2 0) e q ∙ flip t)
         where
           flip : (y : Bool) → _≡_ {A = ℕ} (cond (false || not y) 2 0) (cond y 0 2)
           flip true = refl
           flip false = refl
 
-      pub code-early : ltb (s .at) (s .sent / 65536) ≡ false → earlyCode (s .board) ids lens ≡ partCode len s ids lens
+      pub code-early : ltb (s .at) (s .sent / 65536) ≡ false → earlyCode (s .board) ids lens ≡ pieceCode len s ids lens
       unfolding earlyCode
       code-early e = ap (λ (t : Bool). cond t 3 (cond (soundTest (s .board) ids lens) 0 2)) (none-wrong (length ids) (length lens) a d) ∙ code-board e (soundTest (s .board) ids lens) refl
 
--- ---- A part that ends the listing
+-- ---- A piece that ends the listing
 
 module _ (log : List ℕ) (s : State) (ids lens out : List ℕ) (used : ℕ) (whole : List ℕ) (is : leftOf log s ids lens ≡ whole) where
-  pub ended-done : (ids′ lens′ out′ : List ℕ) → length whole ≤ length out → Written out 0 whole used out′ → PartDone log s ids lens out (endedPart used s) ids′ lens′ out′
+  pub ended-done : (ids′ lens′ out′ : List ℕ) → length whole ≤ length out → Written out 0 whole used out′ → PieceDone log s ids lens out (endedPiece used s) ids′ lens′ out′
   unfolding leftAfter
   ended-done ids′ lens′ out′ h w = record {
     done = refl;
@@ -93,7 +93,7 @@ module _ (log : List ℕ) (s : State) (ids lens out : List ℕ) (used : ℕ) (wh
       l : Line out whole used out′
       l = from-front out whole out′ used h w
 
--- ---- A part under way: what is written so far, and the listing of what follows, is what was left at its beginning
+-- ---- A piece under way: what is written so far, and the listing of what follows, is what was left at its beginning
 
 pub record UnderWay (log whole : List ℕ) (from : ℕ) (out₀ : List ℕ) (s : Stand) (at used : ℕ) (out : List ℕ) : Type 0 where
   pub good : Good s
@@ -160,12 +160,12 @@ module _ (log whole : List ℕ) (from : ℕ) (out₀ : List ℕ) (s : Stand) (at
 
     -- or it is the last one
     module _ (s₀ : State) (ids lens : List ℕ) (is : leftOf log s₀ ids lens ≡ whole) (ids′ lens′ : List ℕ) where
-      pub under-last : text ≡ listingFrom (reads s) log at true → PartDone log s₀ ids lens out₀ (endedPart used′ s₀) ids′ lens′ out′
+      pub under-last : text ≡ listingFrom (reads s) log at true → PieceDone log s₀ ids lens out₀ (endedPiece used′ s₀) ids′ lens′ out′
       under-last e = ended-done log s₀ ids lens out₀ used′ (u .text ++ take count line) (is ∙ sym (u .joined) ∙ ap (λ (t : List ℕ). u .text ++ t) (sym (l .text ∙ e))) ids′ lens′ out′ text-fits wrote
 
   -- there is no room for another line
   pub under-more : (s₀ : State) (ids lens : List ℕ) → leftOf log s₀ ids lens ≡ whole → isLong (length log) ≡ false → readTo s₀ ≡ from → length out - used < 64
-      → PartDone log s₀ ids lens out₀ (record { code = 0; used = used; over = false; state = record { begun = true; at = at; sent = s .sent; board = s .board } }) (s .ids) (s .lens) out
+      → PieceDone log s₀ ids lens out₀ (record { code = 0; used = used; over = false; state = record { begun = true; at = at; sent = s .sent; board = s .board } }) (s .ids) (s .lens) out
   unfolding leftAfter leftOf
   under-more s₀ ids lens is short from! full = record {
     done = refl;
@@ -207,7 +207,7 @@ module _ (s : Stand) (k : Good s) where
   pub broken-listing : (log : List ℕ) (at n : ℕ) → at ≢ length log → fieldAt log at true ≡ Broken n → brokenLine at ≡ listingFrom (reads s) log at true
   broken-listing log at n ne f = ap brokenLine (sym (broken-at log at true n f)) ∙ sym (listing-broken (reads s) log at true n (not-end log at ne) f)
 
--- ---- A state from which a part goes on
+-- ---- A state from which a piece goes on
 pub read-is : (len : ℕ) (s : State) (ids lens : List ℕ) → Ready len s ids lens → readTo s ≡ s .at
 read-is len s ids lens r = ap (λ (t : Bool). cond t (s .at) 0) (r .begun)
 
@@ -218,9 +218,9 @@ module _ (log : List ℕ) (s : State) (ids lens : List ℕ) (r : Ready (length l
 
 -- ---- The first field
 
--- a part that is not refused has both tables whole
-pub code-tables : (len : ℕ) (s : State) (ids lens : List ℕ) → partCode len s ids lens ≡ 0 → (length ids ≡ 2048) × (length lens ≡ 2048)
-unfolding partCode
+-- a piece that is not refused has both tables whole
+pub code-tables : (len : ℕ) (s : State) (ids lens : List ℕ) → pieceCode len s ids lens ≡ 0 → (length ids ≡ 2048) × (length lens ≡ 2048)
+unfolding pieceCode
 code-tables len s ids lens e = go (wrongTables (length ids) (length lens)) refl e
   where
     go : (t : Bool) → wrongTables (length ids) (length lens) ≡ t → _≡_ {A = ℕ} (cond t 3 (cond (s .begun) (cond (unfit len s ids lens) 2 0) 0)) 0 → (length ids ≡ 2048) × (length lens ≡ 2048)
@@ -242,13 +242,13 @@ module _ (log : List ℕ) (s : State) (ids lens out : List ℕ) (unread : s .beg
   left-whole = ap (λ (t : Bool). cond t (listingFrom (reads (stand (s .board) ids lens (s .sent))) log (s .at) true) (listingOf log)) unread
 
   -- no room for a line
-  pub first-none : partCode (length log) s ids lens ≡ 0 → length out < 64 → PartDone log s ids lens out (record { code = 0; used = 0; over = false; state = s }) ids lens out
+  pub first-none : pieceCode (length log) s ids lens ≡ 0 → length out < 64 → PieceDone log s ids lens out (record { code = 0; used = 0; over = false; state = s }) ids lens out
   unfolding leftAfter
   first-none ready h = record { done = refl; fits = omega arith; joined = refl; rest = refl; goesOn = λ e. ready; moves = λ e m. absurd (omega arith) }
 
   -- the listing is one line
   pub first-last : (before text line : List ℕ) (count used : ℕ) (ids′ lens′ out′ : List ℕ) → Line before text count line → count ≤ 64 → 64 ≤ length out → Written out 0 (take count line) used out′ → text ≡ listingOf log
-      → PartDone log s ids lens out (endedPart used s) ids′ lens′ out′
+      → PieceDone log s ids lens out (endedPiece used s) ids′ lens′ out′
   first-last before text line count used ids′ lens′ out′ l few room w e = ended-done log s ids lens out used (take count line) (left-whole ∙ sym e ∙ sym (l .text)) ids′ lens′ out′ (omega (arith, line-count l)) w
 
   -- the board is made
@@ -265,7 +265,7 @@ module _ (log : List ℕ) (s : State) (ids lens out : List ℕ) (unread : s .beg
     abbrev after-first : State
     after-first = record { begun = true; at = next; sent = 0; board = r .board }
 
-    pub first-made : PartDone log s ids lens out (record { code = 0; used = 0; over = false; state = after-first }) ids′ lens′ out
+    pub first-made : PieceDone log s ids lens out (record { code = 0; used = 0; over = false; state = after-first }) ids′ lens′ out
     unfolding leftAfter leftOf isLong
     first-made = record {
       done = refl;
@@ -291,58 +291,58 @@ is-largest log e next l f q = f ∙ ap (λ (x : Event). Whole x next) q
 pub not-largest : (log : List ℕ) (e : Event) (next : ℕ) → fieldAt log 0 false ≡ Whole e next → OneOf (1 ∷ 2 ∷ 3 ∷ 4 ∷ 5 ∷ 6 ∷ []) (tagOf the-type e) → ⊥
 not-largest log e next f k = let t = turn-first e (whole-is log 0 false e next f .turn) in miss (1 ∷ 2 ∷ 3 ∷ 4 ∷ 5 ∷ 6 ∷ []) 0 tt (subst (λ (x : Event). OneOf (1 ∷ 2 ∷ 3 ∷ 4 ∷ 5 ∷ 6 ∷ []) (tagOf the-type x)) (t .1 .0) k)
 
--- ---- The promise of a part
+-- ---- The promise of a piece
 
-pub refused-part : (log : List ℕ) (s : State) (ids lens out : List ℕ) (code : ℕ) → code ≡ partCode (length log) s ids lens → code ≢ 0 → PartOf log s ids lens out (refusedPart code s) ids lens out
-refused-part log s ids lens out code e ne = record { code = e; refused = λ q. (refl, (refl, (refl, refl))); done = λ z. absurd (ne z) }
+pub refused-piece : (log : List ℕ) (s : State) (ids lens out : List ℕ) (code : ℕ) → code ≡ pieceCode (length log) s ids lens → code ≢ 0 → PieceOf log s ids lens out (refusedPiece code s) ids lens out
+refused-piece log s ids lens out code e ne = record { code = e; refused = λ q. (refl, (refl, (refl, refl))); done = λ z. absurd (ne z) }
 
-pub done-part : (log : List ℕ) (s : State) (ids lens out : List ℕ) (r : Part) (ids′ lens′ out′ : List ℕ) → partCode (length log) s ids lens ≡ 0 → PartDone log s ids lens out r ids′ lens′ out′ → PartOf log s ids lens out r ids′ lens′ out′
-done-part log s ids lens out r ids′ lens′ out′ z d = record { code = d .done ∙ sym z; refused = λ ne. absurd (ne (d .done)); done = λ q. d }
+pub done-piece : (log : List ℕ) (s : State) (ids lens out : List ℕ) (r : Piece) (ids′ lens′ out′ : List ℕ) → pieceCode (length log) s ids lens ≡ 0 → PieceDone log s ids lens out r ids′ lens′ out′ → PieceOf log s ids lens out r ids′ lens′ out′
+done-piece log s ids lens out r ids′ lens′ out′ z d = record { code = d .done ∙ sym z; refused = λ ne. absurd (ne (d .done)); done = λ q. d }
 
--- ---- What a program goes by from part to part
+-- ---- What a program goes by from piece to piece
 
-module _ (log : List ℕ) (s : State) (ids lens out : List ℕ) (r : Part) (ids′ lens′ out′ : List ℕ) (p : PartOf log s ids lens out r ids′ lens′ out′) where
-  pub part-fits : r .used ≤ length out
-  part-fits = go (ℕ-discrete (r .code) 0)
+module _ (log : List ℕ) (s : State) (ids lens out : List ℕ) (r : Piece) (ids′ lens′ out′ : List ℕ) (p : PieceOf log s ids lens out r ids′ lens′ out′) where
+  pub piece-fits : r .used ≤ length out
+  piece-fits = go (ℕ-discrete (r .code) 0)
     where
       go : Dec (r .code ≡ 0) → r .used ≤ length out
       go (yes z) = p .done z .fits
-      go (no n) = omega (arith, ap (λ (x : Part). x .used) (p .refused n .0))
+      go (no n) = omega (arith, ap (λ (x : Piece). x .used) (p .refused n .0))
 
-  module _ (z : partCode (length log) s ids lens ≡ 0) (e : r .over ≡ false) where
-    pub part-next : partCode (length log) (r .state) ids′ lens′ ≡ 0
-    part-next = p .done (p .code ∙ z) .goesOn e
+  module _ (z : pieceCode (length log) s ids lens ≡ 0) (e : r .over ≡ false) where
+    pub piece-next : pieceCode (length log) (r .state) ids′ lens′ ≡ 0
+    piece-next = p .done (p .code ∙ z) .goesOn e
 
-    pub part-moves : 64 ≤ length out → (readTo s < readTo (r .state)) × (readTo (r .state) ≤ length log)
-    part-moves h = p .done (p .code ∙ z) .moves e h
+    pub piece-moves : 64 ≤ length out → (readTo s < readTo (r .state)) × (readTo (r .state) ≤ length log)
+    piece-moves h = p .done (p .code ∙ z) .moves e h
 
--- ---- THE PARTS JOINED ARE THE LISTING, for every log
+-- ---- THE PIECES JOINED ARE THE LISTING, for every log
 
-parts-left : (log : List ℕ) (s : State) (ids lens written : List ℕ) → Parts log s ids lens written → partCode (length log) s ids lens ≡ 0 → written ≡ leftOf log s ids lens
+pieces-left : (log : List ℕ) (s : State) (ids lens written : List ℕ) → Pieces log s ids lens written → pieceCode (length log) s ids lens ≡ 0 → written ≡ leftOf log s ids lens
 unfolding leftAfter
-parts-left log s ids lens written (last out r ids′ lens′ out′ p e) z = sym (append-nil (take (r .used) out′)) ∙ sym (ap (λ (t : Bool). take (r .used) out′ ++ cond t [] (leftOf log (r .state) ids′ lens′)) e) ∙ p .done (p .code ∙ z) .joined
-parts-left log s ids lens written (more {written = w} out r ids′ lens′ out′ p e rest) z =
+pieces-left log s ids lens written (last out r ids′ lens′ out′ p e) z = sym (append-nil (take (r .used) out′)) ∙ sym (ap (λ (t : Bool). take (r .used) out′ ++ cond t [] (leftOf log (r .state) ids′ lens′)) e) ∙ p .done (p .code ∙ z) .joined
+pieces-left log s ids lens written (more {written = w} out r ids′ lens′ out′ p e rest) z =
     let d = p .done (p .code ∙ z) in
-    ap (λ (t : List ℕ). take (r .used) out′ ++ t) (parts-left log (r .state) ids′ lens′ w rest (d .goesOn e)) ∙ sym (ap (λ (t : Bool). take (r .used) out′ ++ cond t [] (leftOf log (r .state) ids′ lens′)) e) ∙ d .joined
+    ap (λ (t : List ℕ). take (r .used) out′ ++ t) (pieces-left log (r .state) ids′ lens′ w rest (d .goesOn e)) ∙ sym (ap (λ (t : Bool). take (r .used) out′ ++ cond t [] (leftOf log (r .state) ids′ lens′)) e) ∙ d .joined
 
-pub begins-ready : (log ids lens : List ℕ) → length ids ≡ 2048 → length lens ≡ 2048 → partCode (length log) begins ids lens ≡ 0
+pub begins-ready : (log ids lens : List ℕ) → length ids ≡ 2048 → length lens ≡ 2048 → pieceCode (length log) begins ids lens ≡ 0
 begins-ready log ids lens a d = sym (code-unbegun (length log) begins ids lens a d refl)
 
 begins-left : (log ids lens : List ℕ) → leftOf log begins ids lens ≡ listingOf log
 unfolding leftOf
 begins-left log ids lens = refl
 
-pub parts-listing : (log ids lens written : List ℕ) → length ids ≡ 2048 → length lens ≡ 2048 → Parts log begins ids lens written → written ≡ listingOf log
-parts-listing log ids lens written a d p = parts-left log begins ids lens written p (begins-ready log ids lens a d) ∙ begins-left log ids lens
+pub pieces-listing : (log ids lens written : List ℕ) → length ids ≡ 2048 → length lens ≡ 2048 → Pieces log begins ids lens written → written ≡ listingOf log
+pieces-listing log ids lens written a d p = pieces-left log begins ids lens written p (begins-ready log ids lens a d) ∙ begins-left log ids lens
 
 -- and they come to an end: with room for a line in each there are no more of them than the log has bytes, and one
-parts-within : (log : List ℕ) (s : State) (ids lens written : List ℕ) (p : Parts log s ids lens written) → Roomy p → partCode (length log) s ids lens ≡ 0 → readTo s ≤ length log → readTo s + howMany p ≤ length log + 1
+pieces-within : (log : List ℕ) (s : State) (ids lens written : List ℕ) (p : Pieces log s ids lens written) → Roomy p → pieceCode (length log) s ids lens ≡ 0 → readTo s ≤ length log → readTo s + howMany p ≤ length log + 1
 unfolding howMany Roomy
-parts-within log s ids lens written (last out r ids′ lens′ out′ p e) m z h = omega arith
-parts-within log s ids lens written (more {written = w} out r ids′ lens′ out′ p e rest) m z h =
+pieces-within log s ids lens written (last out r ids′ lens′ out′ p e) m z h = omega arith
+pieces-within log s ids lens written (more {written = w} out r ids′ lens′ out′ p e rest) m z h =
     let d = p .done (p .code ∙ z) in
     let n = d .moves e (m .0) in
-    omega (arith, parts-within log (r .state) ids′ lens′ w rest (m .1) (d .goesOn e) (n .1), n .0)
+    omega (arith, pieces-within log (r .state) ids′ lens′ w rest (m .1) (d .goesOn e) (n .1), n .0)
 
-pub parts-few : (log ids lens written : List ℕ) → length ids ≡ 2048 → length lens ≡ 2048 → (p : Parts log begins ids lens written) → Roomy p → howMany p ≤ length log + 1
-parts-few log ids lens written a d p m = omega (arith, parts-within log begins ids lens written p m (begins-ready log ids lens a d) (omega arith))
+pub pieces-few : (log ids lens written : List ℕ) → length ids ≡ 2048 → length lens ≡ 2048 → (p : Pieces log begins ids lens written) → Roomy p → howMany p ≤ length log + 1
+pieces-few log ids lens written a d p m = omega (arith, pieces-within log begins ids lens written p m (begins-ready log ids lens a d) (omega arith))

@@ -1,4 +1,4 @@
--- `player::next_part` meets its contract. What is written up to a field, and the listing from it on, is what was left at the beginning; the rest of the log gets shorter. Assumes nothing.
+-- `player::next_piece` meets its contract. What is written up to a field, and the listing from it on, is what was left at the beginning; the rest of the log gets shorter. Assumes nothing.
 use mathlib.Core.Path.{refl, sym, _∙_}
 use mathlib.Core.Bool.{true}
 use Prim.Native.Nat.{_-_}
@@ -8,10 +8,10 @@ use Rattle.log.proofs.Fields.{whole-is, whole-next}
 use Rattle.engine.specs.Serving.{numbersNow}
 use Rattle.plays.specs.Listing.{listingFrom}
 use Rattle.player.specs.Fields.{boardNow, stand, reads}
-use Rattle.player.proofs.Parts.{UnderWay, under-first, under-room, under-fits, under-small, under-next, under-last, under-more, end-listing, broken-listing, left-is, read-is}
+use Rattle.player.proofs.Pieces.{UnderWay, under-first, under-room, under-fits, under-small, under-next, under-last, under-more, end-listing, broken-listing, left-is, read-is}
 use borrow.Author.Needs.{needs}
-use Rattle.player.proofs.next_part.Statement.{statement}
-use Rattle.player.proofs.next_part.Tie as tie
+use Rattle.player.proofs.next_piece.Statement.{statement}
+use Rattle.player.proofs.next_piece.Tie as tie
 
 abbrev Inv-loop : tie.InvT-loop
 Inv-loop log ids₀ lens₀ out₀ s b numbers₀ shares₀ starts₀ counts₀ deficits₀ ready₀ next₀ heads₀ tails₀ held₀ clock₀ active₀ pending₀ slot₀ left₀ at₀ sent₀ used₀ line₀ ids lens out numbers shares starts counts deficits ready next heads tails held clock active pending slot left at sent used line =
@@ -48,8 +48,8 @@ put-end-requires c κs = search needs
 append-requires : tie.Need-append-requires Inv-loop μ-loop
 append-requires c κs = (c .before .before .put-end .ensures .1, under-fits _ _ _ _ _ _ _ _ (c .before .before .before .before .before .before .before .before .loop .inv) (c .before .before .before .before .before .before .before .if1 .left) _ (c .before .before .put-end .ensures .1))
 
-last-part-requires : tie.Need-last-part-requires Inv-loop μ-loop
-last-part-requires c κs = search needs
+last-piece-requires : tie.Need-last-piece-requires Inv-loop μ-loop
+last-piece-requires c κs = search needs
 
 same-length-4 : tie.Need-same-length-4 Inv-loop μ-loop
 same-length-4 c = c .before .before .before .before .before .before .before .before .before .before .before .before .loop .inv .good .ids-all ∙ sym (c .before .before .before .before .before .before .before .before .before .before .before .before .before .before .before .before .before .before .before .before .before .before .before .before .before .before .before .before .before .pre .good .ids-all)
@@ -61,7 +61,7 @@ same-length-6 : tie.Need-same-length-6 Inv-loop μ-loop
 same-length-6 c = c .before .before .before .append .kept .0 ∙ c .before .before .before .before .before .before .before .before .before .before .before .before .loop .inv .same
 
 returns-2 : tie.Need-returns-2 Inv-loop μ-loop
-returns-2 c = rw (c .last-part .ensures) (under-last _ _ _ _ _ _ _ _ (c .before .before .before .before .before .before .before .before .before .before .before .before .loop .inv) _ _ _ _ _ _ (c .before .before .before .before .before .before .put-end .ensures .0) (c .before .before .before .before .before .before .put-end .ensures .1) (under-room _ _ _ _ _ _ _ _ (c .before .before .before .before .before .before .before .before .before .before .before .before .loop .inv) (c .before .before .before .before .before .before .before .before .before .before .before .if1 .left)) (c .before .before .before .append .ensures) _ _ _ (left-is _ _ _ _ (c .before .before .before .before .before .before .before .before .before .before .before .before .before .before .before .before .before .before .before .before .before .before .before .before .before .before .before .before .before .pre)) _ _ (end-listing _ (c .before .before .before .before .before .before .before .before .before .before .before .before .loop .inv .good) _ _ _ _ (c .before .before .before .before .before .before .before .before .before .before .if2 .taken) refl (c .before .before .before .before .before .before .before .waiting .ensures)))
+returns-2 c = rw (c .last-piece .ensures) (under-last _ _ _ _ _ _ _ _ (c .before .before .before .before .before .before .before .before .before .before .before .before .loop .inv) _ _ _ _ _ _ (c .before .before .before .before .before .before .put-end .ensures .0) (c .before .before .before .before .before .before .put-end .ensures .1) (under-room _ _ _ _ _ _ _ _ (c .before .before .before .before .before .before .before .before .before .before .before .before .loop .inv) (c .before .before .before .before .before .before .before .before .before .before .before .if1 .left)) (c .before .before .before .append .ensures) _ _ _ (left-is _ _ _ _ (c .before .before .before .before .before .before .before .before .before .before .before .before .before .before .before .before .before .before .before .before .before .before .before .before .before .before .before .before .before .pre)) _ _ (end-listing _ (c .before .before .before .before .before .before .before .before .before .before .before .before .loop .inv .good) _ _ _ _ (c .before .before .before .before .before .before .before .before .before .before .if2 .taken) refl (c .before .before .before .before .before .before .before .waiting .ensures)))
 
 field-at-requires : tie.Need-field-at-requires Inv-loop μ-loop
 field-at-requires c κs = search needs
@@ -78,8 +78,8 @@ put-broken-requires c κs = search needs
 append-requires-2 : tie.Need-append-requires-2 Inv-loop μ-loop
 append-requires-2 c κs = (c .before .before .put-broken .ensures .1, under-fits _ _ _ _ _ _ _ _ (c .before .before .before .before .before .before .before .before .before .loop .inv) (c .before .before .before .before .before .before .before .before .if1 .left) _ (c .before .before .put-broken .ensures .1))
 
-last-part-requires-2 : tie.Need-last-part-requires-2 Inv-loop μ-loop
-last-part-requires-2 c κs = search needs
+last-piece-requires-2 : tie.Need-last-piece-requires-2 Inv-loop μ-loop
+last-piece-requires-2 c κs = search needs
 
 same-length-7 : tie.Need-same-length-7 Inv-loop μ-loop
 same-length-7 c = c .before .before .before .before .before .before .before .before .before .before .before .before .before .loop .inv .good .ids-all ∙ sym (c .before .before .before .before .before .before .before .before .before .before .before .before .before .before .before .before .before .before .before .before .before .before .before .before .before .before .before .before .before .before .pre .good .ids-all)
@@ -91,7 +91,7 @@ same-length-9 : tie.Need-same-length-9 Inv-loop μ-loop
 same-length-9 c = c .before .before .before .append2 .kept .0 ∙ c .before .before .before .before .before .before .before .before .before .before .before .before .before .loop .inv .same
 
 returns-3 : tie.Need-returns-3 Inv-loop μ-loop
-returns-3 c = rw (c .last-part2 .ensures) (under-last _ _ _ _ _ _ _ _ (c .before .before .before .before .before .before .before .before .before .before .before .before .before .loop .inv) _ _ _ _ _ _ (c .before .before .before .before .before .before .put-broken .ensures .0) (c .before .before .before .before .before .before .put-broken .ensures .1) (under-room _ _ _ _ _ _ _ _ (c .before .before .before .before .before .before .before .before .before .before .before .before .before .loop .inv) (c .before .before .before .before .before .before .before .before .before .before .before .before .if1 .left)) (c .before .before .before .append2 .ensures) _ _ _ (left-is _ _ _ _ (c .before .before .before .before .before .before .before .before .before .before .before .before .before .before .before .before .before .before .before .before .before .before .before .before .before .before .before .before .before .before .pre)) _ _ (broken-listing _ (c .before .before .before .before .before .before .before .before .before .before .before .before .before .loop .inv .good) _ _ _ (c .before .before .before .before .before .before .before .before .before .before .before .if2 .left) (sym (c .before .before .before .before .before .before .before .before .before .before .field-at .ensures) ∙ c .before .before .before .before .before .before .before .before .enum-told .given .1)))
+returns-3 c = rw (c .last-piece2 .ensures) (under-last _ _ _ _ _ _ _ _ (c .before .before .before .before .before .before .before .before .before .before .before .before .before .loop .inv) _ _ _ _ _ _ (c .before .before .before .before .before .before .put-broken .ensures .0) (c .before .before .before .before .before .before .put-broken .ensures .1) (under-room _ _ _ _ _ _ _ _ (c .before .before .before .before .before .before .before .before .before .before .before .before .before .loop .inv) (c .before .before .before .before .before .before .before .before .before .before .before .before .if1 .left)) (c .before .before .before .append2 .ensures) _ _ _ (left-is _ _ _ _ (c .before .before .before .before .before .before .before .before .before .before .before .before .before .before .before .before .before .before .before .before .before .before .before .before .before .before .before .before .before .before .pre)) _ _ (broken-listing _ (c .before .before .before .before .before .before .before .before .before .before .before .before .before .loop .inv .good) _ _ _ (c .before .before .before .before .before .before .before .before .before .before .before .if2 .left) (sym (c .before .before .before .before .before .before .before .before .before .before .field-at .ensures) ∙ c .before .before .before .before .before .before .before .before .enum-told .given .1)))
 
 play-field-requires : tie.Need-play-field-requires Inv-loop μ-loop
 play-field-requires c κs = let f = sym (c .before .before .before .before .before .before .before .before .before .before .before .before .before .before .before .before .field-at .ensures) ∙ c .before .before .before .before .before .before .before .before .before .before .before .before .before .before .event .given .1 in (c .before .before .before .before .before .before .before .before .before .before .before .before .before .before .before .before .before .before .before .loop .inv .good, (under-small _ _ _ _ _ _ _ _ (c .before .before .before .before .before .before .before .before .before .before .before .before .before .before .before .before .before .before .before .loop .inv) _ _ f (c .before .before .before .before .before .before .before .before .before .before .before .before .before .before .before .before .before .before .before .before .before .before .before .before .before .before .before .before .before .before .before .before .before .before .before .before .pre .short), whole-is _ _ _ _ _ f .turn))
@@ -105,8 +105,8 @@ loop-less c = let f = whole-next _ _ _ _ _ (sym (c .before .before .before .befo
 loop-again : tie.Need-loop-again Inv-loop μ-loop
 loop-again c = under-next _ _ _ _ _ _ _ _ (c .before .before .before .before .before .before .before .before .before .before .before .before .before .before .before .before .before .before .before .before .before .before .before .before .before .before .before .before .before .before .loop .inv) _ _ _ _ _ _ (c .before .before .before .before .before .before .before .before .before .before .play-field .ensures .line) (c .before .before .before .before .before .before .before .before .before .before .play-field .ensures .short) (under-room _ _ _ _ _ _ _ _ (c .before .before .before .before .before .before .before .before .before .before .before .before .before .before .before .before .before .before .before .before .before .before .before .before .before .before .before .before .before .before .loop .inv) (c .before .before .before .before .before .before .before .before .before .before .before .before .before .before .before .before .before .before .before .before .before .before .before .before .before .before .before .before .before .if1 .left)) (c .before .before .before .append3 .ensures) _ _ (sym (c .before .before .before .before .before .before .before .before .before .before .before .before .before .before .before .before .before .before .before .before .before .before .before .before .before .before .before .field-at .ensures) ∙ c .before .before .before .before .before .before .before .before .before .before .before .before .before .before .before .before .before .before .before .before .before .before .before .before .before .event .given .1) _ (c .before .before .before .before .before .before .before .before .before .before .play-field .ensures) (c .before .before .before .append3 .kept .0)
 
-pub next-part-spec : {M : Type 1} → statement M
-next-part-spec =
+pub next-piece-spec : {M : Type 1} → statement M
+next-piece-spec =
     tie.close
     (tie.spec
     Inv-loop
@@ -120,7 +120,7 @@ next-part-spec =
     waiting-requires
     put-end-requires
     append-requires
-    last-part-requires
+    last-piece-requires
     same-length-4
     same-length-5
     same-length-6
@@ -130,7 +130,7 @@ next-part-spec =
     enum-told
     put-broken-requires
     append-requires-2
-    last-part-requires-2
+    last-piece-requires-2
     same-length-7
     same-length-8
     same-length-9

@@ -1,0 +1,67 @@
+-- `player::list_piece` meets its contract. A state that is not refused goes on from its first field, or from the field after the last. Assumes nothing.
+use mathlib.Core.Path.{sym, _∙_}
+use Rattle.player.proofs.Pieces.{refused-piece, done-piece}
+use borrow.Author.Needs.{needs}
+use Rattle.player.proofs.list_piece.Statement.{statement}
+use Rattle.player.proofs.list_piece.Tie as tie
+
+unready-requires : tie.Need-unready-requires
+unready-requires c κs = search needs
+
+same-length : tie.Need-same-length
+same-length c = search needs
+
+same-length-2 : tie.Need-same-length-2
+same-length-2 c = search needs
+
+returns : tie.Need-returns
+returns c = refused-piece _ _ _ _ _ _ (c .before .unready .ensures .0) (c .if1 .taken)
+
+next-piece-requires : tie.Need-next-piece-requires
+next-piece-requires c κs = c .before .before .before .before .before .unready .ensures .1 (c .before .before .before .before .if1 .left) (c .before .before .before .if2 .taken)
+
+same-length-3 : tie.Need-same-length-3
+same-length-3 c = search needs
+
+same-length-4 : tie.Need-same-length-4
+same-length-4 c = search needs
+
+same-length-5 : tie.Need-same-length-5
+same-length-5 c = search needs
+
+returns-2 : tie.Need-returns-2
+returns-2 c = done-piece _ _ _ _ _ _ _ _ _ (sym (c .before .before .before .before .before .before .before .before .before .before .before .before .unready .ensures .0) ∙ c .before .before .before .before .before .before .before .before .before .before .before .if1 .left) (c .before .before .before .before .before .before .next-piece .ensures)
+
+first-piece-requires : tie.Need-first-piece-requires
+first-piece-requires c κs = (c .before .before .before .if2 .left, sym (c .before .before .before .before .before .unready .ensures .0) ∙ c .before .before .before .before .if1 .left)
+
+same-length-6 : tie.Need-same-length-6
+same-length-6 c = search needs
+
+same-length-7 : tie.Need-same-length-7
+same-length-7 c = search needs
+
+same-length-8 : tie.Need-same-length-8
+same-length-8 c = search needs
+
+returns-3 : tie.Need-returns-3
+returns-3 c = done-piece _ _ _ _ _ _ _ _ _ (sym (c .before .before .before .before .before .before .before .before .before .before .before .before .unready .ensures .0) ∙ c .before .before .before .before .before .before .before .before .before .before .before .if1 .left) (c .before .before .before .before .before .before .first-piece .ensures)
+
+pub list-piece-spec : {M : Type 1} → statement M
+list-piece-spec =
+    tie.close
+    (tie.spec
+    unready-requires
+    same-length
+    same-length-2
+    returns
+    next-piece-requires
+    same-length-3
+    same-length-4
+    same-length-5
+    returns-2
+    first-piece-requires
+    same-length-6
+    same-length-7
+    same-length-8
+    returns-3)

@@ -1,0 +1,88 @@
+-- THE LISTING IN PIECES: what a piece writes, joined with what is left after it, is what was left before it.
+use mathlib.Core.Path.{_≡_}
+use mathlib.Core.Bool.{Bool, true, false, cond, not, _||_}
+use mathlib.Core.Logic.{_≢_}
+use mathlib.Core.List.{List, [], _++_}
+use Prim.Native.Nat.{ℕ, suc, _/_, _≤_, _<_}
+use lib.Dec.{ltb}
+use lib.ListN.{length, take, drop}
+use Rattle.rules.specs.Board.{fresh}
+use Rattle.rules.specs.Calls.{wrongTables}
+use Rattle.board.specs.Reading.{encode}
+use Rattle.sound.specs.Test.{soundTest}
+use Rattle.log.specs.Format.{isLong}
+use Rattle.plays.specs.Listing.{listingFrom, listingOf}
+use Rattle.player.specs.Fields.{stand, reads, Good}
+use Rattle.player.specs.declared.State.{State}
+use Rattle.player.specs.declared.Piece.{Piece}
+
+-- before the first piece: L has not been read, and there is no board yet
+abbrev pub begins : State
+begins = record { begun = false; at = 0; sent = 0; board = encode (fresh 0) }
+
+-- the offset up to which the log has been read
+abbrev pub readTo : State → ℕ
+readTo s = cond (s .begun) (s .at) 0
+
+-- what of the listing is still to be written
+unfoldable pub leftOf : List ℕ → State → List ℕ → List ℕ → List ℕ
+leftOf log s ids lens = cond (s .begun) (listingFrom (reads (stand (s .board) ids lens (s .sent))) log (s .at) true) (listingOf log)
+
+-- the same after a piece; after the last one nothing
+unfoldable pub leftAfter : List ℕ → Piece → List ℕ → List ℕ → List ℕ
+leftAfter log r ids lens = cond (r .over) [] (leftOf log (r .state) ids lens)
+
+-- A table of another length is 3. A state that no piece of such a log leaves is 2: a spoilt board, or more bytes sent than 65,536 for each byte read.
+abbrev pub unfit : ℕ → State → List ℕ → List ℕ → Bool
+unfit len s ids lens = isLong len || (ltb (s .at) (s .sent / 65536) || not (soundTest (s .board) ids lens))
+
+unfoldable pub pieceCode : ℕ → State → List ℕ → List ℕ → ℕ
+pieceCode len s ids lens = cond (wrongTables (length ids) (length lens)) 3 (cond (s .begun) (cond (unfit len s ids lens) 2 0) 0)
+
+-- what is known of a state from which a piece goes on after L
+pub record Ready (len : ℕ) (s : State) (ids lens : List ℕ) : Type 0 where
+  pub begun : s .begun ≡ true
+  pub short : isLong len ≡ false
+  pub few : s .sent / 65536 ≤ s .at
+  pub good : Good (stand (s .board) ids lens (s .sent))
+
+-- A refusal writes nothing and gives the state back.
+abbrev pub refusedPiece : ℕ → State → Piece
+refusedPiece code s = record { code = code; used = 0; over = true; state = s }
+
+-- the last piece
+abbrev pub endedPiece : ℕ → State → Piece
+endedPiece used s = record { code = 0; used = used; over = true; state = s }
+
+-- what a piece that is not refused does
+pub record PieceDone (log : List ℕ) (s : State) (ids lens out : List ℕ) (r : Piece) (ids′ lens′ out′ : List ℕ) : Type 0 where
+  pub done : r .code ≡ 0
+  pub fits : r .used ≤ length out
+  pub joined : take (r .used) out′ ++ leftAfter log r ids′ lens′ ≡ leftOf log s ids lens
+  pub rest : drop (r .used) out′ ≡ drop (r .used) out
+  -- the next piece is not refused, and with room for a line every piece reads on within the log
+  pub goesOn : r .over ≡ false → pieceCode (length log) (r .state) ids′ lens′ ≡ 0
+  pub moves : r .over ≡ false → 64 ≤ length out → (readTo s < readTo (r .state)) × (readTo (r .state) ≤ length log)
+
+-- THE PROMISE of a piece, for every log, state, table and buffer
+pub record PieceOf (log : List ℕ) (s : State) (ids lens out : List ℕ) (r : Piece) (ids′ lens′ out′ : List ℕ) : Type 0 where
+  pub code : r .code ≡ pieceCode (length log) s ids lens
+  pub refused : r .code ≢ 0 → (r ≡ refusedPiece (r .code) s) × ((ids′ ≡ ids) × ((lens′ ≡ lens) × (out′ ≡ out)))
+  pub done : r .code ≡ 0 → PieceDone log s ids lens out r ids′ lens′ out′
+
+-- ---- The whole listing
+
+-- Pieces one after the other, each given what the one before left, up to the last; what they wrote, joined.
+pub data Pieces (log : List ℕ) : State → List ℕ → List ℕ → List ℕ → Type 0 where
+  last : {s : State} {ids lens : List ℕ} (out : List ℕ) (r : Piece) (ids′ lens′ out′ : List ℕ) → PieceOf log s ids lens out r ids′ lens′ out′ → r .over ≡ true → Pieces log s ids lens (take (r .used) out′)
+  more : {s : State} {ids lens written : List ℕ} (out : List ℕ) (r : Piece) (ids′ lens′ out′ : List ℕ) → PieceOf log s ids lens out r ids′ lens′ out′ → r .over ≡ false
+      → Pieces log (r .state) ids′ lens′ written → Pieces log s ids lens (take (r .used) out′ ++ written)
+
+-- how many pieces they are, and that each that is not the last had room for a line
+unfoldable pub howMany : {log : List ℕ} {s : State} {ids lens written : List ℕ} → Pieces log s ids lens written → ℕ
+howMany (last out r ids′ lens′ out′ p e) = 1
+howMany (more out r ids′ lens′ out′ p e rest) = suc (howMany rest)
+
+unfoldable pub Roomy : {log : List ℕ} {s : State} {ids lens written : List ℕ} → Pieces log s ids lens written → Type 0
+Roomy (last out r ids′ lens′ out′ p e) = Unit {0}
+Roomy (more out r ids′ lens′ out′ p e rest) = (64 ≤ length out) × Roomy rest
