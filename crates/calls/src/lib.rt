@@ -38,13 +38,13 @@ pub struct Bursted {
 fn take_record(
     ids: &mut [u32],
     lens: &mut [u16],
-    number: u32,
+    block: u32,
     id: u32,
     length: u16,
     b: Board,
 ) -> Reply
     requires { ⌜ Known b (now ids) (now lens) ⌝ }
-    ensures { λ r. ⌜ returned r (now (ids .exit)) (now (lens .exit)) ≡ ruled b (now (ids .entry)) (now (lens .entry)) (record! number (record { number = id; bytes = length })) ⌝ }
+    ensures { λ r. ⌜ returned r (now (ids .exit)) (now (lens .exit)) ≡ ruled b (now (ids .entry)) (now (lens .entry)) (record! block (record { number = id; bytes = length })) ⌝ }
 {
     let numbers = b.numbers;
     let shares = b.shares;
@@ -55,7 +55,7 @@ fn take_record(
     let mut tails = b.tails;
     let mut ready = b.ready;
     let took = engine::record_in(
-        number,
+        block,
         id,
         length,
         b.largest,
@@ -101,14 +101,14 @@ fn rename_block(ids: &[u32], lens: &[u16], old: u32, new: u32, b: Board) -> Repl
 }
 
 // A block opens with this number and share.
-fn open_block(ids: &[u32], lens: &[u16], number: u32, share: u32, b: Board) -> Reply
+fn open_block(ids: &[u32], lens: &[u16], block: u32, share: u32, b: Board) -> Reply
     requires { ⌜ Known b (now ids) (now lens) ⌝ }
-    ensures { λ r. ⌜ returned r (now (ids .exit)) (now (lens .exit)) ≡ ruled b (now (ids .entry)) (now (lens .entry)) (open! number share) ⌝ }
+    ensures { λ r. ⌜ returned r (now (ids .exit)) (now (lens .exit)) ≡ ruled b (now (ids .entry)) (now (lens .entry)) (open! block share) ⌝ }
 {
     let held = b.held;
     let mut numbers = b.numbers;
     let mut shares = b.shares;
-    let code = engine::open_in(number, share, &mut numbers, &mut shares, &held);
+    let code = engine::open_in(block, share, &mut numbers, &mut shares, &held);
     let mut n = b;
     n.numbers = numbers;
     n.shares = shares;
@@ -119,9 +119,9 @@ fn open_block(ids: &[u32], lens: &[u16], number: u32, share: u32, b: Board) -> R
 }
 
 // The block with this number closes.
-fn close_block(ids: &[u32], lens: &[u16], number: u32, b: Board) -> Reply
+fn close_block(ids: &[u32], lens: &[u16], block: u32, b: Board) -> Reply
     requires { ⌜ Known b (now ids) (now lens) ⌝ }
-    ensures { λ r. ⌜ returned r (now (ids .exit)) (now (lens .exit)) ≡ ruled b (now (ids .entry)) (now (lens .entry)) (close! number) ⌝ }
+    ensures { λ r. ⌜ returned r (now (ids .exit)) (now (lens .exit)) ≡ ruled b (now (ids .entry)) (now (lens .entry)) (close! block) ⌝ }
 {
     let counts = b.counts;
     let mut numbers = b.numbers;
@@ -129,7 +129,7 @@ fn close_block(ids: &[u32], lens: &[u16], number: u32, b: Board) -> Reply
     let mut starts = b.starts;
     let mut held = b.held;
     let code = engine::close_in(
-        number,
+        block,
         b.active,
         &counts,
         &mut numbers,
@@ -147,9 +147,6 @@ fn close_block(ids: &[u32], lens: &[u16], number: u32, b: Board) -> Reply
         board: n,
     }
 }
-
-// More bytes than any record is charged.
-const ANY_LENGTH: u64 = 65536;
 
 // The board that a step of serving leaves.
 fn rebuilt(
@@ -200,7 +197,7 @@ fn serve_board(ids: &[u32], lens: &[u16], b: Board) -> Served
     let mut held = b.held;
     let left = b.left;
     let s = engine::serve_within(
-        Bytes(ANY_LENGTH),
+        Bytes(engine::ANY_LENGTH),
         1,
         b.clock,
         b.active,
@@ -349,8 +346,8 @@ pub fn early(ids: &[u32], lens: &[u16], b: Board) -> u8
 }
 
 // A block opens with this number and share.
-pub fn open(ids: &[u32], lens: &[u16], number: u32, share: u32, b: Board) -> Reply
-    ensures { λ r. ⌜ returned r (now (ids .exit)) (now (lens .exit)) ≡ called b (now (ids .entry)) (now (lens .entry)) (open! number share) ⌝ }
+pub fn open(ids: &[u32], lens: &[u16], block: u32, share: u32, b: Board) -> Reply
+    ensures { λ r. ⌜ returned r (now (ids .exit)) (now (lens .exit)) ≡ called b (now (ids .entry)) (now (lens .entry)) (open! block share) ⌝ }
 {
     let code = early(ids, lens, b);
     if code != 0 {
@@ -359,7 +356,7 @@ pub fn open(ids: &[u32], lens: &[u16], number: u32, share: u32, b: Board) -> Rep
             board: b,
         };
     }
-    open_block(ids, lens, number, share, b)
+    open_block(ids, lens, block, share, b)
 }
 
 // The block with the old number takes the new one.
@@ -377,8 +374,8 @@ pub fn rename(ids: &[u32], lens: &[u16], old: u32, new: u32, b: Board) -> Reply
 }
 
 // The block with this number closes.
-pub fn close(ids: &[u32], lens: &[u16], number: u32, b: Board) -> Reply
-    ensures { λ r. ⌜ returned r (now (ids .exit)) (now (lens .exit)) ≡ called b (now (ids .entry)) (now (lens .entry)) (close! number) ⌝ }
+pub fn close(ids: &[u32], lens: &[u16], block: u32, b: Board) -> Reply
+    ensures { λ r. ⌜ returned r (now (ids .exit)) (now (lens .exit)) ≡ called b (now (ids .entry)) (now (lens .entry)) (close! block) ⌝ }
 {
     let code = early(ids, lens, b);
     if code != 0 {
@@ -387,19 +384,19 @@ pub fn close(ids: &[u32], lens: &[u16], number: u32, b: Board) -> Reply
             board: b,
         };
     }
-    close_block(ids, lens, number, b)
+    close_block(ids, lens, block, b)
 }
 
 // A record comes for the block with this number.
 pub fn record(
     ids: &mut [u32],
     lens: &mut [u16],
-    number: u32,
+    block: u32,
     id: u32,
     length: u16,
     b: Board,
 ) -> Reply
-    ensures { λ r. ⌜ returned r (now (ids .exit)) (now (lens .exit)) ≡ called b (now (ids .entry)) (now (lens .entry)) (record! number (record { number = id; bytes = length })) ⌝ }
+    ensures { λ r. ⌜ returned r (now (ids .exit)) (now (lens .exit)) ≡ called b (now (ids .entry)) (now (lens .entry)) (record! block (record { number = id; bytes = length })) ⌝ }
 {
     let code = early(&ids[..], &lens[..], b);
     if code != 0 {
@@ -408,7 +405,7 @@ pub fn record(
             board: b,
         };
     }
-    take_record(ids, lens, number, id, length, b)
+    take_record(ids, lens, block, id, length, b)
 }
 
 // A board is made, and both tables are cleared.

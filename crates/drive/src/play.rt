@@ -6,7 +6,6 @@ use crate::output;
 use crate::steps;
 use crate::tables;
 use board::Board;
-use units::Parts;
 ghost use Prim.Native.Nat.{_≤_};
 ghost use lib.ListN.{length};
 ghost use Rattle.drive.specs.Tables.{Lendable};
@@ -22,30 +21,7 @@ pub struct State {
 pub fn fresh() -> State
     ensures { λ r. ⌜ Lendable (r .numbers) (r .lengths) ⌝ }
 {
-    let words = [0u32; 64];
-    let longs = [0u64; 64];
-    let bytes = [0u8; 64];
-    let links = [0u8; 17];
-    let held = [0u32; 17];
-    let left = Parts(0);
-    let board = Board {
-        numbers: words,
-        shares: words,
-        deficits: longs,
-        starts: bytes,
-        counts: bytes,
-        ready: longs,
-        next: bytes,
-        heads: links,
-        tails: links,
-        held: held,
-        largest: 0,
-        clock: 0,
-        active: 0,
-        pending: 0,
-        slot: 0,
-        left: left,
-    };
+    let board = engine::blank(0);
     State {
         numbers: tables::ENTRIES,
         lengths: tables::ENTRIES,

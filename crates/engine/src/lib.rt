@@ -1,5 +1,5 @@
 // The engine: the steps of the calls over arrays that are lent one by one, so that no board is copied. Each is proved equal to a definition on the
-// board's lists, and laws tie each definition to the rules. A function here may ask what only a board that is not spoilt gives; the calls know it of theirs.
+// board's lists, and laws tie each definition to the rules. A function here may ask what only a board that is not spoilt gives; the calls and the player know it of theirs.
 ghost use mathlib.Core.Path.{_≡_};
 ghost use mathlib.Core.Bool.{_||_};
 ghost use Prim.Native.Nat.{ℕ, _+_, _-_, _*_, _^_, _<_, _≤_};
@@ -16,7 +16,7 @@ use units::Bytes;
 use units::Parts;
 
 // The first place with this number, or 64.
-pub fn find(numbers: &[u32; 64], number: u32) -> usize
+fn find(numbers: &[u32; 64], number: u32) -> usize
     ensures { λ r. ⌜ r ≡ foundIn (now (numbers .entry)) number ⌝ }
 {
     let mut i: usize = 0;
@@ -30,7 +30,7 @@ pub fn find(numbers: &[u32; 64], number: u32) -> usize
 }
 
 // A number of 0, or an amount that is 0 or above the most.
-pub fn outside(number: u32, amount: u32, most: u32) -> bool
+fn outside(number: u32, amount: u32, most: u32) -> bool
     ensures { λ r. ⌜ r ≡ eqb number 0 || (eqb amount 0 || ltb most amount) ⌝ }
 {
     if number == 0 {
@@ -45,7 +45,7 @@ pub fn outside(number: u32, amount: u32, most: u32) -> bool
 // ---- taking a record
 
 // The block of a place joins the end of the order of class k; the answer is the set of active classes.
-pub fn join_in(
+fn join_in(
     next: &mut [u8; 64],
     heads: &mut [u8; 17],
     tails: &mut [u8; 17],
@@ -73,7 +73,7 @@ pub fn join_in(
 }
 
 // Place i has one record more; where its lane was empty, its block joins its class's order, ready at the next start.
-pub fn take_in(
+fn take_in(
     i: usize,
     clock: u64,
     active: u32,
@@ -105,7 +105,7 @@ pub struct Took {
 
 // A record comes for the block with this number.
 pub fn record_in(
-    number: u32,
+    block: u32,
     id: u32,
     length: u16,
     largest: u32,
@@ -123,15 +123,15 @@ pub fn record_in(
     lens: &mut [u16],
 ) -> Took
     requires { ⌜ RecordNeeds (blocks (now numbers) (now shares) (now starts)) (now tails) clock (now ids) (now lens) ⌝ }
-    ensures { λ r. ⌜ recording (r .code) (taking (now (counts .exit)) (ordersNow (now (next .exit)) (now (heads .exit)) (now (tails .exit)) (now (ready .exit)) (r .active))) (now (ids .exit)) (now (lens .exit)) ≡ recordedIn (blocks (now (numbers .entry)) (now (shares .entry)) (now (starts .entry))) largest clock number id length (taking (now (counts .entry)) (ordersNow (now (next .entry)) (now (heads .entry)) (now (tails .entry)) (now (ready .entry)) active)) (now (ids .entry)) (now (lens .entry)) ⌝ }
+    ensures { λ r. ⌜ recording (r .code) (taking (now (counts .exit)) (ordersNow (now (next .exit)) (now (heads .exit)) (now (tails .exit)) (now (ready .exit)) (r .active))) (now (ids .exit)) (now (lens .exit)) ≡ recordedIn (blocks (now (numbers .entry)) (now (shares .entry)) (now (starts .entry))) largest clock block id length (taking (now (counts .entry)) (ordersNow (now (next .entry)) (now (heads .entry)) (now (tails .entry)) (now (ready .entry)) active)) (now (ids .entry)) (now (lens .entry)) ⌝ }
 {
-    if outside(number, length as u32, largest) {
+    if outside(block, length as u32, largest) {
         return Took {
             code: 4,
             active: active,
         };
     }
-    let i = find(numbers, number);
+    let i = find(numbers, block);
     if i == 64 {
         return Took {
             code: 6,
@@ -180,7 +180,7 @@ pub fn rename_in(old: u32, new: u32, numbers: &mut [u32; 64]) -> u8
 }
 
 // The sum of an array's numbers.
-pub fn total(shares: &[u32]) -> u64
+fn total(shares: &[u32]) -> u64
     requires { ⌜ length (now shares) ≤ 64 ⌝ }
     ensures { λ r. ⌜ (r ≡ totalOf (now (shares .entry))) × (r ≤ 64 * 2 ^ 32) ⌝ }
 {
@@ -195,18 +195,18 @@ pub fn total(shares: &[u32]) -> u64
 
 // A block opens at the lowest free place; the answer is the code.
 pub fn open_in(
-    number: u32,
+    block: u32,
     share: u32,
     numbers: &mut [u32; 64],
     shares: &mut [u32; 64],
     held: &[u32; 17],
 ) -> u8
-    ensures { λ r. ⌜ opening r (now (numbers .exit)) (now (shares .exit)) ≡ openedIn (now (numbers .entry)) (now (shares .entry)) (now (held .entry)) number share ⌝ }
+    ensures { λ r. ⌜ opening r (now (numbers .exit)) (now (shares .exit)) ≡ openedIn (now (numbers .entry)) (now (shares .entry)) (now (held .entry)) block share ⌝ }
 {
-    if outside(number, share, 65536) {
+    if outside(block, share, 65536) {
         return 4;
     }
-    if find(numbers, number) != 64 {
+    if find(numbers, block) != 64 {
         return 5;
     }
     let i = find(numbers, 0);
@@ -216,13 +216,13 @@ pub fn open_in(
     if 65536 < total(shares) + total(held) + share as u64 {
         return 8;
     }
-    numbers[i] = number;
+    numbers[i] = block;
     shares[i] = share;
     0
 }
 
 // A closed block's share is held with its class's, unless no class is active.
-pub fn hold_in(active: u32, share: u32, held: &mut [u32; 17])
+fn hold_in(active: u32, share: u32, held: &mut [u32; 17])
     requires { ⌜ (1 ≤ share) × ((share ≤ 65536) × ((k : ℕ) → getD (now held) k 0 ≤ 65536)) ⌝ }
     ensures { λ _. ⌜ now (held .exit) ≡ heldWith active share (now (held .entry)) ⌝ }
 {
@@ -236,7 +236,7 @@ pub fn hold_in(active: u32, share: u32, held: &mut [u32; 17])
 
 // A block with an empty lane closes; the answer is the code.
 pub fn close_in(
-    number: u32,
+    block: u32,
     active: u32,
     counts: &[u8; 64],
     numbers: &mut [u32; 64],
@@ -245,12 +245,12 @@ pub fn close_in(
     held: &mut [u32; 17],
 ) -> u8
     requires { ⌜ CloseNeeds (now numbers) (now shares) (now held) ⌝ }
-    ensures { λ r. ⌜ closing r (now (numbers .exit)) (now (shares .exit)) (now (starts .exit)) (now (held .exit)) ≡ closedIn active (now (numbers .entry)) (now (shares .entry)) (now (starts .entry)) (now (counts .entry)) (now (held .entry)) number ⌝ }
+    ensures { λ r. ⌜ closing r (now (numbers .exit)) (now (shares .exit)) (now (starts .exit)) (now (held .exit)) ≡ closedIn active (now (numbers .entry)) (now (shares .entry)) (now (starts .entry)) (now (counts .entry)) (now (held .entry)) block ⌝ }
 {
-    if number == 0 {
+    if block == 0 {
         return 6;
     }
-    let i = find(numbers, number);
+    let i = find(numbers, block);
     if i == 64 {
         return 6;
     }
@@ -339,7 +339,7 @@ pub struct Begun {
     pub pending: u32,
 }
 
-// The code of one serve; the place, the table entry and the charge of the record sent; the slot's clock; and the numbers after it.
+// The code of one serve; the place and the table entry of the record sent, and the bytes charged for it; the slot's clock; and the numbers after it.
 pub struct Step {
     pub code: u8,
     pub place: usize,
@@ -353,16 +353,11 @@ pub struct Step {
     pub left: Parts,
 }
 
+// 2^62: no slot begins there or later.
 const LAST_CLOCK: u64 = 4611686018427387904;
 
 // The first block of an order leaves it.
-pub fn leave(
-    place: usize,
-    k: usize,
-    next: &mut [u8; 64],
-    heads: &mut [u8; 17],
-    tails: &mut [u8; 17],
-)
+fn leave(place: usize, k: usize, next: &mut [u8; 64], heads: &mut [u8; 17], tails: &mut [u8; 17])
     requires { ⌜ (place < 64) × (k < 17) ⌝ }
     ensures { λ r. ⌜ linksNow (now (next .exit)) (now (heads .exit)) (now (tails .exit)) ≡ leftLinks place k (linksNow (now (next .entry)) (now (heads .entry)) (now (tails .entry))) ⌝ }
 {
@@ -376,7 +371,7 @@ pub fn leave(
 
 // The clock goes on: the held share of each class of which a start is passed goes, and the class is pending if its order has a block.
 // Starts of a class are starts of every lower one, so the first class of which none is passed is the last to look at.
-pub fn advance(from: u64, to: u64, pending: u32, heads: &[u8; 17], held: &mut [u32; 17]) -> u32
+fn advance(from: u64, to: u64, pending: u32, heads: &[u8; 17], held: &mut [u32; 17]) -> u32
     ensures { λ r. ⌜ turnedNow r (now (held .exit)) ≡ turned from to (now (heads .entry)) (turnedNow pending (now (held .entry))) ⌝ }
 {
     let mut set = pending;
@@ -395,7 +390,7 @@ pub fn advance(from: u64, to: u64, pending: u32, heads: &[u8; 17], held: &mut [u
 }
 
 // Whether class k stays pending when the first block of its order left it.
-pub fn still_pending(set: u32, k: usize, clock: u64, heads: &[u8; 17], ready: &[u64; 64]) -> u32
+fn still_pending(set: u32, k: usize, clock: u64, heads: &[u8; 17], ready: &[u64; 64]) -> u32
     requires { ⌜ (k < 17) × (getD (now heads) k 0 ≤ 64) ⌝ }
     ensures { λ r. ⌜ r ≡ stillPending set k clock (now (heads .entry)) (now (ready .entry)) ⌝ }
 {
@@ -411,7 +406,7 @@ pub fn still_pending(set: u32, k: usize, clock: u64, heads: &[u8; 17], ready: &[
 }
 
 // Whether class k stays active when a block that was in no order waits no more.
-pub fn still_active(set: u32, k: usize, heads: &[u8; 17]) -> u32
+fn still_active(set: u32, k: usize, heads: &[u8; 17]) -> u32
     requires { ⌜ k < 17 ⌝ }
     ensures { λ r. ⌜ r ≡ stillActive set k (now (heads .entry)) ⌝ }
 {
@@ -422,21 +417,21 @@ pub fn still_active(set: u32, k: usize, heads: &[u8; 17]) -> u32
 }
 
 // No share is held.
-pub fn clear_held(held: &mut [u32; 17])
+fn clear_held(held: &mut [u32; 17])
     ensures { λ r. ⌜ now (held .exit) ≡ replicate 17 0 ⌝ }
 {
     *held = [0; 17];
 }
 
 // A link as an index.
-pub fn wide(link: u8) -> usize
+fn wide(link: u8) -> usize
     ensures { λ r. ⌜ r ≡ link ⌝ }
 {
     link as usize
 }
 
 // The place of the first block of class k's order.
-pub fn first_of(k: usize, heads: &[u8; 17]) -> usize
+fn first_of(k: usize, heads: &[u8; 17]) -> usize
     requires { ⌜ (k < 17) × (1 ≤ getD (now heads) k 0) ⌝ }
     ensures { λ r. ⌜ r ≡ getD (now (heads .entry)) k 0 - 1 ⌝ }
 {
@@ -444,7 +439,7 @@ pub fn first_of(k: usize, heads: &[u8; 17]) -> usize
 }
 
 // The class that is served where no slot is open.
-pub fn chosen_class(active: u32, pending: u32) -> u32
+fn chosen_class(active: u32, pending: u32) -> u32
     ensures { λ r. ⌜ r ≡ chosenClass active pending ⌝ }
 {
     if pending == 0 {
@@ -454,7 +449,7 @@ pub fn chosen_class(active: u32, pending: u32) -> u32
 }
 
 // The clock at which a slot of class k begins.
-pub fn slot_clock(clock: u64, pending: u32, k: u32) -> u64
+fn slot_clock(clock: u64, pending: u32, k: u32) -> u64
     requires { ⌜ (k < 17) × (clock ≤ 2 ^ 62) ⌝ }
     ensures { λ r. ⌜ r ≡ slotClock clock pending k ⌝ }
 {
@@ -465,7 +460,7 @@ pub fn slot_clock(clock: u64, pending: u32, k: u32) -> u64
 }
 
 // Whose record is next and at which clock, or code 1 or 11; nothing is changed.
-pub fn choose(clock: u64, active: u32, pending: u32, slot: u8, heads: &[u8; 17]) -> Choice
+fn choose(clock: u64, active: u32, pending: u32, slot: u8, heads: &[u8; 17]) -> Choice
     requires { ⌜ CanChoose clock active pending slot (now heads) ⌝ }
     ensures { λ r. ⌜ r ≡ choice clock active pending slot (now (heads .entry)) ⌝ }
 {
@@ -486,7 +481,7 @@ pub fn choose(clock: u64, active: u32, pending: u32, slot: u8, heads: &[u8; 17])
 }
 
 // A slot of class k begins at a clock: its block leaves its order.
-pub fn begin(
+fn begin(
     place: usize,
     k: usize,
     time: u64,
@@ -519,7 +514,7 @@ pub fn begin(
 }
 
 // The slot of a block that waits no more ends.
-pub fn end_empty(
+fn end_empty(
     k: usize,
     clock: u64,
     active: u32,
@@ -545,7 +540,7 @@ pub fn end_empty(
 }
 
 // The slot of a block that still waits ends: it joins its order again, and what is left is its deficit.
-pub fn end_waiting(
+fn end_waiting(
     place: usize,
     k: usize,
     rest: Parts,
@@ -576,7 +571,7 @@ pub fn end_waiting(
 }
 
 // The table entry of the record at the front of a ring that starts there.
-pub fn front_entry(place: usize, start: u8) -> usize
+fn front_entry(place: usize, start: u8) -> usize
     requires { ⌜ (place < 64) × (start < 32) ⌝ }
     ensures { λ r. ⌜ r ≡ frontEntry place start ⌝ }
 {
@@ -584,7 +579,7 @@ pub fn front_entry(place: usize, start: u8) -> usize
 }
 
 // The start of the ring after a send.
-pub fn start_after(start: u8) -> u8
+fn start_after(start: u8) -> u8
     requires { ⌜ start < 32 ⌝ }
     ensures { λ r. ⌜ r ≡ startAfter start ⌝ }
 {
@@ -592,7 +587,7 @@ pub fn start_after(start: u8) -> u8
 }
 
 // The front record of the open slot's block is sent.
-pub fn send(
+fn send(
     place: usize,
     clock: u64,
     active: u32,
@@ -652,7 +647,7 @@ pub fn send(
 }
 
 // The slot that serves: the open one, or one that begins.
-pub fn open_slot(
+fn open_slot(
     place: usize,
     time: u64,
     clock: u64,
@@ -696,7 +691,7 @@ pub fn open_slot(
 }
 
 // The slot that serves sends its front record.
-pub fn enact(
+fn enact(
     place: usize,
     time: u64,
     clock: u64,
@@ -754,6 +749,9 @@ pub fn enact(
         lens,
     )
 }
+
+// More bytes than any record is charged.
+pub const ANY_LENGTH: u64 = 65536;
 
 // One record is served, if it is no longer than so many bytes and a list has room for it.
 pub fn serve_within(
@@ -829,7 +827,7 @@ pub fn serve_within(
 }
 
 // Nothing is served: a code, and the numbers as they were.
-pub fn stay(code: u8, clock: u64, active: u32, pending: u32, slot: u8, left: Parts) -> Step
+fn stay(code: u8, clock: u64, active: u32, pending: u32, slot: u8, left: Parts) -> Step
     ensures { λ r. ⌜ r ≡ stayed code (numbersNow clock active pending slot (left .0)) ⌝ }
 {
     Step {

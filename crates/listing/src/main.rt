@@ -5,7 +5,7 @@ use libc::STDOUT_FILENO;
 // The bytes of a log that is read, and one more, so that a longer one is seen to be long.
 const MOST: usize = 32769;
 
-// A piece of the listing at a time. A write that fails is not tried again: whoever reads the listing finds it short.
+// A piece of the listing at a time. A write that fails ends it, so that what was written is always the listing's beginning.
 fn write_listing(log: &[u8]) {
     let mut ids = [0u32; 2048];
     let mut lens = [0u16; 2048];
@@ -14,7 +14,10 @@ fn write_listing(log: &[u8]) {
     loop {
         let piece = player::list_piece(log, &mut ids, &mut lens, &mut out, state);
         let used = piece.used;
-        io::write_all(STDOUT_FILENO, &out[..used]);
+        let written = io::write_all(STDOUT_FILENO, &out[..used]);
+        if !written {
+            return;
+        }
         if piece.over {
             return;
         }
@@ -23,6 +26,7 @@ fn write_listing(log: &[u8]) {
     }
 }
 
+// A read that fails is taken for the log's end.
 fn main() {
     let mut log = [0u8; MOST];
     let n = io::read_full(STDIN_FILENO, &mut log);

@@ -36,8 +36,8 @@ use Rattle.calls.specs.Contract.{goodServe}
 use Rattle.calls.proofs.Known.{record-known, rename-known, open-known, close-known}
 use Rattle.calls.proofs.Next.{Follows, call-follows}
 use Rattle.calls.proofs.Promises.{within, spells, by-cases, after-is, known-next, serve-known}
-use Rattle.plays.specs.Listing.{after, played, lineOf, servedLine}
-use Rattle.player.specs.Fields.{Stand, stand, reads, Good, Plays, shownLine}
+use Rattle.plays.specs.Listing.{after, played, fieldLine, servedLine}
+use Rattle.player.specs.Fields.{Memory, memory, reads, KnownMemory, FieldPlayed, shownLine}
 
 -- only a serve sends bytes
 abbrev Sends : Board.Board → Single → Turn → Type 0
@@ -72,15 +72,15 @@ charge-is : (r : Record) → charge r ≡ charged (r .bytes)
 unfolding charge
 charge-is r = refl
 
-module _ (s : Stand) (k : Good s) (before : List ℕ) (count : ℕ) (line : List ℕ) (few : count ≤ 64) where
+module _ (s : Memory) (k : KnownMemory s) (before : List ℕ) (count : ℕ) (line : List ℕ) (few : count ≤ 64) where
   abbrev m : Board.Board
   m = view (s .board) (s .ids) (s .lens)
 
   -- ---- A call that is no serve: e is its event, and shows the line that the event gives with a code
 
   by-call : (x : Single) → isServe x ≡ false → (code : ℕ) (b : struct.Board) (ids lens : List ℕ) → returned (replied code b) ids lens ≡ ruled (s .board) (s .ids) (s .lens) x
-      → (e : Event) → played (reads s) e ≡ after (reads s) x → (shows : ℕ → List ℕ) → lineOf (reads s) e ≡ shows (codeOf (answer m x)) → Line before (shows code) count line
-      → Plays s e (stand b ids lens (s .sent)) before count line
+      → (e : Event) → played (reads s) e ≡ after (reads s) x → (shows : ℕ → List ℕ) → fieldLine (reads s) e ≡ shows (codeOf (answer m x)) → Line before (shows code) count line
+      → FieldPlayed s e (memory b ids lens (s .sent)) before count line
   by-call x quiet code b ids lens r e p shows q l = record {
     good = subst (λ (w : Returned Reply). Known (w .reply .board) (w .ids) (w .lens)) (sym r) (f .good);
     next = (λ j. record { board = (ap (λ (w : Returned Reply). view (w .reply .board) (w .ids) (w .lens)) r ∙ f .reads) j; sent = same j }) ∙ sym p;
@@ -99,19 +99,19 @@ module _ (s : Stand) (k : Good s) (before : List ℕ) (count : ℕ) (line : List
       same = rw (none-sent m (fit-view (s .board) (s .ids) (s .lens) (k .sound) .tidy) x quiet) (sym (add-zero (s .sent)))
 
   pub open-plays : (block share : ℕ) (x : Opening) → x ≡ openedIn (s .board .numbers) (s .board .shares) (s .board .held) block share → Line before (openLine block (x .code)) count line
-      → Plays s (Open block share) (stand (withOpening (s .board) x) (s .ids) (s .lens) (s .sent)) before count line
+      → FieldPlayed s (Open block share) (memory (withOpening (s .board) x) (s .ids) (s .lens) (s .sent)) before count line
   open-plays block share x e l = by-call (open! block share) refl (x .code) (withOpening (s .board) x) (s .ids) (s .lens) (open-known (s .board) (s .ids) (s .lens) k block share x e) (Open block share) refl (openLine block) refl l
 
   pub close-plays : (block : ℕ) (x : Closing) → x ≡ closedIn (s .board .active) (s .board .numbers) (s .board .shares) (s .board .starts) (s .board .counts) (s .board .held) block → Line before (closeLine block (x .code)) count line
-      → Plays s (Close block) (stand (withClosing (s .board) x) (s .ids) (s .lens) (s .sent)) before count line
+      → FieldPlayed s (Close block) (memory (withClosing (s .board) x) (s .ids) (s .lens) (s .sent)) before count line
   close-plays block x e l = by-call (close! block) refl (x .code) (withClosing (s .board) x) (s .ids) (s .lens) (close-known (s .board) (s .ids) (s .lens) k block x e) (Close block) refl (closeLine block) refl l
 
   pub rename-plays : (old new : ℕ) (x : Renaming) → x ≡ renamedIn (s .board .numbers) old new → Line before (nameLine old new (x .code)) count line
-      → Plays s (Rename old new) (stand (withRenaming (s .board) x) (s .ids) (s .lens) (s .sent)) before count line
+      → FieldPlayed s (Rename old new) (memory (withRenaming (s .board) x) (s .ids) (s .lens) (s .sent)) before count line
   rename-plays old new x e l = by-call (rename! old new) refl (x .code) (withRenaming (s .board) x) (s .ids) (s .lens) (rename-known (s .board) (s .ids) (s .lens) k old new x e) (Rename old new) refl (nameLine old new) refl l
 
   pub record-plays : (block number bytes : ℕ) (x : Recording) → x ≡ recordedIn (blocksOf (s .board)) (s .board .largest) (s .board .clock) block number bytes (takingOf (s .board)) (s .ids) (s .lens) → Line before (inLine number (x .code)) count line
-      → Plays s (Arrive block number bytes) (stand (withTaking (s .board) (x .taking)) (x .ids) (x .lens) (s .sent)) before count line
+      → FieldPlayed s (Arrive block number bytes) (memory (withTaking (s .board) (x .taking)) (x .ids) (x .lens) (s .sent)) before count line
   record-plays block number bytes x e l = by-call (record! block (record { number = number; bytes = bytes })) refl (x .code) (withTaking (s .board) (x .taking)) (x .ids) (x .lens) (record-known (s .board) (s .ids) (s .lens) k block number bytes x e) (Arrive block number bytes) refl (inLine number) refl l
 
   -- ---- A serve
@@ -177,7 +177,7 @@ module _ (s : Stand) (k : Good s) (before : List ℕ) (count : ℕ) (line : List
     pub serve-small : w .step .bytes .0 ≤ 65536
     serve-small = serve-is .small
 
-    pub serve-plays : Line before shown count line → Plays s Serve (stand next-board (s .ids) (s .lens) (s .sent + w .step .bytes .0)) before count line
+    pub serve-plays : Line before shown count line → FieldPlayed s Serve (memory next-board (s .ids) (s .lens) (s .sent + w .step .bytes .0)) before count line
     serve-plays l = record {
       good = serve-is .good;
       next = (λ j. record { board = serve-is .next j; sent = s .sent + serve-is .bytes j }) ∙ ap (λ (t : Turn). record { board = t .next; sent = s .sent + bytesOf (told m (t .out)) }) (sym (step-serve m));
@@ -188,5 +188,5 @@ module _ (s : Stand) (k : Good s) (before : List ℕ) (count : ℕ) (line : List
 
   -- ---- What is passed over
 
-  pub passed-plays : count ≡ 0 → line ≡ before → Plays s Passed s before count line
+  pub passed-plays : count ≡ 0 → line ≡ before → FieldPlayed s Passed s before count line
   passed-plays z same = record { good = k; next = refl; line = record { counts = z; text = rw z refl; rest = rw (z, same) refl }; short = few; more = omega arith }

@@ -39,8 +39,8 @@ use Rattle.plays.specs.Listing.{Playing, unmade, waiting, listingFrom, listingO
 use Rattle.plays.proofs.Listing.{listing-whole, listing-broken, listing-end, listing-long, listing-first}
 use Rattle.player.specs.declared.State.{State}
 use Rattle.player.specs.declared.Piece.{Piece}
-use Rattle.player.specs.Fields.{Stand, stand, reads, Good, Plays}
-use Rattle.player.specs.Pieces.{begins, readTo, leftOf, leftAfter, unfit, pieceCode, Ready, refusedPiece, endedPiece, PieceDone, PieceOf, Pieces, last, more, howMany, Roomy}
+use Rattle.player.specs.Fields.{Memory, memory, reads, KnownMemory, FieldPlayed}
+use Rattle.player.specs.Pieces.{beforeFirst, readTo, restOf, restAfter, unfit, pieceCode, CanGoOn, refusedPiece, endedPiece, PieceDone, PieceOf, Pieces, last, more, howMany, Roomy}
 
 -- ---- The code, test by test
 module _ (len : ℕ) (s : State) (ids lens : List ℕ) (a : length ids ≡ 2048) (d : length lens ≡ 2048) where
@@ -78,9 +78,9 @@ module _ (len : ℕ) (s : State) (ids lens : List ℕ) (a : length ids ≡ 2048)
 
 -- ---- A piece that ends the listing
 
-module _ (log : List ℕ) (s : State) (ids lens out : List ℕ) (used : ℕ) (whole : List ℕ) (is : leftOf log s ids lens ≡ whole) where
+module _ (log : List ℕ) (s : State) (ids lens out : List ℕ) (used : ℕ) (whole : List ℕ) (is : restOf log s ids lens ≡ whole) where
   pub ended-done : (ids′ lens′ out′ : List ℕ) → length whole ≤ length out → Written out 0 whole used out′ → PieceDone log s ids lens out (endedPiece used s) ids′ lens′ out′
-  unfolding leftAfter
+  unfolding restAfter
   ended-done ids′ lens′ out′ h w = record {
     done = refl;
     fits = omega (arith, w .ends);
@@ -95,8 +95,8 @@ module _ (log : List ℕ) (s : State) (ids lens out : List ℕ) (used : ℕ) (wh
 
 -- ---- A piece under way: what is written so far, and the listing of what follows, is what was left at its beginning
 
-pub record UnderWay (log whole : List ℕ) (from : ℕ) (out₀ : List ℕ) (s : Stand) (at used : ℕ) (out : List ℕ) : Type 0 where
-  pub good : Good s
+pub record UnderWay (log whole : List ℕ) (from : ℕ) (out₀ : List ℕ) (s : Memory) (at used : ℕ) (out : List ℕ) : Type 0 where
+  pub good : KnownMemory s
   pub text : List ℕ
   pub written : Written out₀ 0 text used out
   pub joined : text ++ listingFrom (reads s) log at true ≡ whole
@@ -105,14 +105,14 @@ pub record UnderWay (log whole : List ℕ) (from : ℕ) (out₀ : List ℕ) (s :
   pub few : s .sent / 65536 ≤ at
   pub moved : ((from < at) × (at ≤ length log)) ⊎ ((from ≡ at) × (used ≡ 0))
 
-pub under-first : (log : List ℕ) (s : Stand) (at : ℕ) (out : List ℕ) → Good s → s .sent / 65536 ≤ at → UnderWay log (listingFrom (reads s) log at true) at out s at 0 out
+pub under-first : (log : List ℕ) (s : Memory) (at : ℕ) (out : List ℕ) → KnownMemory s → s .sent / 65536 ≤ at → UnderWay log (listingFrom (reads s) log at true) at out s at 0 out
 under-first log s at out k few! = record { good = k; text = []; written = none out 0; joined = refl; fits = omega arith; same = refl; few = few!; moved = inr (refl, refl) }
 
 -- the front of a buffer that has a line is as long as the line says
 line-count : {before line after : List ℕ} {count : ℕ} → Line before line count after → length (take count after) ≡ count
 line-count l = ap length (l .text) ∙ sym (l .counts)
 
-module _ (log whole : List ℕ) (from : ℕ) (out₀ : List ℕ) (s : Stand) (at used : ℕ) (out : List ℕ) (u : UnderWay log whole from out₀ s at used out) where
+module _ (log whole : List ℕ) (from : ℕ) (out₀ : List ℕ) (s : Memory) (at used : ℕ) (out : List ℕ) (u : UnderWay log whole from out₀ s at used out) where
   pub under-room : 64 ≤ length out - used → used + 64 ≤ length out
   under-room h = omega (arith, u .fits, u .same)
 
@@ -139,7 +139,7 @@ module _ (log whole : List ℕ) (from : ℕ) (out₀ : List ℕ) (s : Stand) (at
     text-fits = omega (arith, wrote .ends, wrote-fits)
 
     -- a field is played, and the next one follows
-    pub under-next : (e : Event) (next : ℕ) → fieldAt log at true ≡ Whole e next → (n : Stand) → Plays s e n before count line → length out′ ≡ length out → UnderWay log whole from out₀ n next used′ out′
+    pub under-next : (e : Event) (next : ℕ) → fieldAt log at true ≡ Whole e next → (n : Memory) → FieldPlayed s e n before count line → length out′ ≡ length out → UnderWay log whole from out₀ n next used′ out′
     under-next e next f n p same! = record {
       good = p .good;
       text = u .text ++ take count line;
@@ -159,14 +159,14 @@ module _ (log whole : List ℕ) (from : ℕ) (out₀ : List ℕ) (s : Stand) (at
         on (inr h) = let w = whole-next log at true e next f in (omega (arith, h .0, w .0), w .1)
 
     -- or it is the last one
-    module _ (s₀ : State) (ids lens : List ℕ) (is : leftOf log s₀ ids lens ≡ whole) (ids′ lens′ : List ℕ) where
+    module _ (s₀ : State) (ids lens : List ℕ) (is : restOf log s₀ ids lens ≡ whole) (ids′ lens′ : List ℕ) where
       pub under-last : text ≡ listingFrom (reads s) log at true → PieceDone log s₀ ids lens out₀ (endedPiece used′ s₀) ids′ lens′ out′
       under-last e = ended-done log s₀ ids lens out₀ used′ (u .text ++ take count line) (is ∙ sym (u .joined) ∙ ap (λ (t : List ℕ). u .text ++ t) (sym (l .text ∙ e))) ids′ lens′ out′ text-fits wrote
 
   -- there is no room for another line
-  pub under-more : (s₀ : State) (ids lens : List ℕ) → leftOf log s₀ ids lens ≡ whole → isLong (length log) ≡ false → readTo s₀ ≡ from → length out - used < 64
+  pub under-more : (s₀ : State) (ids lens : List ℕ) → restOf log s₀ ids lens ≡ whole → isLong (length log) ≡ false → readTo s₀ ≡ from → length out - used < 64
       → PieceDone log s₀ ids lens out₀ (record { code = 0; used = used; over = false; state = record { begun = true; at = at; sent = s .sent; board = s .board } }) (s .ids) (s .lens) out
-  unfolding leftAfter leftOf
+  unfolding restAfter restOf
   under-more s₀ ids lens is short from! full = record {
     done = refl;
     fits = u .fits;
@@ -189,7 +189,7 @@ not-end log at ne = ne-eqb at (length log) ne
 
 -- ---- The last line of a log that is read to its end: the board's clock and its lanes are what is read of them
 
-module _ (s : Stand) (k : Good s) where
+module _ (s : Memory) (k : KnownMemory s) where
   abbrev m : Board.Board
   m = view (s .board) (s .ids) (s .lens)
 
@@ -208,13 +208,13 @@ module _ (s : Stand) (k : Good s) where
   broken-listing log at n ne f = ap brokenLine (sym (broken-at log at true n f)) ∙ sym (listing-broken (reads s) log at true n (not-end log at ne) f)
 
 -- ---- A state from which a piece goes on
-pub read-is : (len : ℕ) (s : State) (ids lens : List ℕ) → Ready len s ids lens → readTo s ≡ s .at
+pub read-is : (len : ℕ) (s : State) (ids lens : List ℕ) → CanGoOn len s ids lens → readTo s ≡ s .at
 read-is len s ids lens r = ap (λ (t : Bool). cond t (s .at) 0) (r .begun)
 
-module _ (log : List ℕ) (s : State) (ids lens : List ℕ) (r : Ready (length log) s ids lens) where
-  pub left-is : leftOf log s ids lens ≡ listingFrom (reads (stand (s .board) ids lens (s .sent))) log (s .at) true
-  unfolding leftOf
-  left-is = ap (λ (t : Bool). cond t (listingFrom (reads (stand (s .board) ids lens (s .sent))) log (s .at) true) (listingOf log)) (r .begun)
+module _ (log : List ℕ) (s : State) (ids lens : List ℕ) (r : CanGoOn (length log) s ids lens) where
+  pub left-is : restOf log s ids lens ≡ listingFrom (reads (memory (s .board) ids lens (s .sent))) log (s .at) true
+  unfolding restOf
+  left-is = ap (λ (t : Bool). cond t (listingFrom (reads (memory (s .board) ids lens (s .sent))) log (s .at) true) (listingOf log)) (r .begun)
 
 -- ---- The first field
 
@@ -237,13 +237,13 @@ unfolding made make
 made-code ids lens l a d e = rw (none-wrong (length ids) (length lens) a d, e) refl
 
 module _ (log : List ℕ) (s : State) (ids lens out : List ℕ) (unread : s .begun ≡ false) where
-  left-whole : leftOf log s ids lens ≡ listingOf log
-  unfolding leftOf
-  left-whole = ap (λ (t : Bool). cond t (listingFrom (reads (stand (s .board) ids lens (s .sent))) log (s .at) true) (listingOf log)) unread
+  left-whole : restOf log s ids lens ≡ listingOf log
+  unfolding restOf
+  left-whole = ap (λ (t : Bool). cond t (listingFrom (reads (memory (s .board) ids lens (s .sent))) log (s .at) true) (listingOf log)) unread
 
   -- no room for a line
   pub first-none : pieceCode (length log) s ids lens ≡ 0 → length out < 64 → PieceDone log s ids lens out (record { code = 0; used = 0; over = false; state = s }) ids lens out
-  unfolding leftAfter
+  unfolding restAfter
   first-none ready h = record { done = refl; fits = omega arith; joined = refl; rest = refl; goesOn = λ e. ready; moves = λ e m. absurd (omega arith) }
 
   -- the listing is one line
@@ -266,7 +266,7 @@ module _ (log : List ℕ) (s : State) (ids lens out : List ℕ) (unread : s .beg
     after-first = record { begun = true; at = next; sent = 0; board = r .board }
 
     pub first-made : PieceDone log s ids lens out (record { code = 0; used = 0; over = false; state = after-first }) ids′ lens′ out
-    unfolding leftAfter leftOf isLong
+    unfolding restAfter restOf isLong
     first-made = record {
       done = refl;
       fits = omega arith;
@@ -318,22 +318,22 @@ module _ (log : List ℕ) (s : State) (ids lens out : List ℕ) (r : Piece) (ids
 
 -- ---- THE PIECES JOINED ARE THE LISTING, for every log
 
-pieces-left : (log : List ℕ) (s : State) (ids lens written : List ℕ) → Pieces log s ids lens written → pieceCode (length log) s ids lens ≡ 0 → written ≡ leftOf log s ids lens
-unfolding leftAfter
-pieces-left log s ids lens written (last out r ids′ lens′ out′ p e) z = sym (append-nil (take (r .used) out′)) ∙ sym (ap (λ (t : Bool). take (r .used) out′ ++ cond t [] (leftOf log (r .state) ids′ lens′)) e) ∙ p .done (p .code ∙ z) .joined
+pieces-left : (log : List ℕ) (s : State) (ids lens written : List ℕ) → Pieces log s ids lens written → pieceCode (length log) s ids lens ≡ 0 → written ≡ restOf log s ids lens
+unfolding restAfter
+pieces-left log s ids lens written (last out r ids′ lens′ out′ p e) z = sym (append-nil (take (r .used) out′)) ∙ sym (ap (λ (t : Bool). take (r .used) out′ ++ cond t [] (restOf log (r .state) ids′ lens′)) e) ∙ p .done (p .code ∙ z) .joined
 pieces-left log s ids lens written (more {written = w} out r ids′ lens′ out′ p e rest) z =
     let d = p .done (p .code ∙ z) in
-    ap (λ (t : List ℕ). take (r .used) out′ ++ t) (pieces-left log (r .state) ids′ lens′ w rest (d .goesOn e)) ∙ sym (ap (λ (t : Bool). take (r .used) out′ ++ cond t [] (leftOf log (r .state) ids′ lens′)) e) ∙ d .joined
+    ap (λ (t : List ℕ). take (r .used) out′ ++ t) (pieces-left log (r .state) ids′ lens′ w rest (d .goesOn e)) ∙ sym (ap (λ (t : Bool). take (r .used) out′ ++ cond t [] (restOf log (r .state) ids′ lens′)) e) ∙ d .joined
 
-pub begins-ready : (log ids lens : List ℕ) → length ids ≡ 2048 → length lens ≡ 2048 → pieceCode (length log) begins ids lens ≡ 0
-begins-ready log ids lens a d = sym (code-unbegun (length log) begins ids lens a d refl)
+pub before-first-ready : (log ids lens : List ℕ) → length ids ≡ 2048 → length lens ≡ 2048 → pieceCode (length log) beforeFirst ids lens ≡ 0
+before-first-ready log ids lens a d = sym (code-unbegun (length log) beforeFirst ids lens a d refl)
 
-begins-left : (log ids lens : List ℕ) → leftOf log begins ids lens ≡ listingOf log
-unfolding leftOf
-begins-left log ids lens = refl
+before-first-left : (log ids lens : List ℕ) → restOf log beforeFirst ids lens ≡ listingOf log
+unfolding restOf
+before-first-left log ids lens = refl
 
-pub pieces-listing : (log ids lens written : List ℕ) → length ids ≡ 2048 → length lens ≡ 2048 → Pieces log begins ids lens written → written ≡ listingOf log
-pieces-listing log ids lens written a d p = pieces-left log begins ids lens written p (begins-ready log ids lens a d) ∙ begins-left log ids lens
+pub pieces-listing : (log ids lens written : List ℕ) → length ids ≡ 2048 → length lens ≡ 2048 → Pieces log beforeFirst ids lens written → written ≡ listingOf log
+pieces-listing log ids lens written a d p = pieces-left log beforeFirst ids lens written p (before-first-ready log ids lens a d) ∙ before-first-left log ids lens
 
 -- and they come to an end: with room for a line in each there are no more of them than the log has bytes, and one
 pieces-within : (log : List ℕ) (s : State) (ids lens written : List ℕ) (p : Pieces log s ids lens written) → Roomy p → pieceCode (length log) s ids lens ≡ 0 → readTo s ≤ length log → readTo s + howMany p ≤ length log + 1
@@ -344,5 +344,5 @@ pieces-within log s ids lens written (more {written = w} out r ids′ lens′ ou
     let n = d .moves e (m .0) in
     omega (arith, pieces-within log (r .state) ids′ lens′ w rest (m .1) (d .goesOn e) (n .1), n .0)
 
-pub pieces-few : (log ids lens written : List ℕ) → length ids ≡ 2048 → length lens ≡ 2048 → (p : Pieces log begins ids lens written) → Roomy p → howMany p ≤ length log + 1
-pieces-few log ids lens written a d p m = omega (arith, pieces-within log begins ids lens written p m (begins-ready log ids lens a d) (omega arith))
+pub pieces-few : (log ids lens written : List ℕ) → length ids ≡ 2048 → length lens ≡ 2048 → (p : Pieces log beforeFirst ids lens written) → Roomy p → howMany p ≤ length log + 1
+pieces-few log ids lens written a d p m = omega (arith, pieces-within log beforeFirst ids lens written p m (before-first-ready log ids lens a d) (omega arith))

@@ -11,7 +11,7 @@ use Rattle.lines.specs.Text.{Line}
 use Rattle.lines.specs.Listing.{outLine, refusedLine}
 use Rattle.engine.specs.declared.After.{After}
 use Rattle.calls.specs.Promises.{Known}
-use Rattle.plays.specs.Listing.{Playing, played, lineOf}
+use Rattle.plays.specs.Listing.{Playing, played, fieldLine}
 
 -- the board whose arrays and numbers these are
 abbrev pub boardNow : List ℕ → List ℕ → List ℕ → List ℕ → List ℕ → List ℕ → List ℕ → List ℕ → List ℕ → List ℕ → ℕ → After → struct.Board
@@ -36,28 +36,28 @@ boardNow numbers shares starts counts deficits ready next heads tails held large
     }
 
 -- what stands between two fields
-pub record Stand : Type 0 where
+pub record Memory : Type 0 where
   pub board : struct.Board
   pub ids : List ℕ
   pub lens : List ℕ
   pub sent : ℕ
 
-abbrev pub stand : struct.Board → List ℕ → List ℕ → ℕ → Stand
-stand board ids lens sent = record { board = board; ids = ids; lens = lens; sent = sent }
+abbrev pub memory : struct.Board → List ℕ → List ℕ → ℕ → Memory
+memory board ids lens sent = record { board = board; ids = ids; lens = lens; sent = sent }
 
 -- as the listing's definition reads it
-abbrev pub reads : Stand → Playing
+abbrev pub reads : Memory → Playing
 reads s = record { board = view (s .board) (s .ids) (s .lens); sent = s .sent }
 
 -- the value is not spoilt, and its tables are whole
-abbrev pub Good : Stand → Type 0
-Good s = Known (s .board) (s .ids) (s .lens)
+abbrev pub KnownMemory : Memory → Type 0
+KnownMemory s = Known (s .board) (s .ids) (s .lens)
 
 -- A field is played: board and bytes sent are what the rules say, and its line is put in front of a buffer.
-pub record Plays (s : Stand) (e : Event) (n : Stand) (before : List ℕ) (count : ℕ) (after : List ℕ) : Type 0 where
-  pub good : Good n
+pub record FieldPlayed (s : Memory) (e : Event) (n : Memory) (before : List ℕ) (count : ℕ) (after : List ℕ) : Type 0 where
+  pub good : KnownMemory n
   pub next : reads n ≡ played (reads s) e
-  pub line : Line before (lineOf (reads s) e) count after
+  pub line : Line before (fieldLine (reads s) e) count after
   pub short : count ≤ 64
   -- no record is charged more, so the sum of the bytes sent never wraps
   pub more : n .sent ≤ s .sent + 65536

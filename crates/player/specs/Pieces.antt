@@ -12,27 +12,27 @@ use Rattle.board.specs.Reading.{encode}
 use Rattle.sound.specs.Test.{soundTest}
 use Rattle.log.specs.Format.{isLong}
 use Rattle.plays.specs.Listing.{listingFrom, listingOf}
-use Rattle.player.specs.Fields.{stand, reads, Good}
+use Rattle.player.specs.Fields.{memory, reads, KnownMemory}
 use Rattle.player.specs.declared.State.{State}
 use Rattle.player.specs.declared.Piece.{Piece}
 
 -- before the first piece: L has not been read, and there is no board yet
-abbrev pub begins : State
-begins = record { begun = false; at = 0; sent = 0; board = encode (fresh 0) }
+abbrev pub beforeFirst : State
+beforeFirst = record { begun = false; at = 0; sent = 0; board = encode (fresh 0) }
 
 -- the offset up to which the log has been read
 abbrev pub readTo : State → ℕ
 readTo s = cond (s .begun) (s .at) 0
 
 -- what of the listing is still to be written
-unfoldable pub leftOf : List ℕ → State → List ℕ → List ℕ → List ℕ
-leftOf log s ids lens = cond (s .begun) (listingFrom (reads (stand (s .board) ids lens (s .sent))) log (s .at) true) (listingOf log)
+unfoldable pub restOf : List ℕ → State → List ℕ → List ℕ → List ℕ
+restOf log s ids lens = cond (s .begun) (listingFrom (reads (memory (s .board) ids lens (s .sent))) log (s .at) true) (listingOf log)
 
 -- the same after a piece; after the last one nothing
-unfoldable pub leftAfter : List ℕ → Piece → List ℕ → List ℕ → List ℕ
-leftAfter log r ids lens = cond (r .over) [] (leftOf log (r .state) ids lens)
+unfoldable pub restAfter : List ℕ → Piece → List ℕ → List ℕ → List ℕ
+restAfter log r ids lens = cond (r .over) [] (restOf log (r .state) ids lens)
 
--- A table of another length is 3. A state that no piece of such a log leaves is 2: a spoilt board, or more bytes sent than 65,536 for each byte read.
+-- A table of another length is 3. After L, a long log, bytes sent of which there are too many for the offset, or a spoilt board is 2: no piece leaves such a state.
 abbrev pub unfit : ℕ → State → List ℕ → List ℕ → Bool
 unfit len s ids lens = isLong len || (ltb (s .at) (s .sent / 65536) || not (soundTest (s .board) ids lens))
 
@@ -40,11 +40,11 @@ unfoldable pub pieceCode : ℕ → State → List ℕ → List ℕ → ℕ
 pieceCode len s ids lens = cond (wrongTables (length ids) (length lens)) 3 (cond (s .begun) (cond (unfit len s ids lens) 2 0) 0)
 
 -- what is known of a state from which a piece goes on after L
-pub record Ready (len : ℕ) (s : State) (ids lens : List ℕ) : Type 0 where
+pub record CanGoOn (len : ℕ) (s : State) (ids lens : List ℕ) : Type 0 where
   pub begun : s .begun ≡ true
   pub short : isLong len ≡ false
   pub few : s .sent / 65536 ≤ s .at
-  pub good : Good (stand (s .board) ids lens (s .sent))
+  pub good : KnownMemory (memory (s .board) ids lens (s .sent))
 
 -- A refusal writes nothing and gives the state back.
 abbrev pub refusedPiece : ℕ → State → Piece
@@ -58,7 +58,7 @@ endedPiece used s = record { code = 0; used = used; over = true; state = s }
 pub record PieceDone (log : List ℕ) (s : State) (ids lens out : List ℕ) (r : Piece) (ids′ lens′ out′ : List ℕ) : Type 0 where
   pub done : r .code ≡ 0
   pub fits : r .used ≤ length out
-  pub joined : take (r .used) out′ ++ leftAfter log r ids′ lens′ ≡ leftOf log s ids lens
+  pub joined : take (r .used) out′ ++ restAfter log r ids′ lens′ ≡ restOf log s ids lens
   pub rest : drop (r .used) out′ ≡ drop (r .used) out
   -- the next piece is not refused, and with room for a line every piece reads on within the log
   pub goesOn : r .over ≡ false → pieceCode (length log) (r .state) ids′ lens′ ≡ 0

@@ -8,8 +8,8 @@ ghost use Rattle.log.specs.declared.Event.the-variants.{Serve};
 ghost use Rattle.lines.specs.Text.{Line, Written};
 ghost use Rattle.engine.specs.Opening.{totalOf};
 ghost use Rattle.engine.specs.Serving.{numbersNow};
-ghost use Rattle.player.specs.Fields.{boardNow, stand, Good, Plays, shownLine};
-ghost use Rattle.player.specs.Pieces.{begins, pieceCode, Ready, endedPiece, PieceDone, PieceOf};
+ghost use Rattle.player.specs.Fields.{boardNow, memory, KnownMemory, FieldPlayed, shownLine};
+ghost use Rattle.player.specs.Pieces.{beforeFirst, pieceCode, CanGoOn, endedPiece, PieceDone, PieceOf};
 use board::Board;
 use log::Event;
 use log::Field;
@@ -24,7 +24,8 @@ pub struct State {
     pub board: Board,
 }
 
-// A piece of a listing: the code of a refusal, or 0; how many bytes were written; whether it was the last; and where the next one goes on.
+// A piece of a listing: the code of a refusal, or 0; how many bytes were written; whether it was the last, as a refusal is; and the state to go on from,
+// which after the last is the one given.
 pub struct Piece {
     pub code: u8,
     pub used: usize,
@@ -36,7 +37,7 @@ pub struct Piece {
 
 // What a field leaves besides the arrays: the length of its line, the bytes sent so far, and the board's numbers.
 struct Moved {
-    line: usize,
+    shown: usize,
     sent: u64,
     clock: u64,
     active: u32,
@@ -44,9 +45,6 @@ struct Moved {
     slot: u8,
     left: Parts,
 }
-
-// More bytes than any record is charged.
-const ANY_LENGTH: u64 = 65536;
 
 // The line of a serve: what was sent, or the code of a refusal.
 fn show_serve(
@@ -91,11 +89,11 @@ fn play_serve(
     lens: &[u16],
     line: &mut [u8; 64],
 ) -> Moved
-    requires { ⌜ Good (stand (boardNow (now numbers) (now shares) (now starts) (now counts) (now deficits) (now ready) (now next) (now heads) (now tails) (now held) largest (numbersNow clock active pending slot (left .0))) (now ids) (now lens) sent) × (sent < 2 ^ 63) ⌝ }
-    ensures { λ r. ⌜ Plays (stand (boardNow (now (numbers .entry)) (now (shares .entry)) (now (starts .entry)) (now (counts .entry)) (now (deficits .entry)) (now (ready .entry)) (now (next .entry)) (now (heads .entry)) (now (tails .entry)) (now (held .entry)) largest (numbersNow clock active pending slot (left .0))) (now (ids .entry)) (now (lens .entry)) sent) Serve (stand (boardNow (now (numbers .entry)) (now (shares .entry)) (now (starts .exit)) (now (counts .exit)) (now (deficits .exit)) (now (ready .exit)) (now (next .exit)) (now (heads .exit)) (now (tails .exit)) (now (held .exit)) largest (numbersNow (r .clock) (r .active) (r .pending) (r .slot) (r .left .0))) (now (ids .entry)) (now (lens .entry)) (r .sent)) (now (line .entry)) (r .line) (now (line .exit)) ⌝ }
+    requires { ⌜ KnownMemory (memory (boardNow (now numbers) (now shares) (now starts) (now counts) (now deficits) (now ready) (now next) (now heads) (now tails) (now held) largest (numbersNow clock active pending slot (left .0))) (now ids) (now lens) sent) × (sent < 2 ^ 63) ⌝ }
+    ensures { λ r. ⌜ FieldPlayed (memory (boardNow (now (numbers .entry)) (now (shares .entry)) (now (starts .entry)) (now (counts .entry)) (now (deficits .entry)) (now (ready .entry)) (now (next .entry)) (now (heads .entry)) (now (tails .entry)) (now (held .entry)) largest (numbersNow clock active pending slot (left .0))) (now (ids .entry)) (now (lens .entry)) sent) Serve (memory (boardNow (now (numbers .entry)) (now (shares .entry)) (now (starts .exit)) (now (counts .exit)) (now (deficits .exit)) (now (ready .exit)) (now (next .exit)) (now (heads .exit)) (now (tails .exit)) (now (held .exit)) largest (numbersNow (r .clock) (r .active) (r .pending) (r .slot) (r .left .0))) (now (ids .entry)) (now (lens .entry)) (r .sent)) (now (line .entry)) (r .shown) (now (line .exit)) ⌝ }
 {
     let s = engine::serve_within(
-        Bytes(ANY_LENGTH),
+        Bytes(engine::ANY_LENGTH),
         1,
         clock,
         active,
@@ -118,7 +116,7 @@ fn play_serve(
     let charge = s.bytes;
     let rest = s.left;
     Moved {
-        line: shown,
+        shown: shown,
         sent: sent + charge.0,
         clock: s.clock,
         active: s.active,
@@ -152,11 +150,11 @@ fn play_field(
     lens: &mut [u16],
     line: &mut [u8; 64],
 ) -> Moved
-    requires { ⌜ Good (stand (boardNow (now numbers) (now shares) (now starts) (now counts) (now deficits) (now ready) (now next) (now heads) (now tails) (now held) largest (numbersNow clock active pending slot (left .0))) (now ids) (now lens) sent) × ((sent < 2 ^ 63) × (inTurn event true ≡ true)) ⌝ }
-    ensures { λ r. ⌜ Plays (stand (boardNow (now (numbers .entry)) (now (shares .entry)) (now (starts .entry)) (now (counts .entry)) (now (deficits .entry)) (now (ready .entry)) (now (next .entry)) (now (heads .entry)) (now (tails .entry)) (now (held .entry)) largest (numbersNow clock active pending slot (left .0))) (now (ids .entry)) (now (lens .entry)) sent) event (stand (boardNow (now (numbers .exit)) (now (shares .exit)) (now (starts .exit)) (now (counts .exit)) (now (deficits .exit)) (now (ready .exit)) (now (next .exit)) (now (heads .exit)) (now (tails .exit)) (now (held .exit)) largest (numbersNow (r .clock) (r .active) (r .pending) (r .slot) (r .left .0))) (now (ids .exit)) (now (lens .exit)) (r .sent)) (now (line .entry)) (r .line) (now (line .exit)) ⌝ }
+    requires { ⌜ KnownMemory (memory (boardNow (now numbers) (now shares) (now starts) (now counts) (now deficits) (now ready) (now next) (now heads) (now tails) (now held) largest (numbersNow clock active pending slot (left .0))) (now ids) (now lens) sent) × ((sent < 2 ^ 63) × (inTurn event true ≡ true)) ⌝ }
+    ensures { λ r. ⌜ FieldPlayed (memory (boardNow (now (numbers .entry)) (now (shares .entry)) (now (starts .entry)) (now (counts .entry)) (now (deficits .entry)) (now (ready .entry)) (now (next .entry)) (now (heads .entry)) (now (tails .entry)) (now (held .entry)) largest (numbersNow clock active pending slot (left .0))) (now (ids .entry)) (now (lens .entry)) sent) event (memory (boardNow (now (numbers .exit)) (now (shares .exit)) (now (starts .exit)) (now (counts .exit)) (now (deficits .exit)) (now (ready .exit)) (now (next .exit)) (now (heads .exit)) (now (tails .exit)) (now (held .exit)) largest (numbersNow (r .clock) (r .active) (r .pending) (r .slot) (r .left .0))) (now (ids .exit)) (now (lens .exit)) (r .sent)) (now (line .entry)) (r .shown) (now (line .exit)) ⌝ }
 {
     let mut shown: usize = 0;
-    let mut waiting = active;
+    let mut set = active;
     match event {
         Event::Open(block, share) => {
             let code = engine::open_in(block, share, numbers, shares, held);
@@ -189,7 +187,7 @@ fn play_field(
                 ids,
                 lens,
             );
-            waiting = took.active;
+            set = took.active;
             shown = lines::put_in(line, number, took.code);
         }
         Event::Serve => {
@@ -216,14 +214,15 @@ fn play_field(
                 line,
             );
         }
+        // A field that is passed over gives no line, and L is not read twice.
         Event::Passed => {}
         Event::Largest(_) => {}
     }
     Moved {
-        line: shown,
+        shown: shown,
         sent: sent,
         clock: clock,
-        active: waiting,
+        active: set,
         pending: pending,
         slot: slot,
         left: left,
@@ -254,7 +253,7 @@ fn waiting(counts: &[u8; 64]) -> u32
 }
 
 // The first bytes of a text are put behind what is written; the answer is where they end.
-fn put_front(out: &mut [u8], used: usize, text: &[u8], count: usize) -> usize
+fn append_front(out: &mut [u8], used: usize, text: &[u8], count: usize) -> usize
     requires { ⌜ (count ≤ length (now text)) × (used + count ≤ length (now out)) ⌝ }
     ensures { λ r. ⌜ Written (now (out .entry)) used (take count (now (text .entry))) r (now (out .exit)) ⌝ }
 {
@@ -266,12 +265,12 @@ fn append(out: &mut [u8], used: usize, line: &[u8; 64], count: usize) -> usize
     requires { ⌜ (count ≤ 64) × (used + count ≤ length (now out)) ⌝ }
     ensures { λ r. ⌜ Written (now (out .entry)) used (take count (now (line .entry))) r (now (out .exit)) ⌝ }
 {
-    put_front(out, used, line, count)
+    append_front(out, used, line, count)
 }
 
-// Whether a piece may go on from a state: 3 for the tables, 2 for a state that no piece of such a log leaves.
+// Whether a piece may go on from a state: 3 for the tables, 2 for a log, a sum or a board with which no piece leaves one.
 fn unready(len: usize, ids: &[u32], lens: &[u16], s: State) -> u8
-    ensures { λ r. ⌜ (r ≡ pieceCode len s (now (ids .entry)) (now (lens .entry))) × (r ≡ 0 → s .begun ≡ true → Ready len s (now (ids .entry)) (now (lens .entry))) ⌝ }
+    ensures { λ r. ⌜ (r ≡ pieceCode len s (now (ids .entry)) (now (lens .entry))) × (r ≡ 0 → s .begun ≡ true → CanGoOn len s (now (ids .entry)) (now (lens .entry))) ⌝ }
 {
     if ids.len() != 2048 {
         return 3;
@@ -305,7 +304,7 @@ fn last_piece(used: usize, s: State) -> Piece
 
 // The fields after L in turn, as long as there is room for a line, and then the last line.
 fn next_piece(log: &[u8], ids: &mut [u32], lens: &mut [u16], out: &mut [u8], s: State) -> Piece
-    requires { ⌜ Ready (length (now log)) s (now ids) (now lens) ⌝ }
+    requires { ⌜ CanGoOn (length (now log)) s (now ids) (now lens) ⌝ }
     ensures { λ r. ⌜ PieceDone (now (log .entry)) s (now (ids .entry)) (now (lens .entry)) (now (out .entry)) r (now (ids .exit)) (now (lens .exit)) (now (out .exit)) ⌝ }
 {
     let b = s.board;
@@ -361,8 +360,8 @@ fn next_piece(log: &[u8], ids: &mut [u32], lens: &mut [u16], out: &mut [u8], s: 
             };
         }
         if at == log.len() {
-            let count = lines::put_end(&mut line, clock, sent, waiting(&counts));
-            let end = append(out, used, &line, count);
+            let last = lines::put_end(&mut line, clock, sent, waiting(&counts));
+            let end = append(out, used, &line, last);
             return last_piece(end, s);
         }
         let Field::Whole(event, on) = log::field_at(log, at, true) else {
@@ -393,7 +392,7 @@ fn next_piece(log: &[u8], ids: &mut [u32], lens: &mut [u16], out: &mut [u8], s: 
             lens,
             &mut line,
         );
-        used = append(out, used, &line, moved.line);
+        used = append(out, used, &line, moved.shown);
         at = on;
         sent = moved.sent;
         clock = moved.clock;
@@ -429,6 +428,7 @@ fn first_piece(log: &[u8], ids: &mut [u32], lens: &mut [u16], out: &mut [u8], s:
         let end = append(out, 0, &line, count);
         return last_piece(end, s);
     };
+    // No other field is whole before L, so this is never taken.
     let Event::Largest(largest) = event else {
         return last_piece(0, s);
     };
@@ -466,9 +466,9 @@ pub fn list_piece(log: &[u8], ids: &mut [u32], lens: &mut [u16], out: &mut [u8],
     first_piece(log, ids, lens, out, s)
 }
 
-// Where a listing begins: L has not been read, and there is no board yet.
+// Where a listing beforeFirst: L has not been read, and there is no board yet.
 pub fn begin() -> State
-    ensures { λ r. ⌜ r ≡ begins ⌝ }
+    ensures { λ r. ⌜ r ≡ beforeFirst ⌝ }
 {
     State {
         begun: false,

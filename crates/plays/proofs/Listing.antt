@@ -12,7 +12,7 @@ use Rattle.log.specs.Format.{fieldAt, isLong}
 use Rattle.log.specs.Rows.{Reading, atEnd, readLog}
 use Rattle.log.proofs.Readings.{read-end, read-whole, read-broken, long-log}
 use Rattle.lines.specs.Listing.{endLine, brokenLine, longLine}
-use Rattle.plays.specs.Listing.{Playing, unmade, played, lineOf, waiting, linesOf, listingFrom, listingOf}
+use Rattle.plays.specs.Listing.{Playing, unmade, played, fieldLine, waiting, linesOf, listingFrom, listingOf}
 
 -- the listing of a reading
 abbrev listed : Playing → Reading → List ℕ
@@ -20,7 +20,7 @@ listed p r = linesOf p (r .fields) (r .ends)
 
 -- a whole field gives its line, and the listing goes on from its end
 pub listing-whole : (p : Playing) (log : List ℕ) (at : ℕ) (begun : Bool) (e : Event) (next : ℕ) → fieldAt log at begun ≡ Whole e next
-    → listingFrom p log at begun ≡ lineOf p e ++ listingFrom (played p e) log next true
+    → listingFrom p log at begun ≡ fieldLine p e ++ listingFrom (played p e) log next true
 unfolding linesOf
 listing-whole p log at begun e next h = ap (listed p) (read-whole log at begun e next h)
 

@@ -35,7 +35,7 @@ played p (Arrive block number bytes) = after p (record! block (record { number =
 played p Serve = after p serve!
 played p Passed = p
 
--- A serve that is done shows block, record, length and the slot's clock; a refused one its code.
+-- A serve that is done shows block, record, length and the slot's clock; a refused one its code. (The other answers are not a serve's.)
 abbrev pub servedLine : Answer → List ℕ
 servedLine (gives code) = refusedLine code
 servedLine (takes a) = refusedLine (a .code)
@@ -43,14 +43,14 @@ servedLine (sends s) = outLine (s .block) (s .number) (s .bytes) (s .clock)
 servedLine (bursts r) = refusedLine (r .code)
 
 -- The line that a field gives; L and what is passed over give none.
-abbrev pub lineOf : Playing → Event → List ℕ
-lineOf p (Largest l) = []
-lineOf p (Open block share) = openLine block (codeOf (answer (p .board) (open! block share)))
-lineOf p (Close block) = closeLine block (codeOf (answer (p .board) (close! block)))
-lineOf p (Rename old new) = nameLine old new (codeOf (answer (p .board) (rename! old new)))
-lineOf p (Arrive block number bytes) = inLine number (codeOf (answer (p .board) (record! block (record { number = number; bytes = bytes }))))
-lineOf p Serve = servedLine (answer (p .board) serve!)
-lineOf p Passed = []
+abbrev pub fieldLine : Playing → Event → List ℕ
+fieldLine p (Largest l) = []
+fieldLine p (Open block share) = openLine block (codeOf (answer (p .board) (open! block share)))
+fieldLine p (Close block) = closeLine block (codeOf (answer (p .board) (close! block)))
+fieldLine p (Rename old new) = nameLine old new (codeOf (answer (p .board) (rename! old new)))
+fieldLine p (Arrive block number bytes) = inLine number (codeOf (answer (p .board) (record! block (record { number = number; bytes = bytes }))))
+fieldLine p Serve = servedLine (answer (p .board) serve!)
+fieldLine p Passed = []
 
 -- `end` shows clock, bytes sent and records waiting.
 abbrev pub waiting : Board → ℕ
@@ -64,7 +64,7 @@ lastLine p long = longLine
 -- The fields in turn, and then the last line.
 unfoldable pub linesOf : Playing → List WholeField → End → List ℕ
 linesOf p [] e = lastLine p e
-linesOf p (f ∷ fs) e = lineOf p (f .event) ++ linesOf (played p (f .event)) fs e
+linesOf p (f ∷ fs) e = fieldLine p (f .event) ++ linesOf (played p (f .event)) fs e
 
 -- the listing of what follows an offset
 abbrev pub listingFrom : Playing → List ℕ → ℕ → Bool → List ℕ

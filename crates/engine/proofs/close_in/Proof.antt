@@ -31,7 +31,7 @@ element-copy-out-hold-in : tie.Need-element-copy-out-hold-in
 element-copy-out-hold-in c = found-in _ _ _ (c .before .before .before .find .ensures) (c .before .before .if2 .left)
 
 hold-in-requires : tie.Need-hold-in-requires
-hold-in-requires c κs = (found-bought (now (c .before .before .before .before .before .before .before .before .args .numbers)) (now (c .before .before .before .before .before .before .before .before .args .shares)) (c .before .before .before .before .before .before .before .before .args .number) (c .before .before .before .before .before .find .result) (c .before .before .before .before .before .find .ensures) (c .before .before .before .before .before .before .before .if1 .left) (c .before .before .before .before .if2 .left) (c .before .before .before .before .before .before .before .before .pre .low), (c .before .before .before .before .before .before .before .before .pre .high _, c .before .before .before .before .before .before .before .before .pre .most))
+hold-in-requires c κs = (found-bought (now (c .before .before .before .before .before .before .before .before .args .numbers)) (now (c .before .before .before .before .before .before .before .before .args .shares)) (c .before .before .before .before .before .before .before .before .args .block) (c .before .before .before .before .before .find .result) (c .before .before .before .before .before .find .ensures) (c .before .before .before .before .before .before .before .if1 .left) (c .before .before .before .before .if2 .left) (c .before .before .before .before .before .before .before .before .pre .low), (c .before .before .before .before .before .before .before .before .pre .high _, c .before .before .before .before .before .before .before .before .pre .most))
 
 mul-numbers : tie.Need-mul-numbers
 mul-numbers c = let h = found-in _ _ _ (c .before .before .before .before .before .before .find .ensures) (c .before .before .before .before .before .if2 .left) in search needs

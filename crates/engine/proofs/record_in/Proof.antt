@@ -60,7 +60,7 @@ slice-write-lens : tie.Need-slice-write-lens
 slice-write-lens c = let h = found-in _ _ _ (c .before .before .before .before .find .ensures) (c .before .before .before .if2 .left) in let s = c .before .before .before .before .before .before .before .before .before .pre .ring (c .before .before .before .before .find .result) in let a = c .before .before .before .before .before .before .before .before .before .pre .lens-all in omega arith
 
 take-in-requires : tie.Need-take-in-requires
-take-in-requires c κs = record { place = found-in _ _ _ (c .before .before .before .before .before .before .before .before .before .find .ensures) (c .before .before .before .before .before .before .before .before .if2 .left); room = c .before .before .before .before .before .before .if3 .left; low = found-bought (now (c .before .before .before .before .before .before .before .before .before .before .before .before .before .before .args .numbers)) (now (c .before .before .before .before .before .before .before .before .before .before .before .before .before .before .args .shares)) (c .before .before .before .before .before .before .before .before .before .before .before .before .before .before .args .number) (c .before .before .before .before .before .before .before .before .before .find .result) (c .before .before .before .before .before .before .before .before .before .find .ensures) (not-zeroth _ _ (sym (c .before .before .before .before .before .before .before .before .before .before .before .outside .ensures) ∙ c .before .before .before .before .before .before .before .before .before .before .if1 .left)) (c .before .before .before .before .before .before .before .before .if2 .left) (c .before .before .before .before .before .before .before .before .before .before .before .before .before .before .pre .low); high = c .before .before .before .before .before .before .before .before .before .before .before .before .before .before .pre .high _; time = c .before .before .before .before .before .before .before .before .before .before .before .before .before .before .pre .time; last = c .before .before .before .before .before .before .before .before .before .before .before .before .before .before .pre .last }
+take-in-requires c κs = record { place = found-in _ _ _ (c .before .before .before .before .before .before .before .before .before .find .ensures) (c .before .before .before .before .before .before .before .before .if2 .left); room = c .before .before .before .before .before .before .if3 .left; low = found-bought (now (c .before .before .before .before .before .before .before .before .before .before .before .before .before .before .args .numbers)) (now (c .before .before .before .before .before .before .before .before .before .before .before .before .before .before .args .shares)) (c .before .before .before .before .before .before .before .before .before .before .before .before .before .before .args .block) (c .before .before .before .before .before .before .before .before .before .find .result) (c .before .before .before .before .before .before .before .before .before .find .ensures) (not-zeroth _ _ (sym (c .before .before .before .before .before .before .before .before .before .before .before .outside .ensures) ∙ c .before .before .before .before .before .before .before .before .before .before .if1 .left)) (c .before .before .before .before .before .before .before .before .if2 .left) (c .before .before .before .before .before .before .before .before .before .before .before .before .before .before .pre .low); high = c .before .before .before .before .before .before .before .before .before .before .before .before .before .before .pre .high _; time = c .before .before .before .before .before .before .before .before .before .before .before .before .before .before .pre .time; last = c .before .before .before .before .before .before .before .before .before .before .before .before .before .before .pre .last }
 
 same-length : tie.Need-same-length
 same-length c = search needs

@@ -1,12 +1,12 @@
 -- `listing::write_listing` is safe and ends. From piece to piece the state is not refused, and the rest of the log gets shorter. Assumes nothing.
 use denote.Ref.{now}
-use lib.ListN.{replicate, length}
 use mathlib.Core.Path.{_≡_, sym, _∙_}
 use Prim.Native.Nat.{_-_, _≤_}
 use native.Mathlib.Omega.{arith}
+use lib.ListN.{length, replicate}
 use lib.Seq.{length-take-le}
 use Rattle.player.specs.Pieces.{readTo, pieceCode}
-use Rattle.player.proofs.Pieces.{begins-ready, piece-fits, piece-next, piece-moves}
+use Rattle.player.proofs.Pieces.{before-first-ready, piece-fits, piece-next, piece-moves}
 use borrow.Author.Needs.{needs}
 use Rattle.listing.proofs.write_listing.Statement.{statement}
 use Rattle.listing.proofs.write_listing.Tie as tie
@@ -21,7 +21,7 @@ begin-requires : tie.Need-begin-requires Inv-loop μ-loop
 begin-requires c κs = search needs
 
 loop-holds : tie.Need-loop-holds Inv-loop μ-loop
-loop-holds c = (search needs, (search needs, (search needs, (rw (c .begin .ensures) (begins-ready (now (c .before .before .args .log)) (replicate 2048 0) (replicate 2048 0) (search needs) (search needs)), rw (c .begin .ensures) (omega arith)))))
+loop-holds c = (search needs, (search needs, (search needs, (rw (c .begin .ensures) (before-first-ready (now (c .before .before .args .log)) (replicate 2048 0) (replicate 2048 0) (search needs) (search needs)), rw (c .begin .ensures) (omega arith)))))
 
 slice-aggregate-list-piece : tie.Need-slice-aggregate-list-piece Inv-loop μ-loop
 slice-aggregate-list-piece c = sym (c .before .loop .inv .0)
@@ -47,11 +47,14 @@ write-all-requires c κs = search needs
 returns : tie.Need-returns Inv-loop μ-loop
 returns c = tt
 
+returns-2 : tie.Need-returns-2 Inv-loop μ-loop
+returns-2 c = tt
+
 loop-less : tie.Need-loop-less Inv-loop μ-loop
-loop-less c = let m = piece-moves _ _ _ _ _ _ _ _ _ (c .before .before .before .before .before .before .before .list-piece .ensures) (c .before .before .before .before .before .before .before .before .before .before .before .loop .inv .1 .1 .1 .0) (c .before .if1 .left) (omega (arith, c .before .before .before .before .before .before .before .before .before .before .before .loop .inv .1 .1 .0)) in omega (arith, m .0, m .1)
+loop-less c = let m = piece-moves _ _ _ _ _ _ _ _ _ (c .before .before .before .before .before .before .before .before .list-piece .ensures) (c .before .before .before .before .before .before .before .before .before .before .before .before .loop .inv .1 .1 .1 .0) (c .before .if2 .left) (omega (arith, c .before .before .before .before .before .before .before .before .before .before .before .before .loop .inv .1 .1 .0)) in omega (arith, m .0, m .1)
 
 loop-again : tie.Need-loop-again Inv-loop μ-loop
-loop-again c = let m = piece-moves _ _ _ _ _ _ _ _ _ (c .before .before .before .before .before .before .before .list-piece .ensures) (c .before .before .before .before .before .before .before .before .before .before .before .loop .inv .1 .1 .1 .0) (c .before .if1 .left) (omega (arith, c .before .before .before .before .before .before .before .before .before .before .before .loop .inv .1 .1 .0)) in (c .before .before .before .before .before .before .before .list-piece .kept .1 .0 ∙ c .before .before .before .before .before .before .before .before .before .before .before .loop .inv .0, (c .before .before .before .before .before .before .before .list-piece .kept .1 .1 .0 ∙ c .before .before .before .before .before .before .before .before .before .before .before .loop .inv .1 .0, (c .before .before .before .before .before .before .before .list-piece .kept .1 .1 .1 .0 ∙ c .before .before .before .before .before .before .before .before .before .before .before .loop .inv .1 .1 .0, (piece-next _ _ _ _ _ _ _ _ _ (c .before .before .before .before .before .before .before .list-piece .ensures) (c .before .before .before .before .before .before .before .before .before .before .before .loop .inv .1 .1 .1 .0) (c .before .if1 .left), m .1))))
+loop-again c = let m = piece-moves _ _ _ _ _ _ _ _ _ (c .before .before .before .before .before .before .before .before .list-piece .ensures) (c .before .before .before .before .before .before .before .before .before .before .before .before .loop .inv .1 .1 .1 .0) (c .before .if2 .left) (omega (arith, c .before .before .before .before .before .before .before .before .before .before .before .before .loop .inv .1 .1 .0)) in (c .before .before .before .before .before .before .before .before .list-piece .kept .1 .0 ∙ c .before .before .before .before .before .before .before .before .before .before .before .before .loop .inv .0, (c .before .before .before .before .before .before .before .before .list-piece .kept .1 .1 .0 ∙ c .before .before .before .before .before .before .before .before .before .before .before .before .loop .inv .1 .0, (c .before .before .before .before .before .before .before .before .list-piece .kept .1 .1 .1 .0 ∙ c .before .before .before .before .before .before .before .before .before .before .before .before .loop .inv .1 .1 .0, (piece-next _ _ _ _ _ _ _ _ _ (c .before .before .before .before .before .before .before .before .list-piece .ensures) (c .before .before .before .before .before .before .before .before .before .before .before .before .loop .inv .1 .1 .1 .0) (c .before .if2 .left), m .1))))
 
 pub write-listing-spec : {M : Type 1} → statement M
 write-listing-spec =
@@ -69,5 +72,6 @@ write-listing-spec =
     slice-aggregate-write-all
     write-all-requires
     returns
+    returns-2
     loop-less
     loop-again)

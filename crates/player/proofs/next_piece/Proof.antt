@@ -7,7 +7,7 @@ use lib.ListN.{length}
 use Rattle.log.proofs.Fields.{whole-is, whole-next}
 use Rattle.engine.specs.Serving.{numbersNow}
 use Rattle.plays.specs.Listing.{listingFrom}
-use Rattle.player.specs.Fields.{boardNow, stand, reads}
+use Rattle.player.specs.Fields.{boardNow, memory, reads}
 use Rattle.player.proofs.Pieces.{UnderWay, under-first, under-room, under-fits, under-small, under-next, under-last, under-more, end-listing, broken-listing, left-is, read-is}
 use borrow.Author.Needs.{needs}
 use Rattle.player.proofs.next_piece.Statement.{statement}
@@ -15,7 +15,7 @@ use Rattle.player.proofs.next_piece.Tie as tie
 
 abbrev Inv-loop : tie.InvT-loop
 Inv-loop log ids₀ lens₀ out₀ s b numbers₀ shares₀ starts₀ counts₀ deficits₀ ready₀ next₀ heads₀ tails₀ held₀ clock₀ active₀ pending₀ slot₀ left₀ at₀ sent₀ used₀ line₀ ids lens out numbers shares starts counts deficits ready next heads tails held clock active pending slot left at sent used line =
-    UnderWay log (listingFrom (reads (stand (s .board) ids₀ lens₀ (s .sent))) log (s .at) true) (s .at) out₀ (stand (boardNow numbers shares starts counts deficits ready next heads tails held (b .largest) (numbersNow clock active pending slot (left .0))) ids lens sent) at used out
+    UnderWay log (listingFrom (reads (memory (s .board) ids₀ lens₀ (s .sent))) log (s .at) true) (s .at) out₀ (memory (boardNow numbers shares starts counts deficits ready next heads tails held (b .largest) (numbersNow clock active pending slot (left .0))) ids lens sent) at used out
 
 abbrev μ-loop : tie.MeasureT-loop
 μ-loop log ids₀ lens₀ out₀ s b numbers₀ shares₀ starts₀ counts₀ deficits₀ ready₀ next₀ heads₀ tails₀ held₀ clock₀ active₀ pending₀ slot₀ left₀ at₀ sent₀ used₀ line₀ ids lens out numbers shares starts counts deficits ready next heads tails held clock active pending slot left at sent used line =

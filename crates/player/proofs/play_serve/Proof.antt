@@ -1,5 +1,5 @@
 -- `player::play_serve` meets its contract. A serve is one with room for a record and bytes for any. Assumes nothing.
-use Rattle.player.specs.Fields.{stand}
+use Rattle.player.specs.Fields.{memory}
 use mathlib.Core.List.{[]}
 use native.Mathlib.Omega.{arith}
 use Rattle.calls.proofs.Promises.{can-known, sent-index}
@@ -14,7 +14,7 @@ show-serve-requires : tie.Need-show-serve-requires
 show-serve-requires c κs = (c .before .before .before .before .before .before .before .before .before .before .before .before .pre .0 .ids-all, (c .before .before .before .before .before .before .before .before .before .before .before .before .pre .0 .lens-all, sent-index _ _ _ (c .before .before .before .before .before .before .before .before .before .before .before .before .pre .0) _ _ _ (c .before .serve-within .ensures)))
 
 add-t35 : tie.Need-add-t35
-add-t35 c = omega (arith, serve-small (stand _ _ _ 0) (c .before .before .before .before .before .before .before .before .before .before .before .before .before .before .before .before .pre .0) [] 0 [] (omega arith) _ (c .before .before .before .before .before .serve-within .ensures), c .before .before .before .before .before .before .before .before .before .before .before .before .before .before .before .before .pre .1)
+add-t35 c = omega (arith, serve-small (memory _ _ _ 0) (c .before .before .before .before .before .before .before .before .before .before .before .before .before .before .before .before .pre .0) [] 0 [] (omega arith) _ (c .before .before .before .before .before .serve-within .ensures), c .before .before .before .before .before .before .before .before .before .before .before .before .before .before .before .before .pre .1)
 
 returns : tie.Need-returns
 returns c = serve-plays _ (c .before .before .before .before .before .before .before .before .before .before .before .before .before .before .before .before .pre .0) _ _ _ (c .before .before .before .show-serve .ensures .1) _ (c .before .before .before .before .before .serve-within .ensures) (c .before .before .before .show-serve .ensures .0)

@@ -1,11 +1,11 @@
--- `player::put_front` meets its contract. The piece of the text is as long as its count. Assumes nothing.
+-- `player::append_front` meets its contract. The piece of the text is as long as its count. Assumes nothing.
 use denote.Ref.{now}
 use lib.Seq.{length-take-le}
 use mathlib.Core.Path.{sym}
 use native.Mathlib.Omega.{arith}
 use borrow.Author.Needs.{needs}
-use Rattle.player.proofs.put_front.Statement.{statement}
-use Rattle.player.proofs.put_front.Tie as tie
+use Rattle.player.proofs.append_front.Statement.{statement}
+use Rattle.player.proofs.append_front.Tie as tie
 
 slice-aggregate-put-text : tie.Need-slice-aggregate-put-text
 slice-aggregate-put-text c = sym (length-take-le _ _ (c .before .before .before .before .pre .0))
@@ -19,5 +19,5 @@ same-length c = search needs
 returns : tie.Need-returns
 returns c = search needs
 
-pub put-front-spec : {M : Type 1} → statement M
-put-front-spec = tie.close (tie.spec slice-aggregate-put-text put-text-requires same-length returns)
+pub append-front-spec : {M : Type 1} → statement M
+append-front-spec = tie.close (tie.spec slice-aggregate-put-text put-text-requires same-length returns)
