@@ -1,0 +1,98 @@
+-- `exports::box_listing` meets its contract. What is written up to a piece, and what is left, is the listing; the rest of the log gets shorter. Assumes nothing.
+use denote.Ref.{now}
+use borrow.Author.Needs.{needs}
+use native.Mathlib.Omega.{arith}
+use mathlib.Core.Path.{refl, sym, _∙_}
+use Prim.Native.Nat.{_-_}
+use lib.ListN.{length, replicate}
+use lib.Seq.{length-take-le}
+use Rattle.player.specs.Pieces.{readTo}
+use Rattle.player.proofs.Pieces.{before-first-ready, piece-fits, piece-next, piece-moves}
+use Rattle.exports.proofs.Whole.{Going, nothing-yet, no-room, too-long, piece-room, one-more, all-written}
+use Rattle.exports.proofs.box_listing.Statement.{statement}
+use Rattle.exports.proofs.box_listing.Tie as tie
+
+abbrev Inv-loop : tie.InvT-loop
+Inv-loop log piece₀ out₀ ids₀ lens₀ state₀ end₀ piece out ids lens state end = Going log piece₀ out₀ piece out ids lens state end
+
+abbrev μ-loop : tie.MeasureT-loop
+μ-loop log piece₀ out₀ ids₀ lens₀ state₀ end₀ piece out ids lens state end = length log - readTo state
+
+begin-requires : tie.Need-begin-requires Inv-loop μ-loop
+begin-requires c κs = search needs
+
+returns : tie.Need-returns Inv-loop μ-loop
+returns c = no-room _ _ _ (c .if1 .taken)
+
+loop-holds : tie.Need-loop-holds Inv-loop μ-loop
+loop-holds c = rw (c .before .begin .ensures) (record { ids-all = search needs; lens-all = search needs; roomy = c .if1 .left; as-long = refl; code = before-first-ready (now (c .before .before .before .before .before .args .log)) (replicate 2048 0) (replicate 2048 0) (search needs) (search needs); within = omega arith; so-far = nothing-yet _ _ _ _ })
+
+slice-aggregate-list-piece : tie.Need-slice-aggregate-list-piece Inv-loop μ-loop
+slice-aggregate-list-piece c = sym (c .before .loop .inv .ids-all)
+
+slice-aggregate-list-piece-2 : tie.Need-slice-aggregate-list-piece-2 Inv-loop μ-loop
+slice-aggregate-list-piece-2 c = sym (c .before .before .loop .inv .lens-all)
+
+list-piece-requires : tie.Need-list-piece-requires Inv-loop μ-loop
+list-piece-requires c κs = search needs
+
+sub-if2 : tie.Need-sub-if2 Inv-loop μ-loop
+sub-if2 c = omega (arith, c .before .before .before .before .before .before .before .before .loop .inv .so-far .fits, c .before .before .before .before .before .before .before .before .loop .inv .so-far .same)
+
+same-length : tie.Need-same-length Inv-loop μ-loop
+same-length c = c .before .before .before .before .before .list-piece .kept .1 .1 .1 .0 ∙ c .before .before .before .before .before .before .before .before .before .loop .inv .as-long
+
+same-length-2 : tie.Need-same-length-2 Inv-loop μ-loop
+same-length-2 c = c .before .before .before .before .before .before .before .before .before .loop .inv .so-far .same
+
+returns-2 : tie.Need-returns-2 Inv-loop μ-loop
+returns-2 c = too-long _ _ _ _ _ _ _ (c .before .before .before .before .before .before .before .before .before .loop .inv .so-far) _ _ _ _ _ (c .before .before .before .before .before .list-piece .ensures) (c .before .before .before .before .before .before .before .before .before .loop .inv .code) (c .before .before .before .before .before .list-piece .kept .1 .1 .1 .0) (c .if2 .taken) _
+
+slice-reshare-prefix-put-text : tie.Need-slice-reshare-prefix-put-text Inv-loop μ-loop
+slice-reshare-prefix-put-text c = omega (arith, piece-fits _ _ _ _ _ _ _ _ _ (c .before .before .before .before .before .before .list-piece .ensures), c .before .before .before .before .before .before .list-piece .kept .1 .1 .1 .0)
+
+slice-aggregate-put-text : tie.Need-slice-aggregate-put-text Inv-loop μ-loop
+slice-aggregate-put-text c = sym (length-take-le _ _ (omega (arith, piece-fits _ _ _ _ _ _ _ _ _ (c .before .before .before .before .before .before .before .list-piece .ensures), c .before .before .before .before .before .before .before .list-piece .kept .1 .1 .1 .0)))
+
+put-text-requires : tie.Need-put-text-requires Inv-loop μ-loop
+put-text-requires c κs = piece-room _ _ _ _ _ _ _ (c .before .before .before .before .before .before .before .before .before .before .before .loop .inv .so-far) _ _ _ _ _ (c .before .before .before .before .before .before .before .list-piece .ensures) (c .before .before .before .before .before .before .before .before .before .before .before .loop .inv .code) (c .before .before .before .before .before .before .before .list-piece .kept .1 .1 .1 .0) (c .before .before .if2 .left)
+
+same-length-3 : tie.Need-same-length-3 Inv-loop μ-loop
+same-length-3 c = c .before .before .before .before .before .before .before .before .before .before .before .list-piece .kept .1 .1 .1 .0 ∙ c .before .before .before .before .before .before .before .before .before .before .before .before .before .before .before .loop .inv .as-long
+
+same-length-4 : tie.Need-same-length-4 Inv-loop μ-loop
+same-length-4 c = c .before .before .before .put-text .kept .0 ∙ c .before .before .before .before .before .before .before .before .before .before .before .before .before .before .before .loop .inv .so-far .same
+
+returns-3 : tie.Need-returns-3 Inv-loop μ-loop
+returns-3 c = all-written _ _ _ _ _ _ _ (c .before .before .before .before .before .before .before .before .before .before .before .before .before .before .before .loop .inv .so-far) _ _ _ _ _ (c .before .before .before .before .before .before .before .before .before .before .before .list-piece .ensures) (c .before .before .before .before .before .before .before .before .before .before .before .before .before .before .before .loop .inv .code) (c .before .before .before .before .before .before .before .before .before .before .before .list-piece .kept .1 .1 .1 .0) (c .before .before .before .before .before .before .if2 .left) _ _ (c .before .before .before .put-text .ensures) (c .before .before .before .put-text .kept .0) (c .if3 .taken) _
+
+loop-less : tie.Need-loop-less Inv-loop μ-loop
+loop-less c = let m = piece-moves _ _ _ _ _ _ _ _ _ (c .before .before .before .before .before .before .before .before .before .before .before .before .list-piece .ensures) (c .before .before .before .before .before .before .before .before .before .before .before .before .before .before .before .before .loop .inv .code) (c .before .if3 .left) (c .before .before .before .before .before .before .before .before .before .before .before .before .before .before .before .before .loop .inv .roomy) in omega (arith, m .0, m .1)
+
+loop-again : tie.Need-loop-again Inv-loop μ-loop
+loop-again c = let m = piece-moves _ _ _ _ _ _ _ _ _ (c .before .before .before .before .before .before .before .before .before .before .before .before .list-piece .ensures) (c .before .before .before .before .before .before .before .before .before .before .before .before .before .before .before .before .loop .inv .code) (c .before .if3 .left) (c .before .before .before .before .before .before .before .before .before .before .before .before .before .before .before .before .loop .inv .roomy) in record { ids-all = c .before .before .before .before .before .before .before .before .before .before .before .before .list-piece .kept .1 .0 ∙ c .before .before .before .before .before .before .before .before .before .before .before .before .before .before .before .before .loop .inv .ids-all; lens-all = c .before .before .before .before .before .before .before .before .before .before .before .before .list-piece .kept .1 .1 .0 ∙ c .before .before .before .before .before .before .before .before .before .before .before .before .before .before .before .before .loop .inv .lens-all; roomy = omega (arith, c .before .before .before .before .before .before .before .before .before .before .before .before .list-piece .kept .1 .1 .1 .0, c .before .before .before .before .before .before .before .before .before .before .before .before .before .before .before .before .loop .inv .roomy); as-long = c .before .before .before .before .before .before .before .before .before .before .before .before .list-piece .kept .1 .1 .1 .0 ∙ c .before .before .before .before .before .before .before .before .before .before .before .before .before .before .before .before .loop .inv .as-long; code = piece-next _ _ _ _ _ _ _ _ _ (c .before .before .before .before .before .before .before .before .before .before .before .before .list-piece .ensures) (c .before .before .before .before .before .before .before .before .before .before .before .before .before .before .before .before .loop .inv .code) (c .before .if3 .left); within = m .1; so-far = one-more _ _ _ _ _ _ _ (c .before .before .before .before .before .before .before .before .before .before .before .before .before .before .before .before .loop .inv .so-far) _ _ _ _ _ (c .before .before .before .before .before .before .before .before .before .before .before .before .list-piece .ensures) (c .before .before .before .before .before .before .before .before .before .before .before .before .before .before .before .before .loop .inv .code) (c .before .before .before .before .before .before .before .before .before .before .before .before .list-piece .kept .1 .1 .1 .0) (c .before .before .before .before .before .before .before .if2 .left) _ _ (c .before .before .before .before .put-text .ensures) (c .before .before .before .before .put-text .kept .0) (c .before .if3 .left) }
+
+pub box-listing-spec : {M : Type 1} → statement M
+box-listing-spec =
+    tie.close
+    (tie.spec
+    Inv-loop
+    μ-loop
+    begin-requires
+    returns
+    loop-holds
+    slice-aggregate-list-piece
+    slice-aggregate-list-piece-2
+    list-piece-requires
+    sub-if2
+    same-length
+    same-length-2
+    returns-2
+    slice-reshare-prefix-put-text
+    slice-aggregate-put-text
+    put-text-requires
+    same-length-3
+    same-length-4
+    returns-3
+    loop-less
+    loop-again)
