@@ -1,21 +1,25 @@
--- A test decides a fact: it holds exactly where the fact does.
-use mathlib.Core.Path.{_≡_, refl, sym}
+-- Tests that decide a fact.
+use mathlib.Core.Path.{_≡_, refl, sym, ap, ap₂}
 use mathlib.Core.Bool.{Bool, true, false, not, _&&_, _||_, false≢true}
 use mathlib.Core.Logic.{_⊎_, inl, inr}
 use mathlib.Core.List.{List, [], _∷_}
 use Prim.Native.Nat.{ℕ, _≤_, _<_}
+use native.Mathlib.Omega.{arith}
 use lib.Dec.{leb, eqb}
-use Rattle.base.specs.Tests.{every, alike, allBelow}
+use lib.ListN.{length, getD, drop}
+use Rattle.base.specs.Tests.{Decides, every, alike, sameList, allBelow}
 use Rattle.base.proofs.Numbers.{leb-yes, true-le, eqb-yes, eqb-true}
 use Rattle.base.proofs.Tests.{all-at, all-intro}
-
-pub record Decides (t : Bool) (P : Type 0) : Type 0 where
-  pub yes : t ≡ true → P
-  pub no : P → t ≡ true
 
 -- the same fact in other words
 pub d-iff : {t : Bool} {P Q : Type 0} → Decides t P → (P → Q) → (Q → P) → Decides t Q
 d-iff d f g = record { yes = λ h. f (d .yes h); no = λ q. d .no (g q) }
+
+-- two tests of one fact are one
+pub decided-alike : {t u : Bool} {P : Type 0} → Decides t P → Decides u P → t ≡ u
+decided-alike {t = true} d e = sym (e .no (d .yes refl))
+decided-alike {t = false} {u = true} d e = d .no (e .yes refl)
+decided-alike {t = false} {u = false} d e = refl
 
 -- ---- one test
 
@@ -69,3 +73,12 @@ Each (t ∷ ts) = (t ≡ true) × Each ts
 pub d-every : (ts : List Bool) → Decides (every ts) (Each ts)
 d-every [] = record { yes = λ e. tt; no = λ e. refl }
 d-every (t ∷ ts) = d-and (d-true t) (d-every ts)
+
+-- ---- lists
+
+pub d-list : (xs ys : List ℕ) → Decides (sameList xs ys) (xs ≡ ys)
+unfolding sameList
+d-list [] [] = record { yes = λ e. refl; no = λ e. refl }
+d-list [] (y ∷ ys) = record { yes = λ e. absurd (false≢true e); no = λ e. absurd (omega (arith, ap length e)) }
+d-list (x ∷ xs) [] = record { yes = λ e. absurd (false≢true e); no = λ e. absurd (omega (arith, ap length e)) }
+d-list (x ∷ xs) (y ∷ ys) = d-iff (d-and (d-eqb x y) (d-list xs ys)) (λ w. ap₂ (λ (z : ℕ) (zs : List ℕ). z ∷ zs) (w .0) (w .1)) (λ e. (ap (λ (l : List ℕ). getD l 0 0) e, ap (λ (l : List ℕ). drop 1 l) e))

@@ -1,19 +1,72 @@
 -- What a value that is not spoilt gives, and that no second value spells its board.
-use mathlib.Core.Path.{_≡_, refl, sym, ap, _∙_}
+use mathlib.Core.Path.{_≡_, refl, sym, ap, subst, _∙_}
+use mathlib.Core.Bool.{true}
 use mathlib.Core.Logic.{_⊎_, inl, inr}
 use mathlib.Core.List.{List}
 use Prim.Native.Nat.{ℕ, _≤_, _<_}
 use native.Mathlib.Omega.{arith}
+use lib.Dec.{eqb}
 use lib.ListN.{length, getD, List·getD-eq-default}
-use Rattle.base.proofs.Numbers.{split}
+use Rattle.base.specs.Tests.{every, sameList}
+use Rattle.base.proofs.Numbers.{split, eqb-yes, eqb-true}
+use Rattle.base.proofs.Decides.{d-iff, d-true, d-and, Each, d-every, d-list}
 use Rattle.rules.specs.Board
 use Rattle.rules.specs.Board.{Seventeen, Place, freePlace, at}
+use Rattle.rules.specs.Spoilt.{unspoilt}
 use Rattle.rules.proofs.Spoilt.{tidy-unspoilt, unspoilt-tidy}
 use Rattle.board.specs.declared.Board as struct
-use Rattle.board.specs.Reading.{tab, encode, laneOf, bareOf, placeOf, follow, view, Sound}
+use Rattle.board.specs.Reading.{tab, encode, laneOf, bareOf, placeOf, follow, view, Sound, alikeInEach, isSpelt, isSound, SpeltDecides, IsSoundDecides}
 use Rattle.board.proofs.Lists.{getD-tab, length-tab}
 use Rattle.board.proofs.Rings.{length-lane, empty-lane, lane-by}
+use Rattle.board.proofs.Same.{Same, same}
 use Rattle.board.proofs.Reading.{Holds, Fit, view-encode}
+
+-- THE TEST IN THE PROMISES decides it: it holds of the value that spells a board, and of the one that is not spoilt
+
+-- what a value that is alike in each field gives
+alike-same : (a b : struct.Board) → Each (alikeInEach a b) → Same a b
+alike-same a b (e1, (e2, (e3, (e4, (e5, (e6, (e7, (e8, (e9, (e10, (e11, (e12, (e13, (e14, (e15, (e16, e17)))))))))))))))) = record {
+  numbers = d-list (a .numbers) (b .numbers) .yes e1;
+  shares = d-list (a .shares) (b .shares) .yes e2;
+  deficits = d-list (a .deficits) (b .deficits) .yes e3;
+  starts = d-list (a .starts) (b .starts) .yes e4;
+  counts = d-list (a .counts) (b .counts) .yes e5;
+  ready = d-list (a .ready) (b .ready) .yes e6;
+  next = d-list (a .next) (b .next) .yes e7;
+  heads = d-list (a .heads) (b .heads) .yes e8;
+  tails = d-list (a .tails) (b .tails) .yes e9;
+  held = d-list (a .held) (b .held) .yes e10;
+  largest = eqb-true (a .largest) (b .largest) e11;
+  clock = eqb-true (a .clock) (b .clock) e12;
+  active = eqb-true (a .active) (b .active) e13;
+  pending = eqb-true (a .pending) (b .pending) e14;
+  slot = eqb-true (a .slot) (b .slot) e15;
+  left = eqb-true (a .left .0) (b .left .0) e16;
+}
+
+own-list : (xs : List ℕ) → sameList xs xs ≡ true
+own-list xs = d-list xs xs .no refl
+
+own-number : (n : ℕ) → eqb n n ≡ true
+own-number n = eqb-yes n n refl
+
+alike-self : (b : struct.Board) → every (alikeInEach b b) ≡ true
+alike-self b =
+    rw (own-list (b .numbers), own-list (b .shares), own-list (b .deficits), own-list (b .starts), own-list (b .counts), own-list (b .ready))
+    rw (own-list (b .next), own-list (b .heads), own-list (b .tails), own-list (b .held))
+    rw (own-number (b .largest), own-number (b .clock), own-number (b .active), own-number (b .pending), own-number (b .slot), own-number (b .left .0))
+    refl
+
+pub spelt-decides : SpeltDecides
+unfolding isSpelt
+spelt-decides b ids lens = record {
+  yes = λ t. same (alike-same (encode (view b ids lens)) b (d-every (alikeInEach (encode (view b ids lens)) b) .yes t));
+  no = λ e. subst (λ (c : struct.Board). every (alikeInEach c b) ≡ true) (sym e) (alike-self b);
+}
+
+pub is-sound-decides : IsSoundDecides
+unfolding isSound
+is-sound-decides b ids lens = d-iff (d-and (spelt-decides b ids lens) (d-true (unspoilt (view b ids lens)))) (λ w. record { spells = w .0; keeps = w .1 }) (λ s. (s .spells, s .keeps))
 
 -- NO SECOND VALUE: two that are not spoilt and spell one board are one
 pub sound-one : (b c : struct.Board) (ids lens ids′ lens′ : List ℕ) → Sound b ids lens → Sound c ids′ lens′ → view b ids lens ≡ view c ids′ lens′ → b ≡ c

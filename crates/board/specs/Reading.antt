@@ -1,12 +1,13 @@
 -- HOW A VALUE SPELLS A BOARD: a board of the rules is written as a value, and a value with both tables is read as a board of the rules.
 -- A link to place p is p + 1; 0 is no link.
 use mathlib.Core.Path.{_≡_}
-use mathlib.Core.Bool.{true, cond}
+use mathlib.Core.Bool.{Bool, true, cond, _&&_}
 use mathlib.Core.Option.{Option, none, some}
 use mathlib.Core.List.{List, [], _∷_, map}
 use Prim.Native.Nat.{ℕ, zero, suc}
 use lib.Dec.{eqb}
 use lib.ListN.{length, getD}
+use Rattle.base.specs.Tests.{Decides, every, sameList}
 use Rattle.bits.specs.Sets.{setBelow}
 use Rattle.rules.specs.Board
 use Rattle.rules.specs.Board.{Record, Stand, out, queued, serving, Place, freePlace, at, entry, blockClass, active, pending}
@@ -129,8 +130,43 @@ pub record Sized (b : struct.Board) : Type 0 where
   pub tails : length (b .tails) ≡ 17
   pub held : length (b .held) ≡ 17
 
--- ---- NOT SPOILT: the value spells the board that is read from it, and that board breaks no clause
+-- ---- NOT SPOILT: the value is what is written of the board that is read from it, and that board breaks no clause
 
 pub record Sound (b : struct.Board) (ids lens : List ℕ) : Type 0 where
   pub spells : encode (view b ids lens) ≡ b
   pub keeps : unspoilt (view b ids lens) ≡ true
+
+-- The same as a test, field by field. (The test that the box computes is another one; `sound-decides` ties it to `Sound`.)
+abbrev pub alikeInEach : struct.Board → struct.Board → List Bool
+alikeInEach a b =
+    sameList (a .numbers) (b .numbers)
+    ∷ sameList (a .shares) (b .shares)
+    ∷ sameList (a .deficits) (b .deficits)
+    ∷ sameList (a .starts) (b .starts)
+    ∷ sameList (a .counts) (b .counts)
+    ∷ sameList (a .ready) (b .ready)
+    ∷ sameList (a .next) (b .next)
+    ∷ sameList (a .heads) (b .heads)
+    ∷ sameList (a .tails) (b .tails)
+    ∷ sameList (a .held) (b .held)
+    ∷ eqb (a .largest) (b .largest)
+    ∷ eqb (a .clock) (b .clock)
+    ∷ eqb (a .active) (b .active)
+    ∷ eqb (a .pending) (b .pending)
+    ∷ eqb (a .slot) (b .slot)
+    ∷ eqb (a .left .0) (b .left .0)
+    ∷ []
+
+-- the value spells a board
+unfoldable pub isSpelt : struct.Board → List ℕ → List ℕ → Bool
+isSpelt b ids lens = every (alikeInEach (encode (view b ids lens)) b)
+
+unfoldable pub isSound : struct.Board → List ℕ → List ℕ → Bool
+isSound b ids lens = isSpelt b ids lens && unspoilt (view b ids lens)
+
+-- They are what they are called.
+abbrev pub SpeltDecides : Type 0
+SpeltDecides = (b : struct.Board) (ids lens : List ℕ) → Decides (isSpelt b ids lens) (encode (view b ids lens) ≡ b)
+
+abbrev pub IsSoundDecides : Type 0
+IsSoundDecides = (b : struct.Board) (ids lens : List ℕ) → Decides (isSound b ids lens) (Sound b ids lens)

@@ -108,7 +108,7 @@ module _ (b : struct.Board) (ids lens : List ℕ) (known : Known b ids lens) whe
 
 -- ---- A burst under way: count records are sent, and total bytes; the rest is a burst of the rules
 abbrev then : ℕ → ℕ → List ℕ → Burst → BurstOutcome
-then count total list r = burstNow (record { count = count + r .count; bytes = total + r .total; code = r .code; board = encode (r .next) }) (take count list ++ (r .numbers ++ drop (length (r .numbers)) (drop count list)))
+then count total list r = burstNow (record { count = count + r .count; bytes = record { 0 = total + r .total }; code = r .code; board = encode (r .next) }) (take count list ++ (r .numbers ++ drop (length (r .numbers)) (drop count list)))
 
 unfoldable pub burstFrom : struct.Board → List ℕ → List ℕ → ℕ → ℕ → ℕ → List ℕ → BurstOutcome
 burstFrom b ids lens bytes count total list = then count total list (burst (view b ids lens) (bytes - total) (length list - count))
@@ -117,8 +117,8 @@ pub burst-start : (b : struct.Board) (ids lens : List ℕ) (bytes : ℕ) (list :
 unfolding goodBurst burstFrom
 burst-start b ids lens bytes list = rw (sub-zero bytes, sub-zero (length list)) (first (burst (view b ids lens) bytes (length list)))
   where
-    first : (r : Burst) → burstBy r list ≡ burstNow (record { count = 0 + r .count; bytes = 0 + r .total; code = r .code; board = encode (r .next) }) (take 0 list ++ (r .numbers ++ drop (length (r .numbers)) (drop 0 list)))
-    first r = λ j. burstNow (record { count = sym (zero-add (r .count)) j; bytes = sym (zero-add (r .total)) j; code = r .code; board = encode (r .next) }) (r .numbers ++ drop (length (r .numbers)) list)
+    first : (r : Burst) → burstBy r list ≡ burstNow (record { count = 0 + r .count; bytes = record { 0 = 0 + r .total }; code = r .code; board = encode (r .next) }) (take 0 list ++ (r .numbers ++ drop (length (r .numbers)) (drop 0 list)))
+    first r = λ j. burstNow (record { count = sym (zero-add (r .count)) j; bytes = record { 0 = sym (zero-add (r .total)) j }; code = r .code; board = encode (r .next) }) (r .numbers ++ drop (length (r .numbers)) list)
 
 -- one entry of the list more
 list-on : (list : List ℕ) (count v : ℕ) (ns : List ℕ) → count < length list
@@ -139,7 +139,7 @@ sent-first bytes count total list r h next m x v m-is x-is v-is = rw (m-is, x-is
     room = omega arith
 
     more : (rest : Burst) → then count total list (sentFirst r rest) ≡ then (suc count) (total + charge r) (set list count (r .number)) rest
-    more rest = λ j. burstNow (record { count = counts j; bytes = totals j; code = rest .code; board = encode (rest .next) }) (list-on list count (r .number) (rest .numbers) h j)
+    more rest = λ j. burstNow (record { count = counts j; bytes = record { 0 = totals j }; code = rest .code; board = encode (rest .next) }) (list-on list count (r .number) (rest .numbers) h j)
       where
         counts : count + suc (rest .count) ≡ suc count + rest .count
         counts = omega arith
@@ -155,14 +155,14 @@ module _ (b : struct.Board) (ids lens : List ℕ) (known : Known b ids lens) (by
   cases = by-cases b ids lens known (bytes - total) (length list - count) w w-is
 
   -- it stops; n is the board made again
-  pub burst-stop : w .step .code ≢ 0 → (n : struct.Board) → n ≡ withEngine b (engineAfter w) → burstNow (record { count = count; bytes = total; code = w .step .code; board = n }) list ≡ burstFrom b ids lens bytes count total list
+  pub burst-stop : w .step .code ≢ 0 → (n : struct.Board) → n ≡ withEngine b (engineAfter w) → burstNow (record { count = count; bytes = record { 0 = total }; code = w .step .code; board = n }) list ≡ burstFrom b ids lens bytes count total list
   unfolding burstFrom
   burst-stop ne n n-is = go cases
     where
       go : Stops mb (bytes - total) (length list - count) w ⊎ Goes mb ids lens (bytes - total) (length list - count) w
-          → burstNow (record { count = count; bytes = total; code = w .step .code; board = n }) list ≡ burstFrom b ids lens bytes count total list
+          → burstNow (record { count = count; bytes = record { 0 = total }; code = w .step .code; board = n }) list ≡ burstFrom b ids lens bytes count total list
       go (inr g) = absurd (ne (g .code))
-      go (inl s) = rw (s .burst-is) (λ j. burstNow (record { count = sym (add-zero count) j; bytes = sym (add-zero total) j; code = w .step .code; board = board j }) (sym (take-append-drop count list) j))
+      go (inl s) = rw (s .burst-is) (λ j. burstNow (record { count = sym (add-zero count) j; bytes = record { 0 = sym (add-zero total) j }; code = w .step .code; board = board j }) (sym (take-append-drop count list) j))
         where
           board : n ≡ encode mb
           board = n-is ∙ ap (λ (x : Within). withEngine b (engineAfter x)) (s .same) ∙ ap (λ (c : struct.Board). withEngine c (engineOf (encode mb))) (sym (spells b ids lens known))

@@ -9,7 +9,7 @@ use Rattle.rules.specs.Burst.{Burst, burst}
 use Rattle.rules.specs.Calls.{serve!, Call, one, burst!, Answer, gives, takes, sends, bursts, told, Outcome, call}
 use Rattle.board.specs.declared.Board as struct
 use Rattle.board.specs.Reading.{encode, view}
-use Rattle.calls.specs.Promises.{lent, spelt}
+use Rattle.calls.specs.Promises.{Returned, returned, idsAfter, lensAfter, lent, spelt}
 use Rattle.calls.specs.declared.Served.{Served}
 use Rattle.calls.specs.declared.Bursted.{Bursted}
 
@@ -39,27 +39,32 @@ abbrev pub burstNow : Bursted → List ℕ → BurstOutcome
 burstNow answer list = record { answer = answer; list = list }
 
 abbrev pub burstBy : Burst → List ℕ → BurstOutcome
-burstBy r list = burstNow (record { count = r .count; bytes = r .total; code = r .code; board = encode (r .next) }) (r .numbers ++ drop (length (r .numbers)) list)
+burstBy r list = burstNow (record { count = r .count; bytes = record { 0 = r .total }; code = r .code; board = encode (r .next) }) (r .numbers ++ drop (length (r .numbers)) list)
 
 unfoldable pub goodBurst : struct.Board → List ℕ → List ℕ → ℕ → List ℕ → BurstOutcome
 goodBurst b ids lens bytes list = burstBy (burst (view b ids lens) bytes (length list)) list
 
--- ---- The same on any value: 3, then 2, then what the rules say
+-- ---- The same on any value: 3, then 2, then what the rules say; and both tables, by what the rules say of their entries
 
 -- the board that an outcome leaves; where it leaves none, the one that was read
 abbrev pub boardOr : Board.Board → Option Board.Board → Board.Board
 boardOr m none = m
 boardOr m (some next) = next
 
-unfoldable pub calledServe : struct.Board → List ℕ → List ℕ → Served
-calledServe b ids lens = let o = call (lent b ids lens) (one serve!) in servedBy b (o .answer) (boardOr (view b ids lens) (o .board))
+unfoldable pub calledServe : struct.Board → List ℕ → List ℕ → Returned Served
+calledServe b ids lens =
+    let o = call (lent b ids lens) (one serve!) in
+    let served = servedBy b (o .answer) (boardOr (view b ids lens) (o .board)) in
+    returned served (idsAfter (o .entries) ids) (lensAfter (o .entries) lens)
 
 -- A burst that is given 3 or 2 sends nothing and leaves board and list.
 abbrev pub burstedBy : struct.Board → Answer → Option Board.Board → List ℕ → BurstOutcome
-burstedBy b (gives code) next list = burstNow (record { count = 0; bytes = 0; code = code; board = b }) list
-burstedBy b (takes a) next list = burstNow (record { count = 0; bytes = 0; code = 0; board = b }) list
-burstedBy b (sends s) next list = burstNow (record { count = 0; bytes = 0; code = 0; board = b }) list
-burstedBy b (bursts r) next list = burstNow (record { count = r .count; bytes = r .total; code = r .code; board = spelt b next }) list
+burstedBy b (gives code) next list = burstNow (record { count = 0; bytes = record { 0 = 0 }; code = code; board = b }) list
+burstedBy b (takes a) next list = burstNow (record { count = 0; bytes = record { 0 = 0 }; code = 0; board = b }) list
+burstedBy b (sends s) next list = burstNow (record { count = 0; bytes = record { 0 = 0 }; code = 0; board = b }) list
+burstedBy b (bursts r) next list = burstNow (record { count = r .count; bytes = record { 0 = r .total }; code = r .code; board = spelt b next }) list
 
-unfoldable pub calledBurst : struct.Board → List ℕ → List ℕ → ℕ → List ℕ → BurstOutcome
-calledBurst b ids lens bytes list = let o = call (lent b ids lens) (burst! bytes list) in burstedBy b (o .answer) (o .board) (o .list)
+unfoldable pub calledBurst : struct.Board → List ℕ → List ℕ → ℕ → List ℕ → Returned BurstOutcome
+calledBurst b ids lens bytes list =
+    let o = call (lent b ids lens) (burst! bytes list) in
+    returned (burstedBy b (o .answer) (o .board) (o .list)) (idsAfter (o .entries) ids) (lensAfter (o .entries) lens)

@@ -10,8 +10,7 @@ use Rattle.rules.specs.Board
 use Rattle.rules.specs.Board.{fresh, tableLength}
 use Rattle.rules.specs.Calls.{Single, one, Answer, gives, takes, sends, bursts, codeOf, Entries, kept, cleared, oneSet, Lent, Outcome, wrongTables, done!, call, make}
 use Rattle.board.specs.declared.Board as struct
-use Rattle.board.specs.Reading.{encode, view, Sound}
-use Rattle.sound.specs.Test.{soundTest}
+use Rattle.board.specs.Reading.{encode, view, Sound, isSpelt, isSound}
 use Rattle.calls.specs.declared.Reply.{Reply}
 
 -- what a call gives back to its caller: its reply, and both tables
@@ -68,16 +67,18 @@ ruled b ids lens x = written b ids lens (done! (view b ids lens) (one x))
 
 -- ---- A call on any value: 3, then 2, then what the rules say
 
--- what a value and its tables are lent as: the tables' lengths, and the board that the value spells, if it is not spoilt
+-- what a value and its tables are lent as: the tables' lengths, and the board that the value spells, or none where it spells none
 abbrev pub lent : struct.Board → List ℕ → List ℕ → Lent
-lent b ids lens = record { numbers = length ids; lengths = length lens; board = cond (soundTest b ids lens) (some (view b ids lens)) none }
+lent b ids lens =
+    let board = cond (isSpelt b ids lens) (some (view b ids lens)) none in
+    record { numbers = length ids; lengths = length lens; board = board }
 
 unfoldable pub called : struct.Board → List ℕ → List ℕ → Single → Returned Reply
 called b ids lens x = written b ids lens (call (lent b ids lens) (one x))
 
 -- the code that comes before all others, or 0
 unfoldable pub earlyCode : struct.Board → List ℕ → List ℕ → ℕ
-earlyCode b ids lens = cond (wrongTables (length ids) (length lens)) 3 (cond (soundTest b ids lens) 0 2)
+earlyCode b ids lens = cond (wrongTables (length ids) (length lens)) 3 (cond (isSound b ids lens) 0 2)
 
 -- ---- A making is lent no board; where it is refused, it gives the board of all zeros
 

@@ -27,7 +27,7 @@ pub struct Served {
 // The answer of a burst: how many records it sent, the bytes they total, and the code that stopped it.
 pub struct Bursted {
     pub count: usize,
-    pub bytes: u64,
+    pub bytes: Bytes,
     pub code: u8,
     pub board: Board,
 }
@@ -251,9 +251,9 @@ fn serve_board(ids: &[u32], lens: &[u16], b: Board) -> Served
 }
 
 // Serves as long as the next record is no longer than what remains of the bytes and the list has room.
-fn burst_board(bytes: u64, list: &mut [u32], ids: &[u32], lens: &[u16], b: Board) -> Bursted
+fn burst_board(bytes: Bytes, list: &mut [u32], ids: &[u32], lens: &[u16], b: Board) -> Bursted
     requires { ⌜ Known b (now ids) (now lens) ⌝ }
-    ensures { λ r. ⌜ burstNow r (now (list .exit)) ≡ goodBurst b (now (ids .entry)) (now (lens .entry)) bytes (now (list .entry)) ⌝ }
+    ensures { λ r. ⌜ burstNow r (now (list .exit)) ≡ goodBurst b (now (ids .entry)) (now (lens .entry)) (bytes .0) (now (list .entry)) ⌝ }
 {
     let shares = b.shares;
     let mut starts = b.starts;
@@ -270,10 +270,10 @@ fn burst_board(bytes: u64, list: &mut [u32], ids: &[u32], lens: &[u16], b: Board
     let mut slot = b.slot;
     let mut left = b.left;
     let mut count: usize = 0;
-    let mut total: u64 = 0;
+    let mut total = Bytes(0);
     loop {
         let s = engine::serve_within(
-            Bytes(bytes - total),
+            Bytes(bytes.0 - total.0),
             list.len() - count,
             clock,
             active,
@@ -319,7 +319,7 @@ fn burst_board(bytes: u64, list: &mut [u32], ids: &[u32], lens: &[u16], b: Board
         let rest = s.left;
         left = rest;
         let charge = s.bytes;
-        total += charge.0;
+        total = Bytes(total.0 + charge.0);
         let at = count;
         count += 1;
         let entry = s.entry;
@@ -446,7 +446,7 @@ pub fn make(ids: &mut [u32], lens: &mut [u16], largest: u32) -> Reply
 
 // The next record is sent.
 pub fn serve(ids: &[u32], lens: &[u16], b: Board) -> Served
-    ensures { λ r. ⌜ r ≡ calledServe b (now (ids .entry)) (now (lens .entry)) ⌝ }
+    ensures { λ r. ⌜ returned r (now (ids .exit)) (now (lens .exit)) ≡ calledServe b (now (ids .entry)) (now (lens .entry)) ⌝ }
 {
     let code = early(ids, lens, b);
     if code != 0 {
@@ -463,14 +463,14 @@ pub fn serve(ids: &[u32], lens: &[u16], b: Board) -> Served
 }
 
 // Records are sent as long as the next one is no longer than what remains of the bytes and the list has room.
-pub fn burst(ids: &[u32], lens: &[u16], bytes: u64, list: &mut [u32], b: Board) -> Bursted
-    ensures { λ r. ⌜ burstNow r (now (list .exit)) ≡ calledBurst b (now (ids .entry)) (now (lens .entry)) bytes (now (list .entry)) ⌝ }
+pub fn burst(ids: &[u32], lens: &[u16], bytes: Bytes, list: &mut [u32], b: Board) -> Bursted
+    ensures { λ r. ⌜ returned (burstNow r (now (list .exit))) (now (ids .exit)) (now (lens .exit)) ≡ calledBurst b (now (ids .entry)) (now (lens .entry)) (bytes .0) (now (list .entry)) ⌝ }
 {
     let code = early(ids, lens, b);
     if code != 0 {
         return Bursted {
             count: 0,
-            bytes: 0,
+            bytes: Bytes(0),
             code: code,
             board: b,
         };

@@ -37,7 +37,7 @@ use Rattle.chains.specs.Demands.{reads}
 use Rattle.calls.proofs.Next.{Follows, call-follows}
 use Rattle.calls.proofs.Making.{Starts, made-starts}
 use Rattle.calls.proofs.Calling
-use Rattle.calls.proofs.Calling.{early-none, called-known}
+use Rattle.calls.proofs.Calling.{called-known}
 use Rattle.calls.proofs.Promises
 
 -- ---- what a reply tells is what the rules tell
@@ -118,37 +118,40 @@ did-agrees s m c a k (byReply x e r ids lens p) = record {
     b = s .board
 
     q : returned r ids lens ≡ ruled b (s .ids) (s .lens) x
-    q = p ∙ sym (called-known b (s .ids) (s .lens) 0 (sym (early-none b (s .ids) (s .lens) k)) k refl x)
+    q = p ∙ sym (called-known b (s .ids) (s .lens) k x)
 
     f : Follows b (s .ids) (s .lens) (ruled b (s .ids) (s .lens) x) (step (reads s) x)
     f = call-follows b (s .ids) (s .lens) k x e
-did-agrees s m c a k (byServe r p) = record {
-  good = subst (λ (w : Served). Known (w .board) (s .ids) (s .lens)) (sym q) (w! .0);
-  after = ap (λ (w : Served). view (w .board) (s .ids) (s .lens)) q ∙ w! .1 ∙ serve-next (reads s);
-  told! = ap servedTells q ∙ ap servedTells (good-serve b (s .ids) (s .lens)) ∙ served-told b (reads s) ∙ serve-step (reads s);
+did-agrees s m c a k (byServe r ids lens p) = record {
+  good = subst (λ (w : Returned Served). Known (w .reply .board) (w .ids) (w .lens)) (sym q) (w! .0);
+  after = ap (λ (w : Returned Served). view (w .reply .board) (w .ids) (w .lens)) q ∙ w! .1 ∙ serve-next (reads s);
+  told! = ap (λ (w : Returned Served). servedTells (w .reply)) q ∙ ap servedTells (good-serve b (s .ids) (s .lens)) ∙ served-told b (reads s) ∙ serve-step (reads s);
 }
   where
     b : struct.Board
     b = s .board
 
-    q : r ≡ goodServe b (s .ids) (s .lens)
-    q = p ∙ sym (Calling.serve-known b (s .ids) (s .lens) 0 (sym (early-none b (s .ids) (s .lens) k)) k refl)
+    q : returned r ids lens ≡ returned (goodServe b (s .ids) (s .lens)) (s .ids) (s .lens)
+    q = p ∙ sym (Calling.serve-known b (s .ids) (s .lens) k (goodServe b (s .ids) (s .lens)) refl)
 
     w! : Known (goodServe b (s .ids) (s .lens) .board) (s .ids) (s .lens) × (view (goodServe b (s .ids) (s .lens) .board) (s .ids) (s .lens) ≡ serve (reads s) .next)
     w! = Promises.serve-known b (s .ids) (s .lens) k
-did-agrees s m c a k (byBurst bytes list r list′ p) = record {
-  good = subst (λ (w : BurstOutcome). Known (w .answer .board) (s .ids) (s .lens)) (sym q) (w! .0);
-  after = ap (λ (w : BurstOutcome). view (w .answer .board) (s .ids) (s .lens)) q ∙ w! .1;
-  told! = ap (λ (w : BurstOutcome). burstTells (w .answer)) q ∙ burst-told b (s .ids) (s .lens) bytes list;
+did-agrees s m c a k (byBurst bytes list r list′ ids lens p) = record {
+  good = subst (λ (w : Returned BurstOutcome). Known (w .reply .answer .board) (w .ids) (w .lens)) (sym q) (w! .0);
+  after = ap (λ (w : Returned BurstOutcome). view (w .reply .answer .board) (w .ids) (w .lens)) q ∙ w! .1;
+  told! = ap (λ (w : Returned BurstOutcome). burstTells (w .reply .answer)) q ∙ burst-told b (s .ids) (s .lens) bytes list;
 }
   where
     b : struct.Board
     b = s .board
 
-    q : burstNow r list′ ≡ goodBurst b (s .ids) (s .lens) bytes list
-    q = p ∙ sym (Calling.burst-known b (s .ids) (s .lens) 0 (sym (early-none b (s .ids) (s .lens) k)) k refl bytes list)
+    good : BurstOutcome
+    good = goodBurst b (s .ids) (s .lens) bytes list
 
-    w! : Known (goodBurst b (s .ids) (s .lens) bytes list .answer .board) (s .ids) (s .lens) × (view (goodBurst b (s .ids) (s .lens) bytes list .answer .board) (s .ids) (s .lens) ≡ burst (reads s) bytes (length list) .next)
+    q : returned (burstNow r list′) ids lens ≡ returned good (s .ids) (s .lens)
+    q = p ∙ sym (Calling.burst-known b (s .ids) (s .lens) k bytes list good refl)
+
+    w! : Known (good .answer .board) (s .ids) (s .lens) × (view (good .answer .board) (s .ids) (s .lens) ≡ burst (reads s) bytes (length list) .next)
     w! = Promises.burst-known b (s .ids) (s .lens) bytes list k
 
 -- ---- a chain

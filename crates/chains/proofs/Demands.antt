@@ -27,6 +27,7 @@ use Rattle.rules.proofs.Conserve.{sentOne, flow-step}
 use Rattle.rules.proofs.Cases.{Refusal, refusal-not0, Has, CanOpen, call-cases}
 use Rattle.rules.proofs.Names.{follows, has-find, has-lane, has-share}
 use Rattle.rules.proofs.Promises
+use Rattle.board.specs.declared.Board as struct
 use Rattle.board.specs.Reading.{view}
 use Rattle.calls.specs.declared.Reply.{Reply}
 use Rattle.calls.specs.Promises.{Returned, called, made}
@@ -44,7 +45,7 @@ pub has-row : HasRow
 has-row L s m e before cs told₁ told made! first chain = row-from (at-on L (at-made L s made!) first .good) chain
 
 pub burst-is-serves : BurstIsServes
-burst-is-serves L s m before told₁ made! first bytes list r list′ p = burst-is m bytes list r list′ (at-on L (at-made L s made!) first .good) p
+burst-is-serves L s m before told₁ made! first bytes list r list′ ids lens p = burst-is m bytes list r list′ ids lens (at-on L (at-made L s made!) first .good) p
 
 -- ---- demand 1
 
@@ -540,26 +541,29 @@ slots-small L s e cs told xs said made! r t =
 replyOf : Holding → Single → Returned Reply
 replyOf s x = called (s .board) (s .ids) (s .lens) x
 
-serveOf : Holding → Served
+serveOf : Holding → Returned Served
 serveOf s = calledServe (s .board) (s .ids) (s .lens)
 
-burstOf : Holding → ℕ → List ℕ → BurstOutcome
+burstOf : Holding → ℕ → List ℕ → Returned BurstOutcome
 burstOf s bytes list = calledBurst (s .board) (s .ids) (s .lens) bytes list
 
 -- what a call answers and leaves, by its promise
 abbrev gave : Holding → Call → Answer
-gave s (one x) = cond (isServe x) (servedTells (serveOf s)) (replyTells x (replyOf s x .reply))
-gave s (burst! bytes list) = burstTells (burstOf s bytes list .answer)
+gave s (one x) = cond (isServe x) (servedTells (serveOf s .reply)) (replyTells x (replyOf s x .reply))
+gave s (burst! bytes list) = burstTells (burstOf s bytes list .reply .answer)
+
+abbrev hold : struct.Board → List ℕ → List ℕ → Holding
+hold b ids lens = record { board = b; ids = ids; lens = lens }
 
 abbrev left : Holding → Call → Holding
-left s (one x) = cond (isServe x) (record { board = serveOf s .board; ids = s .ids; lens = s .lens }) (record { board = replyOf s x .reply .board; ids = replyOf s x .ids; lens = replyOf s x .lens })
-left s (burst! bytes list) = record { board = burstOf s bytes list .answer .board; ids = s .ids; lens = s .lens }
+left s (one x) = cond (isServe x) (hold (serveOf s .reply .board) (serveOf s .ids) (serveOf s .lens)) (hold (replyOf s x .reply .board) (replyOf s x .ids) (replyOf s x .lens))
+left s (burst! bytes list) = hold (burstOf s bytes list .reply .answer .board) (burstOf s bytes list .ids) (burstOf s bytes list .lens)
 
 did-gave : {s m : Holding} {c : Call} {a : Answer} → Did s c a m → (a ≡ gave s c) × (m ≡ left s c)
 unfolding replyOf serveOf burstOf
-did-gave {s = s} (byReply x e r ids lens p) = rw e (ap (λ (w : Returned Reply). replyTells x (w .reply)) p, ap (λ (w : Returned Reply). let h : Holding = record { board = w .reply .board; ids = w .ids; lens = w .lens } in h) p)
-did-gave {s = s} (byServe r p) = (ap servedTells p, ap (λ (w : Served). let h : Holding = record { board = w .board; ids = s .ids; lens = s .lens } in h) p)
-did-gave {s = s} (byBurst bytes list r list′ p) = (ap (λ (w : BurstOutcome). burstTells (w .answer)) p, ap (λ (w : BurstOutcome). let h : Holding = record { board = w .answer .board; ids = s .ids; lens = s .lens } in h) p)
+did-gave (byReply x e r ids lens p) = rw e (ap (λ (w : Returned Reply). replyTells x (w .reply)) p, ap (λ (w : Returned Reply). hold (w .reply .board) (w .ids) (w .lens)) p)
+did-gave (byServe r ids lens p) = (ap (λ (w : Returned Served). servedTells (w .reply)) p, ap (λ (w : Returned Served). hold (w .reply .board) (w .ids) (w .lens)) p)
+did-gave (byBurst bytes list r list′ ids lens p) = (ap (λ (w : Returned BurstOutcome). burstTells (w .reply .answer)) p, ap (λ (w : Returned BurstOutcome). hold (w .reply .answer .board) (w .ids) (w .lens)) p)
 
 allGave : Holding → List Call → List Answer
 allGave s [] = []
@@ -583,7 +587,7 @@ only-one s e e′ cs told told′ c c′ = let w = chain-gave c in let w′ = ch
 -- ---- no promise is empty
 
 did-reply : (s : Holding) (x : Single) → isServe x ≡ false → (a : Answer) × (m : Holding) × Did s (one x) a m
-did-reply s x e = let w = called (s .board) (s .ids) (s .lens) x in (replyTells x (w .reply), record { board = w .reply .board; ids = w .ids; lens = w .lens }, byReply x e (w .reply) (w .ids) (w .lens) refl)
+did-reply s x e = let w = called (s .board) (s .ids) (s .lens) x in (replyTells x (w .reply), hold (w .reply .board) (w .ids) (w .lens), byReply x e (w .reply) (w .ids) (w .lens) refl)
 
 -- each call can be made of any value
 pub has-did : (s : Holding) (c : Call) → (a : Answer) × (m : Holding) × Did s c a m
@@ -591,8 +595,10 @@ has-did s (one (open! n k)) = did-reply s (open! n k) refl
 has-did s (one (rename! old new)) = did-reply s (rename! old new) refl
 has-did s (one (close! n)) = did-reply s (close! n) refl
 has-did s (one (record! n r)) = did-reply s (record! n r) refl
-has-did s (one serve!) = let r = calledServe (s .board) (s .ids) (s .lens) in (servedTells r, record { board = r .board; ids = s .ids; lens = s .lens }, byServe r refl)
-has-did s (burst! bytes list) = let w = calledBurst (s .board) (s .ids) (s .lens) bytes list in (burstTells (w .answer), record { board = w .answer .board; ids = s .ids; lens = s .lens }, byBurst bytes list (w .answer) (w .list) refl)
+has-did s (one serve!) = let w = calledServe (s .board) (s .ids) (s .lens) in (servedTells (w .reply), hold (w .reply .board) (w .ids) (w .lens), byServe (w .reply) (w .ids) (w .lens) refl)
+has-did s (burst! bytes list) =
+    let w = calledBurst (s .board) (s .ids) (s .lens) bytes list in
+    (burstTells (w .reply .answer), hold (w .reply .answer .board) (w .ids) (w .lens), byBurst bytes list (w .reply .answer) (w .reply .list) (w .ids) (w .lens) refl)
 
 pub chain-of : (s : Holding) (cs : List Call) → (told : List Answer) × (e : Holding) × Chain s cs told e
 chain-of s [] = ([], s, stops)

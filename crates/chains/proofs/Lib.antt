@@ -1,3 +1,4 @@
+pub mod Refusals
 pub mod Chains
 pub mod Rows
 pub mod Slots

@@ -19,11 +19,12 @@ use Rattle.rules.proofs.Tidy.{Tidy}
 use Rattle.rules.proofs.Promises.{run-is-row, burst-is-serves}
 use Rattle.board.proofs.Sound.{fit-view, sound-one}
 use Rattle.calls.specs.declared.Bursted.{Bursted}
+use Rattle.calls.specs.Promises.{Returned, returned}
 use Rattle.calls.specs.Contract.{BurstOutcome, burstNow, goodBurst, calledServe, calledBurst}
 use Rattle.calls.proofs.Calling
 use Rattle.chains.specs.Chains.{Holding, servedTells, burstTells, Did, byReply, byServe, byBurst, Chain, stops, goes, Made, answersOf}
 use Rattle.chains.specs.Demands.{reads, bytesOf, bytesIn, slotBytes, NotSpent, Unsent, story, Spelt, over, single, asServes, Row, BurstIs}
-use Rattle.calls.proofs.Calling.{early-none}
+use Rattle.chains.proofs.Refusals.{serve-tables}
 use Rattle.chains.proofs.Chains.{KnownHolding, Agrees, did-agrees, chain-from, chain-is-run, chain-of-run}
 
 -- ---- lists
@@ -182,25 +183,36 @@ record Serving (s : Holding) (n : ℕ) : Type 0 where
 serving : (n : ℕ) (s : Holding) → Serving s n
 serving zero s = record { said = []; end = s; chain = stops; ids = refl; lens = refl }
 serving (suc n) s =
-    let r = calledServe (s .board) (s .ids) (s .lens) in
-    let t = serving n (record { board = r .board; ids = s .ids; lens = s .lens }) in
-    record { said = servedTells r ∷ t .said; end = t .end; chain = goes (byServe r refl) (t .chain); ids = t .ids; lens = t .lens }
+    let w = calledServe (s .board) (s .ids) (s .lens) in
+    let t = serving n (record { board = w .reply .board; ids = w .ids; lens = w .lens }) in
+    let kept = serve-tables (s .board) (s .ids) (s .lens) in
+    record {
+      said = servedTells (w .reply) ∷ t .said;
+      end = t .end;
+      chain = goes (byServe (w .reply) (w .ids) (w .lens) refl) (t .chain);
+      ids = t .ids ∙ kept .0;
+      lens = t .lens ∙ kept .1;
+    }
 
-pub burst-is : (m : Holding) (bytes : ℕ) (list : List ℕ) (r : Bursted) (list′ : List ℕ) → KnownHolding m → burstNow r list′ ≡ calledBurst (m .board) (m .ids) (m .lens) bytes list → BurstIs m list r list′
+pub burst-is : (m : Holding) (bytes : ℕ) (list : List ℕ) (r : Bursted) (list′ ids lens : List ℕ) → KnownHolding m
+    → returned (burstNow r list′) ids lens ≡ calledBurst (m .board) (m .ids) (m .lens) bytes list → BurstIs m list r list′ ids lens
 unfolding goodBurst
-burst-is m bytes list r list′ k p = record {
+burst-is m bytes list r list′ ids lens k p = record {
   sent = t .out;
   serving = subst (λ (n : ℕ). Chain m (map one (serves n)) (map sends (t .out)) g) (sym (t .count)) (subst (λ (told : List Answer). Chain m (map one (serves (B .count))) told g) (a .answers ∙ t .said) (subst (λ (e : Holding). Chain m (map one (serves (B .count))) (u .said) e) same (u .chain)));
-  count = t .count ∙ sym (ap (λ (w : BurstOutcome). w .answer .count) q);
-  bytes = t .bytes ∙ sym (i .total) ∙ sym (ap (λ (w : BurstOutcome). w .answer .bytes) q);
-  numbers = ap (λ (w : BurstOutcome). w .list) q ∙ ap (λ (ns : List ℕ). ns ++ drop (length ns) list) (i .numbers ∙ sym (t .numbers)) ∙ ap (λ (n : ℕ). map (λ (s : Sent). s .number) (t .out) ++ drop n list) (length-map (t .out) (λ (s : Sent). s .number));
+  count = t .count ∙ sym (ap (λ (w : Returned BurstOutcome). w .reply .answer .count) q);
+  bytes = t .bytes ∙ sym (i .total) ∙ sym (ap (λ (w : Returned BurstOutcome). w .reply .answer .bytes .0) q);
+  numbers = ap (λ (w : Returned BurstOutcome). w .reply .list) q ∙ ap (λ (ns : List ℕ). ns ++ drop (length ns) list) (i .numbers ∙ sym (t .numbers)) ∙ ap (λ (n : ℕ). map (λ (s : Sent). s .number) (t .out) ++ drop n list) (length-map (t .out) (λ (s : Sent). s .number));
 }
   where
     B : Burst
     B = burst (reads m) bytes (length list)
 
-    q : burstNow r list′ ≡ goodBurst (m .board) (m .ids) (m .lens) bytes list
-    q = p ∙ sym (Calling.burst-known (m .board) (m .ids) (m .lens) 0 (sym (early-none (m .board) (m .ids) (m .lens) k)) k refl bytes list)
+    good : BurstOutcome
+    good = goodBurst (m .board) (m .ids) (m .lens) bytes list
+
+    q : returned (burstNow r list′) ids lens ≡ returned good (m .ids) (m .lens)
+    q = p ∙ sym (Calling.burst-known (m .board) (m .ids) (m .lens) k bytes list good refl)
 
     i : IsServes (reads m) bytes (length list) B
     i = burst-is-serves (reads m) bytes (length list)
@@ -209,10 +221,10 @@ burst-is m bytes list r list′ k p = record {
     t = all-send (B .count) (reads m) (i .eachSends)
 
     g : Holding
-    g = record { board = r .board; ids = m .ids; lens = m .lens }
+    g = record { board = r .board; ids = ids; lens = lens }
 
     d : Agrees m (burst! bytes list) (burstTells r) g
-    d = did-agrees m g (burst! bytes list) (burstTells r) k (byBurst bytes list r list′ p)
+    d = did-agrees m g (burst! bytes list) (burstTells r) k (byBurst bytes list r list′ ids lens p)
 
     u : Serving m (B .count)
     u = serving (B .count) m
@@ -221,10 +233,10 @@ burst-is m bytes list r list′ k p = record {
     a = along (serves (B .count)) k (u .chain)
 
     same : u .end ≡ g
-    same = λ j. record { board = one! j; ids = u .ids j; lens = u .lens j }
+    same = λ j. record { board = one! j; ids = (u .ids ∙ sym (ap (λ (w : Returned BurstOutcome). w .ids) q)) j; lens = (u .lens ∙ sym (ap (λ (w : Returned BurstOutcome). w .lens) q)) j }
       where
         one! : u .end .board ≡ r .board
-        one! = sound-one (u .end .board) (r .board) (u .end .ids) (u .end .lens) (m .ids) (m .lens) (chain-from k (u .chain) .0 .sound) (d .good .sound) (a .board ∙ sym (i .next) ∙ sym (d .after))
+        one! = sound-one (u .end .board) (r .board) (u .end .ids) (u .end .lens) ids lens (chain-from k (u .chain) .0 .sound) (d .good .sound) (a .board ∙ sym (i .next) ∙ sym (d .after))
 
 -- ---- every chain has its row
 
@@ -240,13 +252,13 @@ row-single {a = a} x d (xs, said, r) = (x ∷ xs, a ∷ said, record { chain = g
 
 row-step : {s m e : Holding} {c : Call} {a : Answer} {cs : List Call} {told : List Answer} → KnownHolding s → Did s c a m → SomeRow m cs told e → SomeRow s (c ∷ cs) (a ∷ told) e
 row-step k (byReply x n r ids lens p) w = row-single x (byReply x n r ids lens p) w
-row-step k (byServe r p) w = row-single serve! (byServe r p) w
-row-step {s = s} {e = e} k (byBurst bytes list r list′ p) (xs, said, w) =
-    let i = burst-is s bytes list r list′ k p in (
+row-step k (byServe r ids lens p) w = row-single serve! (byServe r ids lens p) w
+row-step {s = s} {e = e} k (byBurst bytes list r list′ ids lens p) (xs, said, w) =
+    let i = burst-is s bytes list r list′ ids lens k p in (
       serves (length (i .sent)) ++ xs,
       map sends (i .sent) ++ said,
       record {
-        chain = goes (byBurst bytes list r list′ p) (w .chain);
+        chain = goes (byBurst bytes list r list′ ids lens p) (w .chain);
         spelt = asServes bytes list r (i .sent) (i .count) (i .bytes) (w .spelt);
         singles = subst (λ (cs : List Call). Chain s cs (map sends (i .sent) ++ said) e) (sym (map-join one (serves (length (i .sent))) xs)) (chain-join (i .serving) (w .singles));
       },

@@ -36,16 +36,20 @@ abbrev pub servedTells : Served → Answer
 servedTells r = cond (eqb (r .code) 0) (sends (record { block = r .block; number = r .number; bytes = r .length; clock = r .clock })) (gives (r .code))
 
 abbrev pub burstTells : Bursted → Answer
-burstTells r = bursts (record { count = r .count; total = r .bytes; code = r .code })
+burstTells r = bursts (record { count = r .count; total = r .bytes .0; code = r .code })
 
 -- ---- A call of a chain: its promise holds of what it was given and of what it left
 
 pub data Did (s : Holding) : Call → Answer → Holding → Type 0 where
-  byReply : (x : Single) → isServe x ≡ false → (r : Reply) (ids lens : List ℕ) → returned r ids lens ≡ called (s .board) (s .ids) (s .lens) x
+  byReply : (x : Single) → isServe x ≡ false → (r : Reply) (ids lens : List ℕ)
+      → returned r ids lens ≡ called (s .board) (s .ids) (s .lens) x
       → Did s (one x) (replyTells x r) (record { board = r .board; ids = ids; lens = lens })
-  byServe : (r : Served) → r ≡ calledServe (s .board) (s .ids) (s .lens) → Did s (one serve!) (servedTells r) (record { board = r .board; ids = s .ids; lens = s .lens })
-  byBurst : (bytes : ℕ) (list : List ℕ) (r : Bursted) (list′ : List ℕ) → burstNow r list′ ≡ calledBurst (s .board) (s .ids) (s .lens) bytes list
-      → Did s (burst! bytes list) (burstTells r) (record { board = r .board; ids = s .ids; lens = s .lens })
+  byServe : (r : Served) (ids lens : List ℕ)
+      → returned r ids lens ≡ calledServe (s .board) (s .ids) (s .lens)
+      → Did s (one serve!) (servedTells r) (record { board = r .board; ids = ids; lens = lens })
+  byBurst : (bytes : ℕ) (list : List ℕ) (r : Bursted) (list′ ids lens : List ℕ)
+      → returned (burstNow r list′) ids lens ≡ calledBurst (s .board) (s .ids) (s .lens) bytes list
+      → Did s (burst! bytes list) (burstTells r) (record { board = r .board; ids = ids; lens = lens })
 
 pub data Chain : Holding → List Call → List Answer → Holding → Type 0 where
   stops : {s : Holding} → Chain s [] [] s

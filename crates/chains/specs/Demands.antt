@@ -18,8 +18,10 @@ use Rattle.rules.specs.Calls.{Single, open!, record!, serve!, step, Call, one, 
 use Rattle.rules.specs.Runs
 use Rattle.rules.specs.Runs.{play, answer, runs, laneOf, isFor, recordOf, numberAfter, closes, clockOf, isDone, bytesAt, servesIn, Story, begins, goesOn, tells}
 use Rattle.rules.specs.Promises.{Accounted, InRange, bound, serves}
-use Rattle.board.specs.Reading.{view}
+use Rattle.board.specs.Reading.{encode, view}
 use Rattle.calls.specs.declared.Bursted.{Bursted}
+use Rattle.calls.specs.declared.Reply.{Reply}
+use Rattle.calls.specs.Promises.{returned, made}
 use Rattle.calls.specs.Contract.{burstNow, calledBurst}
 use Rattle.chains.specs.Chains.{Holding, burstTells, Did, Chain, Made}
 
@@ -64,7 +66,7 @@ pub data Spelt : List Call → List Answer → List Single → List Answer → T
   over : Spelt [] [] [] []
   single : {cs : List Call} {told said : List Answer} {xs : List Single} (x : Single) (a : Answer) → Spelt cs told xs said → Spelt (one x ∷ cs) (a ∷ told) (x ∷ xs) (a ∷ said)
   asServes : {cs : List Call} {told said : List Answer} {xs : List Single} (bytes : ℕ) (list : List ℕ) (r : Bursted) (sent : List Sent)
-      → length sent ≡ r .count → sum (λ (s : Sent). charged (s .bytes)) sent ≡ r .bytes
+      → length sent ≡ r .count → sum (λ (s : Sent). charged (s .bytes)) sent ≡ r .bytes .0
       → Spelt cs told xs said → Spelt (burst! bytes list ∷ cs) (burstTells r ∷ told) (serves (length sent) ++ xs) (map sends sent ++ said)
 
 -- Both chains go from the same value to the same value. (What happens within a burst is read in the second, of which each part is a chain.)
@@ -80,18 +82,34 @@ HasRow = (L : ℕ) (s m e : Holding) (before cs : List Call) (told₁ told : Lis
 
 -- A burst of a chain: the single serving calls that it is, from the value that it was given to the value that it left; the list's first
 -- entries are their records' numbers, and the others are as they were.
-pub record BurstIs (m : Holding) (list : List ℕ) (r : Bursted) (list′ : List ℕ) : Type 0 where
+pub record BurstIs (m : Holding) (list : List ℕ) (r : Bursted) (list′ ids lens : List ℕ) : Type 0 where
   pub sent : List Sent
-  pub serving : Chain m (map one (serves (length sent))) (map sends sent) (record { board = r .board; ids = m .ids; lens = m .lens })
+  pub serving : Chain m (map one (serves (length sent))) (map sends sent) (record { board = r .board; ids = ids; lens = lens })
   pub count : length sent ≡ r .count
-  pub bytes : sum (λ (s : Sent). charged (s .bytes)) sent ≡ r .bytes
+  pub bytes : sum (λ (s : Sent). charged (s .bytes)) sent ≡ r .bytes .0
   pub numbers : list′ ≡ map (λ (s : Sent). s .number) sent ++ drop (length sent) list
 
 abbrev pub BurstIsServes : Type 0
 BurstIsServes = (L : ℕ) (s m : Holding) (before : List Call) (told₁ : List Answer) → Made L s → Chain s before told₁ m
-    → (bytes : ℕ) (list : List ℕ) (r : Bursted) (list′ : List ℕ) → burstNow r list′ ≡ calledBurst (m .board) (m .ids) (m .lens) bytes list → BurstIs m list r list′
+    → (bytes : ℕ) (list : List ℕ) (r : Bursted) (list′ ids lens : List ℕ)
+    → returned (burstNow r list′) ids lens ≡ calledBurst (m .board) (m .ids) (m .lens) bytes list → BurstIs m list r list′ ids lens
 
--- ---- Demand 1: no call of a chain after its making is given 3 or 2
+-- ---- Demand 1: a refusal changes neither board nor tables, whatever value and tables are lent
+
+pub record RefusalChangesNothing : Type 0 where
+  -- a single call that is answered any code but 0
+  pub single : (s m : Holding) (x : Single) (a : Answer) → Did s (one x) a m → codeOf a ≢ 0 → m ≡ s
+  -- a burst that is answered 3 or 2, or that sent nothing, whatever its code; its list too
+  pub burst : (s : Holding) (bytes : ℕ) (list : List ℕ) (r : Bursted) (list′ ids lens : List ℕ)
+      → returned (burstNow r list′) ids lens ≡ calledBurst (s .board) (s .ids) (s .lens) bytes list
+      → (r .code ≡ 3) ⊎ ((r .code ≡ 2) ⊎ (r .count ≡ 0))
+      → (r .board ≡ s .board) × (ids ≡ s .ids) × (lens ≡ s .lens) × (list′ ≡ list)
+  -- a making, which is lent no board: both tables, and it gives the board of all zeros
+  pub making : (L : ℕ) (ids lens : List ℕ) (r : Reply) (ids′ lens′ : List ℕ)
+      → returned r ids′ lens′ ≡ made ids lens L → r .code ≢ 0
+      → (ids′ ≡ ids) × (lens′ ≡ lens) × (r .board ≡ encode (fresh 0))
+
+-- ---- and no call of a chain after its making is given 3 or 2
 
 abbrev pub NeverRefused : Type 0
 NeverRefused = (L : ℕ) (s e : Holding) (cs : List Call) (told : List Answer) → Made L s → Chain s cs told e → NoneRefused told

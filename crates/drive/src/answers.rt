@@ -71,7 +71,7 @@ pub fn serve(ids: &[u32], lens: &[u16], b: Board) -> Board {
 }
 
 fn burst_into(ids: &[u32], lens: &[u16], bytes: u64, list: &mut [u32], b: Board) -> Board {
-    let done = calls::burst(ids, lens, bytes, &mut *list, b);
+    let done = calls::burst(ids, lens, Bytes(bytes), &mut *list, b);
     let next = done.board;
     output::text(b"burst");
     output::number(done.count as u64);

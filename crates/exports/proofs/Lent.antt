@@ -15,11 +15,16 @@ record-lent code b after back before ids lens ids′ lens′ x p r l = ap (λ (n
 abbrev served : ℕ → ℕ → ℕ → ℕ → ℕ → Board → Served
 served code block number len clock b = record { code = code; block = block; number = number; length = len; clock = clock; board = b }
 
-pub serve-lent : (code block number len clock : ℕ) (b after back before : Board) (ids lens : List ℕ) → back ≡ after → served code block number len clock after ≡ calledServe b ids lens → b ≡ before → served code block number len clock back ≡ calledServe before ids lens
-serve-lent code block number len clock b after back before ids lens p r l = ap (λ (n : Board). served code block number len clock n) p ∙ r ∙ ap (λ (n : Board). calledServe n ids lens) l
+pub serve-lent : (code block number len clock : ℕ) (b after back before : Board) (ids lens ids′ lens′ : List ℕ) → back ≡ after
+    → returned (served code block number len clock after) ids′ lens′ ≡ calledServe b ids lens → b ≡ before
+    → returned (served code block number len clock back) ids′ lens′ ≡ calledServe before ids lens
+serve-lent code block number len clock b after back before ids lens ids′ lens′ p r l = ap (λ (n : Board). returned (served code block number len clock n) ids′ lens′) p ∙ r ∙ ap (λ (n : Board). calledServe n ids lens) l
 
 abbrev bursted : ℕ → ℕ → ℕ → Board → Bursted
-bursted count bytes code b = record { count = count; bytes = bytes; code = code; board = b }
+bursted count bytes code b = record { count = count; bytes = record { 0 = bytes }; code = code; board = b }
 
-pub burst-lent : (count sent code bytes : ℕ) (b after back before : Board) (ids lens list list′ : List ℕ) → back ≡ after → burstNow (bursted count sent code after) list′ ≡ calledBurst b ids lens bytes list → b ≡ before → burstNow (bursted count sent code back) list′ ≡ calledBurst before ids lens bytes list
-burst-lent count sent code bytes b after back before ids lens list list′ p r l = ap (λ (n : Board). burstNow (bursted count sent code n) list′) p ∙ r ∙ ap (λ (n : Board). calledBurst n ids lens bytes list) l
+pub burst-lent : (count sent code bytes : ℕ) (b after back before : Board) (ids lens list list′ ids′ lens′ : List ℕ) → back ≡ after
+    → returned (burstNow (bursted count sent code after) list′) ids′ lens′ ≡ calledBurst b ids lens bytes list → b ≡ before
+    → returned (burstNow (bursted count sent code back) list′) ids′ lens′ ≡ calledBurst before ids lens bytes list
+burst-lent count sent code bytes b after back before ids lens list list′ ids′ lens′ p r l =
+    ap (λ (n : Board). returned (burstNow (bursted count sent code n) list′) ids′ lens′) p ∙ r ∙ ap (λ (n : Board). calledBurst n ids lens bytes list) l

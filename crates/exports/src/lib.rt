@@ -8,6 +8,7 @@ ghost use Rattle.calls.specs.Promises.{called, returned, replied};
 ghost use Rattle.player.specs.Fields.{boardNow};
 ghost use Rattle.exports.specs.Listed.{Listed};
 use board::Board;
+use units::Bytes;
 use units::Parts;
 
 // The board whose arrays and numbers are lent.
@@ -197,7 +198,7 @@ pub extern "C" fn box_serve(
     slot: &mut u8,
     left: &mut u64,
 ) -> u8
-    ensures { λ r. ⌜ record { code = r; block = now (block .exit); number = now (number .exit); length = now (length .exit); clock = now (time .exit); board = boardNow (now (numbers .exit)) (now (shares .exit)) (now (starts .exit)) (now (counts .exit)) (now (deficits .exit)) (now (ready .exit)) (now (next .exit)) (now (heads .exit)) (now (tails .exit)) (now (held .exit)) (now (largest .exit)) (numbersNow (now (clock .exit)) (now (active .exit)) (now (pending .exit)) (now (slot .exit)) (now (left .exit))) } ≡ calledServe (boardNow (now (numbers .entry)) (now (shares .entry)) (now (starts .entry)) (now (counts .entry)) (now (deficits .entry)) (now (ready .entry)) (now (next .entry)) (now (heads .entry)) (now (tails .entry)) (now (held .entry)) (now (largest .entry)) (numbersNow (now (clock .entry)) (now (active .entry)) (now (pending .entry)) (now (slot .entry)) (now (left .entry)))) (now (ids .entry)) (now (lens .entry)) ⌝ }
+    ensures { λ r. ⌜ returned (record { code = r; block = now (block .exit); number = now (number .exit); length = now (length .exit); clock = now (time .exit); board = boardNow (now (numbers .exit)) (now (shares .exit)) (now (starts .exit)) (now (counts .exit)) (now (deficits .exit)) (now (ready .exit)) (now (next .exit)) (now (heads .exit)) (now (tails .exit)) (now (held .exit)) (now (largest .exit)) (numbersNow (now (clock .exit)) (now (active .exit)) (now (pending .exit)) (now (slot .exit)) (now (left .exit))) }) (now (ids .exit)) (now (lens .exit)) ≡ calledServe (boardNow (now (numbers .entry)) (now (shares .entry)) (now (starts .entry)) (now (counts .entry)) (now (deficits .entry)) (now (ready .entry)) (now (next .entry)) (now (heads .entry)) (now (tails .entry)) (now (held .entry)) (now (largest .entry)) (numbersNow (now (clock .entry)) (now (active .entry)) (now (pending .entry)) (now (slot .entry)) (now (left .entry)))) (now (ids .entry)) (now (lens .entry)) ⌝ }
 {
     let b = lent_board(
         numbers,
@@ -271,7 +272,7 @@ pub extern "C" fn box_burst(
     slot: &mut u8,
     left: &mut u64,
 ) -> u8
-    ensures { λ r. ⌜ burstNow (record { count = now (count .exit); bytes = now (sent .exit); code = r; board = boardNow (now (numbers .exit)) (now (shares .exit)) (now (starts .exit)) (now (counts .exit)) (now (deficits .exit)) (now (ready .exit)) (now (next .exit)) (now (heads .exit)) (now (tails .exit)) (now (held .exit)) (now (largest .exit)) (numbersNow (now (clock .exit)) (now (active .exit)) (now (pending .exit)) (now (slot .exit)) (now (left .exit))) }) (now (list .exit)) ≡ calledBurst (boardNow (now (numbers .entry)) (now (shares .entry)) (now (starts .entry)) (now (counts .entry)) (now (deficits .entry)) (now (ready .entry)) (now (next .entry)) (now (heads .entry)) (now (tails .entry)) (now (held .entry)) (now (largest .entry)) (numbersNow (now (clock .entry)) (now (active .entry)) (now (pending .entry)) (now (slot .entry)) (now (left .entry)))) (now (ids .entry)) (now (lens .entry)) bytes (now (list .entry)) ⌝ }
+    ensures { λ r. ⌜ returned (burstNow (record { count = now (count .exit); bytes = record { 0 = now (sent .exit) }; code = r; board = boardNow (now (numbers .exit)) (now (shares .exit)) (now (starts .exit)) (now (counts .exit)) (now (deficits .exit)) (now (ready .exit)) (now (next .exit)) (now (heads .exit)) (now (tails .exit)) (now (held .exit)) (now (largest .exit)) (numbersNow (now (clock .exit)) (now (active .exit)) (now (pending .exit)) (now (slot .exit)) (now (left .exit))) }) (now (list .exit))) (now (ids .exit)) (now (lens .exit)) ≡ calledBurst (boardNow (now (numbers .entry)) (now (shares .entry)) (now (starts .entry)) (now (counts .entry)) (now (deficits .entry)) (now (ready .entry)) (now (next .entry)) (now (heads .entry)) (now (tails .entry)) (now (held .entry)) (now (largest .entry)) (numbersNow (now (clock .entry)) (now (active .entry)) (now (pending .entry)) (now (slot .entry)) (now (left .entry)))) (now (ids .entry)) (now (lens .entry)) bytes (now (list .entry)) ⌝ }
 {
     let b = lent_board(
         numbers,
@@ -291,9 +292,10 @@ pub extern "C" fn box_burst(
         slot,
         left,
     );
-    let bursted = calls::burst(ids, lens, bytes, list, b);
+    let bursted = calls::burst(ids, lens, Bytes(bytes), list, b);
     *count = bursted.count;
-    *sent = bursted.bytes;
+    let total = bursted.bytes;
+    *sent = total.0;
     let after = bursted.board;
     put_back(
         after,

@@ -14,8 +14,7 @@ use Rattle.rules.specs.Board
 use Rattle.rules.specs.Board.{Place, fresh}
 use Rattle.rules.specs.Calls.{wrongTables, make}
 use Rattle.board.specs.declared.Board as struct
-use Rattle.board.specs.Reading.{encode, view}
-use Rattle.sound.specs.Test.{soundTest}
+use Rattle.board.specs.Reading.{encode, view, isSound}
 use types.Run.{OneOf, miss}
 use denote.Enum.Declared.{tagOf}
 use Rattle.log.proofs.Event.{the-type}
@@ -56,16 +55,16 @@ module _ (len : ℕ) (s : State) (ids lens : List ℕ) (a : length ids ≡ 2048)
     begun-code = tables-right ∙ ap (λ (t : Bool). cond t (cond (unfit len s ids lens) 2 0) 0) b
 
     pub code-long : isLong len ≡ true → 2 ≡ pieceCode len s ids lens
-    code-long e = sym (begun-code ∙ ap (λ (t : Bool). cond (t || (ltb (s .at) (s .sent / 65536) || not (soundTest (s .board) ids lens))) 2 0) e)
+    code-long e = sym (begun-code ∙ ap (λ (t : Bool). cond (t || (ltb (s .at) (s .sent / 65536) || not (isSound (s .board) ids lens))) 2 0) e)
 
     module _ (short : isLong len ≡ false) where
-      short-code : pieceCode len s ids lens ≡ cond (ltb (s .at) (s .sent / 65536) || not (soundTest (s .board) ids lens)) 2 0
-      short-code = begun-code ∙ ap (λ (t : Bool). cond (t || (ltb (s .at) (s .sent / 65536) || not (soundTest (s .board) ids lens))) 2 0) short
+      short-code : pieceCode len s ids lens ≡ cond (ltb (s .at) (s .sent / 65536) || not (isSound (s .board) ids lens)) 2 0
+      short-code = begun-code ∙ ap (λ (t : Bool). cond (t || (ltb (s .at) (s .sent / 65536) || not (isSound (s .board) ids lens))) 2 0) short
 
       pub code-bytes : ltb (s .at) (s .sent / 65536) ≡ true → 2 ≡ pieceCode len s ids lens
-      code-bytes e = sym (short-code ∙ ap (λ (t : Bool). cond (t || not (soundTest (s .board) ids lens)) 2 0) e)
+      code-bytes e = sym (short-code ∙ ap (λ (t : Bool). cond (t || not (isSound (s .board) ids lens)) 2 0) e)
 
-      code-board : ltb (s .at) (s .sent / 65536) ≡ false → (t : Bool) → soundTest (s .board) ids lens ≡ t → _≡_ {A = ℕ} (cond t 0 2) (pieceCode len s ids lens)
+      code-board : ltb (s .at) (s .sent / 65536) ≡ false → (t : Bool) → isSound (s .board) ids lens ≡ t → _≡_ {A = ℕ} (cond t 0 2) (pieceCode len s ids lens)
       code-board e t q = sym (short-code ∙ ap₂ (λ (x y : Bool). cond (x || not y) 2 0) e q ∙ flip t)
         where
           flip : (y : Bool) → _≡_ {A = ℕ} (cond (false || not y) 2 0) (cond y 0 2)
@@ -74,7 +73,7 @@ module _ (len : ℕ) (s : State) (ids lens : List ℕ) (a : length ids ≡ 2048)
 
       pub code-early : ltb (s .at) (s .sent / 65536) ≡ false → earlyCode (s .board) ids lens ≡ pieceCode len s ids lens
       unfolding earlyCode
-      code-early e = ap (λ (t : Bool). cond t 3 (cond (soundTest (s .board) ids lens) 0 2)) (none-wrong (length ids) (length lens) a d) ∙ code-board e (soundTest (s .board) ids lens) refl
+      code-early e = ap (λ (t : Bool). cond t 3 (cond (isSound (s .board) ids lens) 0 2)) (none-wrong (length ids) (length lens) a d) ∙ code-board e (isSound (s .board) ids lens) refl
 
 -- ---- A piece that ends the listing
 

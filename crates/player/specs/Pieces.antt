@@ -8,8 +8,7 @@ use lib.Dec.{ltb}
 use lib.ListN.{length, take, drop}
 use Rattle.rules.specs.Board.{fresh}
 use Rattle.rules.specs.Calls.{wrongTables}
-use Rattle.board.specs.Reading.{encode}
-use Rattle.sound.specs.Test.{soundTest}
+use Rattle.board.specs.Reading.{encode, isSound}
 use Rattle.log.specs.Format.{isLong}
 use Rattle.plays.specs.Listing.{listingFrom, listingOf}
 use Rattle.player.specs.Fields.{memory, reads, KnownMemory}
@@ -34,7 +33,7 @@ restAfter log r ids lens = cond (r .over) [] (restOf log (r .state) ids lens)
 
 -- A table of another length is 3. After L, a long log, bytes sent of which there are too many for the offset, or a spoilt board is 2: no piece leaves such a state.
 abbrev pub unfit : ℕ → State → List ℕ → List ℕ → Bool
-unfit len s ids lens = isLong len || (ltb (s .at) (s .sent / 65536) || not (soundTest (s .board) ids lens))
+unfit len s ids lens = isLong len || (ltb (s .at) (s .sent / 65536) || not (isSound (s .board) ids lens))
 
 unfoldable pub pieceCode : ℕ → State → List ℕ → List ℕ → ℕ
 pieceCode len s ids lens = cond (wrongTables (length ids) (length lens)) 3 (cond (s .begun) (cond (unfit len s ids lens) 2 0) 0)

@@ -8,10 +8,10 @@ use Prim.Native.Nat.{ℕ, zero, suc, _≤_, _<_}
 use native.Mathlib.Nat.{le-antisymm}
 use native.Mathlib.Omega.{arith}
 use lib.ListN.{length}
-use Rattle.base.specs.Tests.{least}
+use Rattle.base.specs.Tests.{Decides, least}
 use Rattle.base.proofs.Numbers.{split, leb-yes, true-le}
 use Rattle.base.proofs.Tests.{least-true, least-false}
-use Rattle.base.proofs.Decides.{Decides, d-iff, d-true, d-eqb, d-and, d-or}
+use Rattle.base.proofs.Decides.{d-iff, d-true, d-eqb, d-and, d-or}
 use Rattle.units.specs.Classes.{nextStart}
 use Rattle.units.proofs.Starts.{next-is, next-align}
 use Rattle.units.proofs.Classes.{class-le}

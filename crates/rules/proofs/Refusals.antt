@@ -48,7 +48,7 @@ writes-refused (record! n r) code = refl
 writes-refused serve! code = refl
 
 -- a call is given 3, or 2, or does what the rules say of the board
-call-by : (lent : Lent) (c : Call) (P : Outcome → Type 0) → ((code : ℕ) → P (refusedBy lent c code)) → ((b : Board) → lent .board ≡ some b → P (done! b c)) → P (call lent c)
+pub call-by : (lent : Lent) (c : Call) (P : Outcome → Type 0) → ((code : ℕ) → P (refusedBy lent c code)) → ((b : Board) → lent .board ≡ some b → P (done! b c)) → P (call lent c)
 unfolding call
 call-by lent c P given go = byT (wrongTables (lent .numbers) (lent .lengths))
   where

@@ -11,10 +11,10 @@ use native.Mathlib.Decide.{ℕ-discrete}
 use lib.Dec.{leb, eqb}
 use lib.ListN.{length, List·getD-eq-default}
 use Rattle.base.specs.Sums.{oneIf}
-use Rattle.base.specs.Tests.{alike}
+use Rattle.base.specs.Tests.{Decides, alike}
 use Rattle.base.proofs.Numbers.{split, leb-no, true-le, leb-yes, false-lt, eqb-yes, eqb-no, eqb-true}
 use Rattle.base.proofs.Tests.{and-right, all-at, all-intro, and-both, and-left}
-use Rattle.base.proofs.Decides.{Decides, d-iff, d-true, d-leb, d-eqb, d-alike, d-not, d-and, d-or, d-imp, d-all, Each, d-every}
+use Rattle.base.proofs.Decides.{d-iff, d-true, d-leb, d-eqb, d-alike, d-not, d-and, d-or, d-imp, d-all, Each, d-every}
 use Rattle.units.specs.Classes.{Start, nextStart}
 use Rattle.units.specs.Credit.{largestCharge}
 use Rattle.units.proofs.Classes.{class-le}

@@ -11,7 +11,8 @@ use lib.ListN.{length, getD, List·getD-eq-default}
 use Rattle.base.specs.Sums.{oneIf}
 use Rattle.base.proofs.Numbers.{split, eqb-yes, eqb-no}
 use Rattle.base.proofs.Sums.{below-one, below-zero}
-use Rattle.base.proofs.Decides.{Decides, d-iff, d-eqb, d-or, d-all}
+use Rattle.base.specs.Tests.{Decides}
+use Rattle.base.proofs.Decides.{d-iff, d-eqb, d-or, d-all}
 use Rattle.places.specs.Ranges.{timesFound, numbersApart, numberApart}
 use Rattle.sound.proofs.Counts.{below-at}
 

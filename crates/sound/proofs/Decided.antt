@@ -1,21 +1,16 @@
 -- THE LAW OF THE TEST: with tables of 2,048 entries it is passed exactly by the values that are not spoilt.
-use mathlib.Core.Path.{_≡_}
-use mathlib.Core.List.{List}
-use Prim.Native.Nat.{ℕ}
 use lib.Dec.{eqb}
 use lib.ListN.{length}
 use Rattle.base.proofs.Numbers.{eqb-yes}
 use Rattle.base.proofs.Tests.{and-both}
-use Rattle.base.proofs.Decides.{Decides, d-iff}
-use Rattle.board.specs.declared.Board.{Board}
-use Rattle.board.specs.Reading.{Sound, Sized}
-use Rattle.sound.specs.Test.{soundTest}
+use Rattle.base.proofs.Decides.{d-iff}
+use Rattle.sound.specs.Test.{SoundDecides}
 use Rattle.sound.proofs.Rules.{d-rules}
 use Rattle.sound.proofs.Spelling.{spells-is}
 use Rattle.sound.proofs.Clauses.{keeps-is}
 use Rattle.sound.proofs.Passing.{rules-of}
 
-pub sound-decides : (b : Board) (ids lens : List ℕ) → Sized b → length ids ≡ 2048 → length lens ≡ 2048 → Decides (soundTest b ids lens) (Sound b ids lens)
+pub sound-decides : SoundDecides
 sound-decides b ids lens z i l = d-iff (d-rules b ids lens)
     (λ w. record { spells = spells-is b ids lens (w .1) z; keeps = keeps-is b ids lens z (w .1) })
     (λ s. (and-both (eqb (length ids) 2048) (eqb (length lens) 2048) (eqb-yes (length ids) 2048 i) (eqb-yes (length lens) 2048 l), rules-of b ids lens z s))

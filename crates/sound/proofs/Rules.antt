@@ -11,7 +11,8 @@ use borrow.Author.Tests.{ne-eqb, not-true}
 use Rattle.base.specs.Sums.{oneIf, below}
 use Rattle.base.proofs.Numbers.{eqb-yes, eqb-no}
 use Rattle.base.proofs.Tests.{and-left, and-right, and-both}
-use Rattle.base.proofs.Decides.{Decides, Each, d-every, d-and, d-eqb, d-true, d-leb, d-all, d-iff}
+use Rattle.base.specs.Tests.{Decides}
+use Rattle.base.proofs.Decides.{Each, d-every, d-and, d-eqb, d-true, d-leb, d-all, d-iff}
 use Rattle.bits.specs.Sets.{setBelow}
 use Rattle.units.specs.Classes.{nextStart}
 use Rattle.units.specs.Credit.{chargeOf}

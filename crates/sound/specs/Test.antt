@@ -1,14 +1,16 @@
 -- THE SPOILT TEST AS IT IS COMPUTED: each rule on what is read from the arrays and the tables, named after its clause of document 01.
--- The law `sound-decides` says that the test is passed exactly by the values that are not spoilt.
+-- No promise rests on it: SoundDecides says that it is passed exactly by the values that are not spoilt.
+use mathlib.Core.Path.{_≡_}
 use mathlib.Core.Bool.{Bool, cond, not, _&&_}
 use mathlib.Core.List.{List, [], _∷_}
 use Prim.Native.Nat.{ℕ, _*_, _-_, _^_}
 use lib.Dec.{leb, ltb, eqb}
 use lib.ListN.{length, getD}
-use Rattle.base.specs.Tests.{every, allBelow}
+use Rattle.base.specs.Tests.{Decides, every, allBelow}
 use Rattle.units.specs.Credit.{chargeOf}
 use Rattle.rules.specs.Board.{tableLength, out, entry}
 use Rattle.board.specs.declared.Board.{Board}
+use Rattle.board.specs.Reading.{Sized, Sound}
 use Rattle.places.specs.Ranges.{sizeInRange, numbersApart, placesInRange, sharesFit, heldWhileWaiting}
 use Rattle.orders.specs.Walks.{ordersListed, activeAsRuled, pendingAsRuled}
 
@@ -68,3 +70,10 @@ soundRules b ids lens =
 
 unfoldable pub soundTest : Board → List ℕ → List ℕ → Bool
 soundTest b ids lens = every (soundRules b ids lens)
+
+-- ---- THE LAW: with tables of 2,048 entries it is passed exactly by the values that are not spoilt. (A value's arrays have their lengths by type.)
+
+abbrev pub SoundDecides : Type 0
+SoundDecides =
+    (b : Board) (ids lens : List ℕ) → Sized b → length ids ≡ tableLength → length lens ≡ tableLength
+    → Decides (soundTest b ids lens) (Sound b ids lens)

@@ -1,4 +1,3 @@
-use mathlib.Core.Path.{_≡_, _∙_}
 use Rattle.calls.proofs.Calling.{early-burst, burst-known}
 use borrow.Author.Needs.{needs}
 use Rattle.calls.proofs.burst.Statement.{statement}
@@ -21,7 +20,7 @@ same-length : tie.Need-same-length
 same-length c = search needs
 
 returns-2 : tie.Need-returns-2
-returns-2 c = c .before .before .burst-board .ensures ∙ burst-known _ _ _ (c .before .before .before .before .before .early .result) (c .before .before .before .before .before .early .ensures .0) (c .before .before .before .before .before .early .ensures .1 (c .before .before .before .before .if1 .left)) (c .before .before .before .before .if1 .left) _ _
+returns-2 c = burst-known _ _ _ (c .before .before .before .before .before .early .ensures .1 (c .before .before .before .before .if1 .left)) _ _ _ (c .before .before .burst-board .ensures)
 
 pub burst-spec : {M : Type 1} → statement M
 burst-spec = tie.close (tie.spec early-requires returns burst-board-requires same-length returns-2)

@@ -18,7 +18,7 @@ close-block-requires : tie.Need-close-block-requires
 close-block-requires c κs = c .before .early .ensures .1 (c .if1 .left)
 
 returns-2 : tie.Need-returns-2
-returns-2 c = c .close-block .ensures ∙ called-known _ _ _ (c .before .before .early .result) (c .before .before .early .ensures .0) (c .before .before .early .ensures .1 (c .before .if1 .left)) (c .before .if1 .left) _
+returns-2 c = c .close-block .ensures ∙ called-known _ _ _ (c .before .before .early .ensures .1 (c .before .if1 .left)) _
 
 pub close-spec : {M : Type 1} → statement M
 close-spec = tie.close (tie.spec early-requires returns close-block-requires returns-2)

@@ -1,10 +1,11 @@
 use mathlib.Core.Path.{_≡_, sym, _∙_}
+use mathlib.Core.Bool.{true, false}
 use native.Mathlib.Omega.{arith}
 use lib.ListN.{length}
 use borrow.Author.Tests.{eq-eqb, ne-eqb}
 use Rattle.board.specs.Reading.{Sized}
 use Rattle.calls.specs.Promises.{earlyCode}
-use Rattle.calls.proofs.Calling.{known-by}
+use Rattle.calls.proofs.Calling.{early-by, known-by}
 use borrow.Author.Needs.{needs}
 use Rattle.calls.proofs.early.Statement.{statement}
 use Rattle.calls.proofs.early.Tie as tie
@@ -23,13 +24,17 @@ returns-2 c = (rw (eq-eqb _ _ (c .before .if1 .left), ne-eqb _ _ (c .if2 .taken)
 sound-requires : tie.Need-sound-requires
 sound-requires c κs = search needs
 
+-- the arrays of a value have their lengths by type
 returns-3 : tie.Need-returns-3
-unfolding earlyCode
-returns-3 c = let z : Sized (c .before .before .before .before .before .before .args .b) = record { numbers = search needs; shares = search needs; deficits = search needs; starts = search needs; counts = search needs; ready = search needs; next = search needs; heads = search needs; tails = search needs; held = search needs } in (rw (eq-eqb _ _ (c .before .before .before .if1 .left), eq-eqb _ _ (c .before .before .if2 .left), sym (c .before .sound .ensures) ∙ c .if3 .taken), λ q. known-by _ _ _ z (rw (eq-eqb _ _ (c .before .before .before .if1 .left), eq-eqb _ _ (c .before .before .if2 .left), sym (c .before .sound .ensures) ∙ c .if3 .taken)))
+returns-3 c =
+    let z : Sized (c .before .before .before .before .before .before .args .b) = record { numbers = search needs; shares = search needs; deficits = search needs; starts = search needs; counts = search needs; ready = search needs; next = search needs; heads = search needs; tails = search needs; held = search needs } in
+    let code = early-by _ _ _ z (c .before .before .before .if1 .left) (c .before .before .if2 .left) true (sym (c .before .sound .ensures) ∙ c .if3 .taken) in
+    (code, λ q. known-by _ _ _ (sym code))
 
 returns-4 : tie.Need-returns-4
-unfolding earlyCode
-returns-4 c = (rw (eq-eqb _ _ (c .before .before .before .if1 .left), eq-eqb _ _ (c .before .before .if2 .left), sym (c .before .sound .ensures) ∙ c .if3 .left), λ z. absurd (omega arith))
+returns-4 c =
+    let z : Sized (c .before .before .before .before .before .before .args .b) = record { numbers = search needs; shares = search needs; deficits = search needs; starts = search needs; counts = search needs; ready = search needs; next = search needs; heads = search needs; tails = search needs; held = search needs } in
+    (early-by _ _ _ z (c .before .before .before .if1 .left) (c .before .before .if2 .left) false (sym (c .before .sound .ensures) ∙ c .if3 .left), λ z. absurd (omega arith))
 
 pub early-spec : {M : Type 1} → statement M
 early-spec = tie.close (tie.spec returns returns-2 sound-requires returns-3 returns-4)

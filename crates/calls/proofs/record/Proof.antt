@@ -30,7 +30,7 @@ same-length-4 : tie.Need-same-length-4
 same-length-4 c = search needs
 
 returns-2 : tie.Need-returns-2
-returns-2 c = c .before .before .before .before .take-record .ensures ∙ called-known _ _ _ (c .before .before .before .before .before .before .before .before .early .result) (c .before .before .before .before .before .before .before .before .early .ensures .0) (c .before .before .before .before .before .before .before .before .early .ensures .1 (c .before .before .before .before .before .before .before .if1 .left)) (c .before .before .before .before .before .before .before .if1 .left) _
+returns-2 c = c .before .before .before .before .take-record .ensures ∙ called-known _ _ _ (c .before .before .before .before .before .before .before .before .early .ensures .1 (c .before .before .before .before .before .before .before .if1 .left)) _
 
 pub record-spec : {M : Type 1} → statement M
 record-spec =

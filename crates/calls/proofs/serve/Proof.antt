@@ -1,4 +1,3 @@
-use mathlib.Core.Path.{_≡_, _∙_}
 use Rattle.calls.proofs.Calling.{early-serve, serve-known}
 use borrow.Author.Needs.{needs}
 use Rattle.calls.proofs.serve.Statement.{statement}
@@ -18,7 +17,7 @@ serve-board-requires : tie.Need-serve-board-requires
 serve-board-requires c κs = c .before .early .ensures .1 (c .if1 .left)
 
 returns-2 : tie.Need-returns-2
-returns-2 c = c .serve-board .ensures ∙ serve-known _ _ _ (c .before .before .early .result) (c .before .before .early .ensures .0) (c .before .before .early .ensures .1 (c .before .if1 .left)) (c .before .if1 .left)
+returns-2 c = serve-known _ _ _ (c .before .before .early .ensures .1 (c .before .if1 .left)) _ (c .serve-board .ensures)
 
 pub serve-spec : {M : Type 1} → statement M
 serve-spec = tie.close (tie.spec early-requires returns serve-board-requires returns-2)

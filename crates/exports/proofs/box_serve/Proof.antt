@@ -14,7 +14,7 @@ put-back-requires : tie.Need-put-back-requires
 put-back-requires c κs = search needs
 
 returns : tie.Need-returns
-returns c = serve-lent _ _ _ _ _ _ _ _ _ _ _ (c .put-back .ensures) (c .before .before .before .before .before .before .before .before .before .before .before .before .before .before .before .before .before .before .serve .ensures) (c .before .before .before .before .before .before .before .before .before .before .before .before .before .before .before .before .before .before .before .lent-board .ensures)
+returns c = serve-lent _ _ _ _ _ _ _ _ _ _ _ _ _ (c .put-back .ensures) (c .before .before .before .before .before .before .before .before .before .before .before .before .before .before .before .before .before .before .serve .ensures) (c .before .before .before .before .before .before .before .before .before .before .before .before .before .before .before .before .before .before .before .lent-board .ensures)
 
 pub box-serve-spec : {M : Type 1} → statement M
 box-serve-spec = tie.close (tie.spec lent-board-requires serve-requires put-back-requires returns)
