@@ -20,7 +20,7 @@ use Rattle.rules.specs.Calls.{Single, open!, rename!, close!, record!, serve!, 
 use Rattle.rules.specs.Runs
 use Rattle.rules.specs.Runs.{play, runs, answer, laneOf, classAt, isFor, isDone, recordOf, clockOf, closes, isServe, Story, begins, goesOn, tells}
 use Rattle.rules.specs.Promises as Promised
-use Rattle.rules.specs.Promises.{OfRun, Accounted, bound}
+use Rattle.rules.specs.Promises.{OfRun, Accounted, bound, serves}
 use Rattle.rules.proofs.Tidy.{Tidy}
 use Rattle.rules.proofs.TidyCalls.{tidy-step}
 use Rattle.rules.proofs.Conserve.{sentOne, flow-step}
@@ -32,9 +32,9 @@ use Rattle.calls.specs.declared.Reply.{Reply}
 use Rattle.calls.specs.Promises.{Returned, called, made}
 use Rattle.calls.specs.declared.Served.{Served}
 use Rattle.calls.specs.Contract.{BurstOutcome, calledServe, calledBurst}
-use Rattle.chains.specs.Chains.{Holding, replyTells, servedTells, burstTells, Did, byReply, byServe, byBurst, Chain, stops, goes, Made}
-use Rattle.chains.specs.Demands.{reads, clock, bytesIn, slotBytes, NoneRefused, NotSpent, Unsent, story, lastSlot, slotAfter, HasRow, BurstIsServes, NeverRefused, Opened, Life, Conserved, SendsFront, ComesToFront, intoEmpty, nextUp, ByteBound, SentInTime, ServesSend, BurstSends, beginsSlot, slotsIn, SlotOnce, NeverTwice, SlotsSmall, OnlyOne, HasChain, HasLife, Spelt, over, single}
-use Rattle.chains.proofs.Chains.{Agrees, did-agrees, chain-is-run}
+use Rattle.chains.specs.Chains.{Holding, replyTells, servedTells, burstTells, Did, byReply, byServe, byBurst, Chain, stops, goes, Made, answersOf}
+use Rattle.chains.specs.Demands.{reads, clock, bytesIn, slotBytes, NoneRefused, NotSpent, Unsent, story, lastSlot, slotAfter, HasRow, BurstIsServes, NeverRefused, Opened, Life, Conserved, SendsFront, ComesToFront, intoEmpty, nextUp, WaitsAt, SameBytes, ServesSend, BurstSends, beginsSlot, slotsIn, SlotsSmall, OnlyOne, HasChain, HasLife, Spelt, over, single, asServes}
+use Rattle.chains.proofs.Chains.{Agrees, did-agrees, chain-from, chain-is-run}
 use Rattle.chains.proofs.Rows.{At, at-made, at-tidy, at-on, at-did, saidOf, play-join, Along, along, bytes-said, slot-bytes-said, story-said, unsent-said, spent-said, spelt-bytes, burst-is, row-from}
 use Rattle.chains.proofs.Slots.{Seen, seen-fresh, seen-play, seen-step, begins-said, slots-said}
 
@@ -42,6 +42,9 @@ use Rattle.chains.proofs.Slots.{Seen, seen-fresh, seen-play, seen-step,
 
 pub has-row : HasRow
 has-row L s m e before cs told₁ told made! first chain = row-from (at-on L (at-made L s made!) first .good) chain
+
+pub same-bytes : SameBytes
+same-bytes s e cs told xs said r = spelt-bytes (r .spelt)
 
 pub burst-is-serves : BurstIsServes
 burst-is-serves L s m before told₁ made! first bytes list r list′ p = burst-is m bytes list r list′ (at-on L (at-made L s made!) first .good) p
@@ -312,9 +315,12 @@ told-at L share st last f g x a l c d = record {
 told-front : (L share : ℕ) (st : Story) (f g : Holding) (x : Single) (a : Answer) → Told L share st f x a g → st .closed ≡ false → ComesToFront st x a → Fronted L share (reads f) (st .number) x
 told-front L share st f g x a t c z = fronted L share st (reads f) x a (t .is) (at-tidy L f (t .here)) (t .lives) (t .next) c z
 
-pub byte-bound : ByteBound
-byte-bound L share st last f g e x a cs told xs said l c d z r u =
-    subst (λ (k : ℕ). bytesIn told ≤ bound L k) (w .class)
+-- The byte bound, its time and the slot promises at a call of a chain, over any single calls after it: Passages has them at every moment.
+pub byte-bound-from : (L share : ℕ) (st : Story) (last : Option ℕ) (f g e : Holding) (x : Single) (a : Answer) (xs : List Single) (said : List Answer)
+    → Life L share st last f → st .closed ≡ false → Did f (one x) a g → ComesToFront st x a → Chain g (map one xs) said e → Unsent (st .number) xs said
+    → bytesIn said ≤ bound L (classOf share)
+byte-bound-from L share st last f g e x a xs said l c d z r u =
+    subst (λ (k : ℕ). bytesIn said ≤ bound L k) (w .class)
     (subst (λ (n : ℕ). n ≤ bound L (classAt (step (reads f) x .next) (st .number))) (sym count)
     (Promises.byte-bound L (reads f) (t .here .run) (st .number) x xs (w .comes) unsent))
   where
@@ -325,16 +331,18 @@ byte-bound L share st last f g e x a cs told xs said l c d z r u =
     w = told-front L share st f g x a t c z
 
     s : Along (reads g) xs said e
-    s = along xs (t .there .good) (r .singles)
+    s = along xs (t .there .good) r
 
     unsent : Runs.Unsent (st .number) (step (reads f) x .next) xs
     unsent = subst (λ (b : Board.Board). Runs.Unsent (st .number) b xs) (t .after) (unsent-said (st .number) (reads g) xs (subst (Unsent (st .number) xs) (s .answers) u))
 
-    count : bytesIn told ≡ Runs.bytesIn (step (reads f) x .next) xs
-    count = spelt-bytes (r .spelt) ∙ ap bytesIn (s .answers) ∙ bytes-said (reads g) xs ∙ ap (λ (b : Board.Board). Runs.bytesIn b xs) (t .after)
+    count : bytesIn said ≡ Runs.bytesIn (step (reads f) x .next) xs
+    count = ap bytesIn (s .answers) ∙ bytes-said (reads g) xs ∙ ap (λ (b : Board.Board). Runs.bytesIn b xs) (t .after)
 
-pub sent-in-time : SentInTime
-sent-in-time L share st last f g e x a cs told xs said l c d z r u v =
+pub sent-in-time-from : (L share : ℕ) (st : Story) (last : Option ℕ) (f g e : Holding) (x : Single) (a : Answer) (xs : List Single) (said : List Answer)
+    → Life L share st last f → st .closed ≡ false → Did f (one x) a g → ComesToFront st x a → Chain g (map one xs) said e → Unsent (st .number) xs said → NotSpent said
+    → Runs.servesIn xs ≤ bound L (classOf share)
+sent-in-time-from L share st last f g e x a xs said l c d z r u v =
     subst (λ (k : ℕ). Runs.servesIn xs ≤ bound L k) (w .class) (Promises.sent-in-time L (reads f) (t .here .run) (st .number) x xs (w .comes) unsent spent)
   where
     t : Told L share st f x a g
@@ -344,7 +352,7 @@ sent-in-time L share st last f g e x a cs told xs said l c d z r u v =
     w = told-front L share st f g x a t c z
 
     s : Along (reads g) xs said e
-    s = along xs (t .there .good) (r .singles)
+    s = along xs (t .there .good) r
 
     unsent : Runs.Unsent (st .number) (step (reads f) x .next) xs
     unsent = subst (λ (b : Board.Board). Runs.Unsent (st .number) b xs) (t .after) (unsent-said (st .number) (reads g) xs (subst (Unsent (st .number) xs) (s .answers) u))
@@ -419,7 +427,7 @@ burst-sends L share st last s f g cs told bytes list r made! chain d l c ne = go
 
 -- ---- slots
 
-made-fresh : (L : ℕ) (s : Holding) → Made L s → reads s ≡ fresh L
+pub made-fresh : (L : ℕ) (s : Holding) → Made L s → reads s ≡ fresh L
 unfolding runs
 made-fresh L s made! = chain-is-run L s s [] [] made! stops .board
 
@@ -464,8 +472,11 @@ said-more : (b : Board.Board) (x : Single) (xs : List Single) (a : Answer) (said
 unfolding saidOf
 said-more b x xs a said e f = ap₂ (λ (z : Answer) (zs : List Answer). z ∷ zs) e f
 
-pub slot-once : SlotOnce
-slot-once L share st last f g e a lo cs told xs said l c d w r h =
+pub slot-once-from : (L share : ℕ) (st : Story) (last : Option ℕ) (f g e : Holding) (a : Answer) (lo : ℕ) (xs : List Single) (said : List Answer)
+    → Life L share st last f → st .closed ≡ false → Did f (one serve!) a g → WaitsAt (classOf share) lo st last f a g
+    → Chain g (map one xs) said e → lo + 2 ^ classOf share ≤ clock e
+    → slotsIn lo (lo + 2 ^ classOf share) (st .number) last (serve! ∷ xs) (a ∷ said) ≡ 1
+slot-once-from L share st last f g e a lo xs said l c d w r h =
     subst (λ (k : ℕ). slotsIn lo (lo + 2 ^ k) (st .number) last (serve! ∷ xs) (a ∷ said) ≡ 1) q
     (ap (slotsIn lo (lo + 2 ^ classAt b (st .number)) (st .number) last (serve! ∷ xs)) (said-more b serve! xs a said (t .is) (s .answers ∙ ap (λ (z : Board.Board). saidOf z xs) (t .after)))
     ∙ slots-said lo (lo + 2 ^ classAt b (st .number)) (st .number) last b (serve! ∷ xs) tidy seen
@@ -478,7 +489,7 @@ slot-once L share st last f g e a lo cs told xs said l c d w r h =
     t = told-at L share st last f g serve! a l c d
 
     s : Along (reads g) xs said e
-    s = along xs (t .there .good) (r .singles)
+    s = along xs (t .there .good) r
 
     tidy : Tidy b
     tidy = at-tidy L f (t .here)
@@ -506,10 +517,12 @@ slot-once L share st last f g e a lo cs told xs said l c d w r h =
       after = still (w .after);
     }
 
-pub never-twice : NeverTwice
-never-twice L share st last f e lo cs told xs said l c r start =
+pub never-twice-from : (L share : ℕ) (st : Story) (last : Option ℕ) (f e : Holding) (lo : ℕ) (xs : List Single) (said : List Answer)
+    → Life L share st last f → st .closed ≡ false → Chain f (map one xs) said e → Start (classOf share) lo
+    → slotsIn lo (lo + 2 ^ classOf share) (st .number) last xs said ≤ 1
+never-twice-from L share st last f e lo xs said l c r start =
     subst (λ (k : ℕ). slotsIn lo (lo + 2 ^ k) (st .number) last xs said ≤ 1) q
-    (subst (λ (n : ℕ). n ≤ 1) (sym (ap (slotsIn lo (lo + 2 ^ classAt b (st .number)) (st .number) last xs) (along xs (h .good) (r .singles) .answers) ∙ slots-said lo (lo + 2 ^ classAt b (st .number)) (st .number) last b xs tidy (life-seen L share st last f l)))
+    (subst (λ (n : ℕ). n ≤ 1) (sym (ap (slotsIn lo (lo + 2 ^ classAt b (st .number)) (st .number) last xs) (along xs (h .good) r .answers) ∙ slots-said lo (lo + 2 ^ classAt b (st .number)) (st .number) last b xs tidy (life-seen L share st last f l)))
     (Promises.never-twice L b (h .run) (st .number) (p .0) lo xs (has-find b (p .0) (st .number) tidy (p .1 c .0)) (subst (λ (k : ℕ). Start k lo) (sym q) start)))
   where
     b : Board.Board
@@ -620,11 +633,6 @@ has-chain L range cs = (s, c .0, c .1, record { reply = w .reply; ids = zeros; l
     c : (told : List Answer) × (e : Holding) × Chain s cs told e
     c = chain-of s cs
 
--- a chain of single calls is its own row
-pub own-row : {s e : Holding} (xs : List Single) {said : List Answer} → Chain s (map one xs) said e → Spelt (map one xs) said xs said
-own-row [] stops = over
-own-row (x ∷ xs) (goes {a = a} d rest) = single x a (own-row xs rest)
-
 -- an opening that is done is answered 0
 abbrev SaysDone : Board.Board → Single → Turn → Type 0
 SaysDone b (open! n s) t = codeOf (told b (t .out)) ≡ 0 → told b (t .out) ≡ gives 0
@@ -643,14 +651,32 @@ says-done b g = call-cases b g (SaysDone b) (record { refused = says; opens = λ
     says (record! n x) code r = tt
     says serve! code r = tt
 
+-- the row of a chain is the rules' row of its calls
+rest-of : List Answer → List Answer
+rest-of [] = []
+rest-of (a ∷ told) = told
+
+pub spelt-row : (b : Board.Board) {cs : List Call} {told said : List Answer} {xs : List Single} → Spelt cs told xs said → told ≡ answersOf b cs → xs ≡ Runs.row b cs
+unfolding Runs.row answersOf rest-of
+spelt-row b over e = refl
+spelt-row b (single x a rest) e = ap (λ (xs : List Single). x ∷ xs) (spelt-row (step b x .next) rest (ap rest-of e))
+spelt-row b (asServes bytes list r out n m rest) e = ap₂ (λ (i : ℕ) (xs : List Single). serves i ++ xs) (n ∙ ap (λ (told : List Answer). countIn told) e) (spelt-row (burst b bytes (length list) .next) rest (ap rest-of e))
+  where
+    countIn : List Answer → ℕ
+    countIn [] = 0
+    countIn (a ∷ told) = countBy a
+
 pub has-life : HasLife
 has-life L range before n share after e = go (has-chain L range before)
   where
     b : Board.Board
     b = runs (fresh L) before
 
+    o : Board.Board
+    o = step b (open! n share) .next
+
     go : ((s : Holding) × (told : List Answer) × (m : Holding) × Made L s × Chain s before told m)
-        → (last : Option ℕ) × (e : Holding) × Life L share (Runs.story (begins n) (step b (open! n share) .next) after) last e × (reads e ≡ play (step b (open! n share) .next) after)
+        → (last : Option ℕ) × (e : Holding) × Life L share (Runs.story (begins n) o (Runs.row o after)) last e × (reads e ≡ runs o after)
     go (s, told′, m, made!, chain) =
         let h = at-on L (at-made L s made!) chain in
         let q = chain-is-run L s m before told′ made! chain .board in
@@ -658,22 +684,26 @@ has-life L range before n share after e = go (has-chain L range before)
         let d = has-did m (one (open! n share)) in
         let g = did-agrees m (d .1) (one (open! n share)) (d .0) (h .good) (d .2) in
         let zero! = g .told! ∙ says-done (reads m) (at-tidy L m h) (open! n share) (subst (λ (z : Board.Board). codeOf (answer z (open! n share)) ≡ 0) (sym q) e) in
-        let c = chain-of (d .1) (map one after) in
-        let l = along after (g .good) (c .2) in (
-          lastSlot (lastSlot none (r .1)) (c .0),
+        let opened! : reads (d .1) ≡ o = g .after ∙ ap (λ (z : Board.Board). step z (open! n share) .next) q in
+        let c = chain-of (d .1) after in
+        let t = chain-from (g .good) (c .2) in
+        let k = row-from (g .good) (c .2) in
+        let l = along (k .0) (g .good) (k .2 .singles) in
+        let its-row = spelt-row (reads (d .1)) (k .2 .spelt) (t .2) ∙ ap (λ (z : Board.Board). Runs.row z after) opened! in (
+          lastSlot (lastSlot none (r .1)) (k .1),
           c .1,
           record {
             number = n;
             first = lastSlot none (r .1);
             opening = d .1;
             opened = record { start = s; made = made!; cs = before; told = told′; xs = r .0; said = r .1; before = m; row = r .2; latest = refl; opens = subst (λ (z : Answer). Did m (one (open! n share)) z (d .1)) zero! (d .2) };
-            cs = map one after;
+            cs = after;
             told = c .0;
-            xs = after;
-            said = c .0;
-            row = record { chain = c .2; spelt = own-row after (c .2); singles = c .2 };
+            xs = k .0;
+            said = k .1;
+            row = k .2;
             latest = refl;
-            told! = ap (story (begins n) after) (l .answers) ∙ story-said (begins n) (reads (d .1)) after ∙ ap (λ (z : Board.Board). Runs.story (begins n) z after) (g .after ∙ ap (λ (z : Board.Board). step z (open! n share) .next) q);
+            told! = ap (story (begins n) (k .0)) (l .answers) ∙ story-said (begins n) (reads (d .1)) (k .0) ∙ ap₂ (λ (z : Board.Board) (xs : List Single). Runs.story (begins n) z xs) opened! its-row;
           },
-          l .board ∙ ap (λ (z : Board.Board). play z after) (g .after ∙ ap (λ (z : Board.Board). step z (open! n share) .next) q),
+          t .1 ∙ ap (λ (z : Board.Board). runs z after) opened!,
         )
