@@ -33,7 +33,7 @@ use Rattle.calls.specs.Promises.{Returned, called, made}
 use Rattle.calls.specs.declared.Served.{Served}
 use Rattle.calls.specs.Contract.{BurstOutcome, calledServe, calledBurst}
 use Rattle.chains.specs.Chains.{Holding, replyTells, servedTells, burstTells, Did, byReply, byServe, byBurst, Chain, stops, goes, Made, answersOf}
-use Rattle.chains.specs.Demands.{reads, clock, bytesIn, slotBytes, NoneRefused, NotSpent, Unsent, story, lastSlot, slotAfter, HasRow, BurstIsServes, NeverRefused, Opened, Life, Conserved, SendsFront, ComesToFront, intoEmpty, nextUp, WaitsAt, SameBytes, ServesSend, BurstSends, beginsSlot, slotsIn, SlotsSmall, OnlyOne, HasChain, HasLife, Spelt, over, single, asServes}
+use Rattle.chains.specs.Demands.{reads, clock, bytesIn, slotBytes, NoneRefused, NotSpent, Unsent, story, lastSlot, slotAfter, HasRow, BurstIsServes, NeverRefused, Opened, Life, Conserved, SendsFront, ComesToFront, intoEmpty, nextUp, StaysInFront, WaitsAt, SameBytes, ServesSend, BurstSends, beginsSlot, slotsIn, SlotsSmall, OnlyOne, HasChain, HasLife, Spelt, over, single, asServes}
 use Rattle.chains.proofs.Chains.{Agrees, did-agrees, chain-from, chain-is-run}
 use Rattle.chains.proofs.Rows.{At, at-made, at-tidy, at-on, at-did, saidOf, play-join, Along, along, bytes-said, slot-bytes-said, story-said, unsent-said, spent-said, spelt-bytes, burst-is, row-from}
 use Rattle.chains.proofs.Slots.{Seen, seen-fresh, seen-play, seen-step, begins-said, slots-said}
@@ -151,7 +151,7 @@ opening-more L share st b x o = record {
 opened-at : (L n share : ℕ) (last : Option ℕ) (o : Holding) → Opened L n share last o → At L o
 opened-at L n share last o w = at-did L (at-on L (at-made L (w .start) (w .made)) (w .row .chain)) (w .opens)
 
-pub life-at : (L share : ℕ) (st : Story) (last : Option ℕ) (e : Holding) → Life L share st last e → At L e
+life-at : (L share : ℕ) (st : Story) (last : Option ℕ) (e : Holding) → Life L share st last e → At L e
 life-at L share st last e l = at-on L (opened-at L (l .number) share (l .first) (l .opening) (l .opened)) (l .row .chain)
 
 life-opening : (L share : ℕ) (st : Story) (last : Option ℕ) (e : Holding) → Life L share st last e → Opening L share st (reads e)
@@ -317,45 +317,45 @@ told-front L share st f g x a t c z = fronted L share st (reads f) x a (t .is) (
 
 -- The byte bound, its time and the slot promises at a call of a chain, over any single calls after it: Passages has them at every moment.
 pub byte-bound-from : (L share : ℕ) (st : Story) (last : Option ℕ) (f g e : Holding) (x : Single) (a : Answer) (xs : List Single) (said : List Answer)
-    → Life L share st last f → st .closed ≡ false → Did f (one x) a g → ComesToFront st x a → Chain g (map one xs) said e → Unsent (st .number) xs said
+    → Life L share st last f → Did f (one x) a g → Chain g (map one xs) said e → StaysInFront st x a xs said
     → bytesIn said ≤ bound L (classOf share)
-byte-bound-from L share st last f g e x a xs said l c d z r u =
+byte-bound-from L share st last f g e x a xs said l d r s! =
     subst (λ (k : ℕ). bytesIn said ≤ bound L k) (w .class)
     (subst (λ (n : ℕ). n ≤ bound L (classAt (step (reads f) x .next) (st .number))) (sym count)
     (Promises.byte-bound L (reads f) (t .here .run) (st .number) x xs (w .comes) unsent))
   where
     t : Told L share st f x a g
-    t = told-at L share st last f g x a l c d
+    t = told-at L share st last f g x a l (s! .still) d
 
     w : Fronted L share (reads f) (st .number) x
-    w = told-front L share st f g x a t c z
+    w = told-front L share st f g x a t (s! .still) (s! .comes)
 
     s : Along (reads g) xs said e
     s = along xs (t .there .good) r
 
     unsent : Runs.Unsent (st .number) (step (reads f) x .next) xs
-    unsent = subst (λ (b : Board.Board). Runs.Unsent (st .number) b xs) (t .after) (unsent-said (st .number) (reads g) xs (subst (Unsent (st .number) xs) (s .answers) u))
+    unsent = subst (λ (b : Board.Board). Runs.Unsent (st .number) b xs) (t .after) (unsent-said (st .number) (reads g) xs (subst (Unsent (st .number) xs) (s .answers) (s! .unsent)))
 
     count : bytesIn said ≡ Runs.bytesIn (step (reads f) x .next) xs
     count = ap bytesIn (s .answers) ∙ bytes-said (reads g) xs ∙ ap (λ (b : Board.Board). Runs.bytesIn b xs) (t .after)
 
 pub sent-in-time-from : (L share : ℕ) (st : Story) (last : Option ℕ) (f g e : Holding) (x : Single) (a : Answer) (xs : List Single) (said : List Answer)
-    → Life L share st last f → st .closed ≡ false → Did f (one x) a g → ComesToFront st x a → Chain g (map one xs) said e → Unsent (st .number) xs said → NotSpent said
+    → Life L share st last f → Did f (one x) a g → Chain g (map one xs) said e → StaysInFront st x a xs said → NotSpent said
     → Runs.servesIn xs ≤ bound L (classOf share)
-sent-in-time-from L share st last f g e x a xs said l c d z r u v =
+sent-in-time-from L share st last f g e x a xs said l d r s! v =
     subst (λ (k : ℕ). Runs.servesIn xs ≤ bound L k) (w .class) (Promises.sent-in-time L (reads f) (t .here .run) (st .number) x xs (w .comes) unsent spent)
   where
     t : Told L share st f x a g
-    t = told-at L share st last f g x a l c d
+    t = told-at L share st last f g x a l (s! .still) d
 
     w : Fronted L share (reads f) (st .number) x
-    w = told-front L share st f g x a t c z
+    w = told-front L share st f g x a t (s! .still) (s! .comes)
 
     s : Along (reads g) xs said e
     s = along xs (t .there .good) r
 
     unsent : Runs.Unsent (st .number) (step (reads f) x .next) xs
-    unsent = subst (λ (b : Board.Board). Runs.Unsent (st .number) b xs) (t .after) (unsent-said (st .number) (reads g) xs (subst (Unsent (st .number) xs) (s .answers) u))
+    unsent = subst (λ (b : Board.Board). Runs.Unsent (st .number) b xs) (t .after) (unsent-said (st .number) (reads g) xs (subst (Unsent (st .number) xs) (s .answers) (s! .unsent)))
 
     spent : Runs.NotSpent (step (reads f) x .next) xs
     spent = subst (λ (b : Board.Board). Runs.NotSpent b xs) (t .after) (spent-said (reads g) xs (subst NotSpent (s .answers) v))
@@ -392,7 +392,8 @@ pub serves-send : ServesSend
 serves-send L share st last f g a l c ne d =
     subst (λ (z : Answer). (z ≡ gives 11) ⊎ ((s : Sent) × (z ≡ sends s))) (sym (did-agrees f g (one serve!) a (life-at L share st last f l .good) d .told!)) (serve-waiting L share st last f l c ne)
 
-abbrev countBy : Answer → ℕ
+-- how many records a burst tells of
+abbrev pub countBy : Answer → ℕ
 countBy (gives code) = 0
 countBy (takes a) = 0
 countBy (sends a) = 0
@@ -434,7 +435,7 @@ made-fresh L s made! = chain-is-run L s s [] [] made! stops .board
 seen-same : {u v : Option ℕ} {b c : Board.Board} → u ≡ v → b ≡ c → Seen u b → Seen v c
 seen-same {v = v} {b = b} e f s = subst (Seen v) f (subst (λ (o : Option ℕ). Seen o b) e s)
 
-pub life-seen : (L share : ℕ) (st : Story) (last : Option ℕ) (e : Holding) → Life L share st last e → Seen last (reads e)
+life-seen : (L share : ℕ) (st : Story) (last : Option ℕ) (e : Holding) → Life L share st last e → Seen last (reads e)
 life-seen L share st last e l = seen-same (ap (lastSlot (l .first)) (sym (at-end .answers)) ∙ l .latest) (sym (at-end .board)) (seen-play (l .first) (reads (l .opening)) (l .xs) (at-tidy L (l .opening) o) opening)
   where
     w : Opened L (l .number) share (l .first) (l .opening)
@@ -473,10 +474,10 @@ unfolding saidOf
 said-more b x xs a said e f = ap₂ (λ (z : Answer) (zs : List Answer). z ∷ zs) e f
 
 pub slot-once-from : (L share : ℕ) (st : Story) (last : Option ℕ) (f g e : Holding) (a : Answer) (lo : ℕ) (xs : List Single) (said : List Answer)
-    → Life L share st last f → st .closed ≡ false → Did f (one serve!) a g → WaitsAt (classOf share) lo st last f a g
-    → Chain g (map one xs) said e → lo + 2 ^ classOf share ≤ clock e
+    → Life L share st last f → Did f (one serve!) a g → Chain g (map one xs) said e
+    → WaitsAt (classOf share) lo st last (clock f) a (clock g) → lo + 2 ^ classOf share ≤ clock e
     → slotsIn lo (lo + 2 ^ classOf share) (st .number) last (serve! ∷ xs) (a ∷ said) ≡ 1
-slot-once-from L share st last f g e a lo xs said l c d w r h =
+slot-once-from L share st last f g e a lo xs said l d r w h =
     subst (λ (k : ℕ). slotsIn lo (lo + 2 ^ k) (st .number) last (serve! ∷ xs) (a ∷ said) ≡ 1) q
     (ap (slotsIn lo (lo + 2 ^ classAt b (st .number)) (st .number) last (serve! ∷ xs)) (said-more b serve! xs a said (t .is) (s .answers ∙ ap (λ (z : Board.Board). saidOf z xs) (t .after)))
     ∙ slots-said lo (lo + 2 ^ classAt b (st .number)) (st .number) last b (serve! ∷ xs) tidy seen
@@ -486,7 +487,7 @@ slot-once-from L share st last f g e a lo xs said l c d w r h =
     b = reads f
 
     t : Told L share st f serve! a g
-    t = told-at L share st last f g serve! a l c d
+    t = told-at L share st last f g serve! a l (w .still) d
 
     s : Along (reads g) xs said e
     s = along xs (t .there .good) r
@@ -498,7 +499,7 @@ slot-once-from L share st last f g e a lo xs said l c d w r h =
     seen = life-seen L share st last f l
 
     q : classAt b (st .number) ≡ classOf share
-    q = class-at share st b tidy (t .lives) c
+    q = class-at share st b tidy (t .lives) (w .still)
 
     reached : lo + 2 ^ classOf share ≤ play (step b serve! .next) xs .clock
     reached = subst (λ (n : ℕ). lo + 2 ^ classOf share ≤ n) (sym (clock-reads e) ∙ ap (λ (z : Board.Board). z .clock) (s .board ∙ ap (λ (z : Board.Board). play z xs) (t .after))) h
@@ -632,78 +633,3 @@ has-chain L range cs = (s, c .0, c .1, record { reply = w .reply; ids = zeros; l
 
     c : (told : List Answer) × (e : Holding) × Chain s cs told e
     c = chain-of s cs
-
--- an opening that is done is answered 0
-abbrev SaysDone : Board.Board → Single → Turn → Type 0
-SaysDone b (open! n s) t = codeOf (told b (t .out)) ≡ 0 → told b (t .out) ≡ gives 0
-SaysDone b (rename! old new) t = Unit {0}
-SaysDone b (close! n) t = Unit {0}
-SaysDone b (record! n r) t = Unit {0}
-SaysDone b serve! t = Unit {0}
-
-says-done : (b : Board.Board) → Tidy b → (x : Single) → SaysDone b x (step b x)
-says-done b g = call-cases b g (SaysDone b) (record { refused = says; opens = λ n s c e. refl; renames = λ p old new c. tt; closes = λ p n c. tt; takes = λ p n r c. tt; goesOn = λ p c. tt; begins = λ r t p c e. tt })
-  where
-    says : (x : Single) (code : ℕ) → Refusal code → SaysDone b x (record { out = refused code; next = b })
-    says (open! n s) code r = λ e. ap gives e
-    says (rename! old new) code r = tt
-    says (close! n) code r = tt
-    says (record! n x) code r = tt
-    says serve! code r = tt
-
--- the row of a chain is the rules' row of its calls
-rest-of : List Answer → List Answer
-rest-of [] = []
-rest-of (a ∷ told) = told
-
-pub spelt-row : (b : Board.Board) {cs : List Call} {told said : List Answer} {xs : List Single} → Spelt cs told xs said → told ≡ answersOf b cs → xs ≡ Runs.row b cs
-unfolding Runs.row answersOf rest-of
-spelt-row b over e = refl
-spelt-row b (single x a rest) e = ap (λ (xs : List Single). x ∷ xs) (spelt-row (step b x .next) rest (ap rest-of e))
-spelt-row b (asServes bytes list r out n m rest) e = ap₂ (λ (i : ℕ) (xs : List Single). serves i ++ xs) (n ∙ ap (λ (told : List Answer). countIn told) e) (spelt-row (burst b bytes (length list) .next) rest (ap rest-of e))
-  where
-    countIn : List Answer → ℕ
-    countIn [] = 0
-    countIn (a ∷ told) = countBy a
-
-pub has-life : HasLife
-has-life L range before n share after e = go (has-chain L range before)
-  where
-    b : Board.Board
-    b = runs (fresh L) before
-
-    o : Board.Board
-    o = step b (open! n share) .next
-
-    go : ((s : Holding) × (told : List Answer) × (m : Holding) × Made L s × Chain s before told m)
-        → (last : Option ℕ) × (e : Holding) × Life L share (Runs.story (begins n) o (Runs.row o after)) last e × (reads e ≡ runs o after)
-    go (s, told′, m, made!, chain) =
-        let h = at-on L (at-made L s made!) chain in
-        let q = chain-is-run L s m before told′ made! chain .board in
-        let r = row-from (at-made L s made! .good) chain in
-        let d = has-did m (one (open! n share)) in
-        let g = did-agrees m (d .1) (one (open! n share)) (d .0) (h .good) (d .2) in
-        let zero! = g .told! ∙ says-done (reads m) (at-tidy L m h) (open! n share) (subst (λ (z : Board.Board). codeOf (answer z (open! n share)) ≡ 0) (sym q) e) in
-        let opened! : reads (d .1) ≡ o = g .after ∙ ap (λ (z : Board.Board). step z (open! n share) .next) q in
-        let c = chain-of (d .1) after in
-        let t = chain-from (g .good) (c .2) in
-        let k = row-from (g .good) (c .2) in
-        let l = along (k .0) (g .good) (k .2 .singles) in
-        let its-row = spelt-row (reads (d .1)) (k .2 .spelt) (t .2) ∙ ap (λ (z : Board.Board). Runs.row z after) opened! in (
-          lastSlot (lastSlot none (r .1)) (k .1),
-          c .1,
-          record {
-            number = n;
-            first = lastSlot none (r .1);
-            opening = d .1;
-            opened = record { start = s; made = made!; cs = before; told = told′; xs = r .0; said = r .1; before = m; row = r .2; latest = refl; opens = subst (λ (z : Answer). Did m (one (open! n share)) z (d .1)) zero! (d .2) };
-            cs = after;
-            told = c .0;
-            xs = k .0;
-            said = k .1;
-            row = k .2;
-            latest = refl;
-            told! = ap (story (begins n) (k .0)) (l .answers) ∙ story-said (begins n) (reads (d .1)) (k .0) ∙ ap₂ (λ (z : Board.Board) (xs : List Single). Runs.story (begins n) z xs) opened! its-row;
-          },
-          t .1 ∙ ap (λ (z : Board.Board). runs z after) opened!,
-        )

@@ -80,7 +80,8 @@ HasRow = (L : ℕ) (s m e : Holding) (before cs : List Call) (told₁ told : Lis
 
 -- A chain's own answers, its bursts' totals among them, tell of the bytes that its row's answers tell of.
 abbrev pub SameBytes : Type 0
-SameBytes = (s e : Holding) (cs : List Call) (told : List Answer) (xs : List Single) (said : List Answer) → Row s cs told xs said e → bytesIn told ≡ bytesIn said
+SameBytes = (s e : Holding) (cs : List Call) (told : List Answer) (xs : List Single) (said : List Answer)
+    → Row s cs told xs said e → bytesIn told ≡ bytesIn said
 
 -- A burst of a chain: the single serving calls that it is, from the value that it was given to the value that it left; the list's first
 -- entries are their records' numbers, and the others are as they were.
@@ -159,8 +160,8 @@ pub record Chained (L : ℕ) : Type 0 where
   pub made : Made L start
   pub row : Row start cs told xs said finish
 
--- The row's calls in parts: those before a block's opening; the opening; those since; one call; those during which something lasts; the rest.
--- Each part may begin, and end, inside a burst.
+-- The row's calls in parts: those before a block's opening; the opening; those since; one call; those during which
+-- something lasts; the rest. Each part may begin, and end, inside a burst.
 pub record Parting : Type 0 where
   pub first : List Single
   pub number : ℕ
@@ -173,7 +174,8 @@ pub record Parting : Type 0 where
 abbrev pub callsOf : Parting → List Single
 callsOf w = w .first ++ (open! (w .number) (w .share) ∷ (w .since ++ (w .at ∷ (w .during ++ w .rest))))
 
--- the answers to each part, of which the opening's is 0, and the values between the parts
+-- the answers to each part, of which the opening's is 0, and the values between the parts: f is given to the one call,
+-- which leaves g, and h is what the part that lasts leaves
 pub record Passage (L : ℕ) (c : Chained L) (w : Parting) : Type 0 where
   pub firstSaid : List Answer
   pub sinceSaid : List Answer
@@ -196,7 +198,8 @@ pub record Passage (L : ℕ) (c : Chained L) (w : Parting) : Type 0 where
 
 -- Wherever a row is parted at an opening that was answered 0, it has such a passage.
 abbrev pub HasPassage : Type 0
-HasPassage = (L : ℕ) (c : Chained L) (w : Parting) → c .xs ≡ callsOf w → getD (c .said) (length (w .first)) (gives 1) ≡ gives 0 → Passage L c w
+HasPassage = (L : ℕ) (c : Chained L) (w : Parting)
+    → c .xs ≡ callsOf w → getD (c .said) (length (w .first)) (gives 1) ≡ gives 0 → Passage L c w
 
 -- what is told of the block, and the clock of the last send, before the one call; and at the end of the part that lasts
 abbrev pub tale : {L : ℕ} {c : Chained L} {w : Parting} → Passage L c w → Story
@@ -241,18 +244,24 @@ Unsent n [] said = Unit {0}
 Unsent n (x ∷ xs) [] = Unit {0}
 Unsent n (x ∷ xs) (a ∷ said) = (isFor n a ≡ false) × Unsent (numberAfter n x a) xs said
 
--- From the moment a record comes to the front of a lane of class k, by a single call or inside a burst, until it is sent, by either, the answers
--- tell of at most (2^(k+1) - 1) x (3L - 1) bytes. (Those that the burst which sends it sent before it are told of: the part ends inside it.)
+-- a record comes to the front by the call x, and is not sent by any of xs
+pub record StaysInFront (st : Story) (x : Single) (a : Answer) (xs : List Single) (said : List Answer) : Type 0 where
+  pub still : st .closed ≡ false
+  pub comes : ComesToFront st x a
+  pub unsent : Unsent (st .number) xs said
+
+-- From the moment a record comes to the front of a lane of class k, by a single call or inside a burst, until it is
+-- sent, by a single call or inside a burst, the answers tell of at most (2^(k+1) - 1) x (3L - 1) bytes. What the burst
+-- that sends it sent before it is told of too, since the part that lasts may end inside that burst.
 abbrev pub ByteBound : Type 0
 ByteBound = (L : ℕ) (c : Chained L) (w : Parting) (p : Passage L c w)
-    → tale p .closed ≡ false → ComesToFront (tale p) (w .at) (p .answered) → Unsent (tale p .number) (w .during) (p .duringSaid)
+    → StaysInFront (tale p) (w .at) (p .answered) (w .during) (p .duringSaid)
     → bytesIn (p .duringSaid) ≤ bound L (classOf (w .share))
 
 -- It is sent: no more than that many serving calls, those of bursts among them, pass it, unless one is answered 11.
 abbrev pub SentInTime : Type 0
 SentInTime = (L : ℕ) (c : Chained L) (w : Parting) (p : Passage L c w)
-    → tale p .closed ≡ false → ComesToFront (tale p) (w .at) (p .answered) → Unsent (tale p .number) (w .during) (p .duringSaid)
-    → NotSpent (p .duringSaid)
+    → StaysInFront (tale p) (w .at) (p .answered) (w .during) (p .duringSaid) → NotSpent (p .duringSaid)
     → servesIn (w .during) ≤ bound L (classOf (w .share))
 
 -- While a record waits, a single serving call is answered with a record that is sent, or 11.
@@ -289,28 +298,29 @@ slotsIn lo hi n last (x ∷ xs) (a ∷ said) =
     let later = slotsIn lo hi (numberAfter n x a) (slotAfter last a) xs said in
     oneIf (beginsIn lo hi n last a) + cond (closes n x a) 0 later
 
--- A serving call, single or of a burst, given f, answered a and left g. It brought the clock to lo, a start of class k, or past it. The block waits when the
--- clock gets there: before the call, and after it too unless the call itself began the block's slot at lo or later.
-pub record WaitsAt (k lo : ℕ) (st : Story) (last : Option ℕ) (f : Holding) (a : Answer) (g : Holding) : Type 0 where
+-- A serving call, single or of a burst, was answered a. It brought the clock from t to u: to lo, a start of class k, or
+-- past it. The block waits when the clock gets there: before the call, and after it too unless the call itself began the
+-- block's slot at lo or later.
+pub record WaitsAt (k lo : ℕ) (st : Story) (last : Option ℕ) (t : ℕ) (a : Answer) (u : ℕ) : Type 0 where
+  pub still : st .closed ≡ false
   pub start : Start k lo
-  pub early : clock f < lo
-  pub reached : lo ≤ clock g
+  pub early : t < lo
+  pub reached : lo ≤ u
   pub before : st .taken ≢ st .sent
   pub after : (goesOn st serve! a .taken ≢ goesOn st serve! a .sent) ⊎ ((beginsSlot (st .number) last a ≡ true) × (lo ≤ clockOf a))
 
 -- A block already waiting when the clock reaches a start of its class has exactly one slot begun in that interval by the time the clock
 -- reaches its end. The clock may reach either inside a burst.
 abbrev pub SlotOnce : Type 0
-SlotOnce = (L : ℕ) (c : Chained L) (w : Parting) (p : Passage L c w) (lo : ℕ)
-    → tale p .closed ≡ false → w .at ≡ serve! → WaitsAt (classOf (w .share)) lo (tale p) (lastOf p) (p .f) (p .answered) (p .g)
-    → lo + 2 ^ classOf (w .share) ≤ clock (p .h)
-    → slotsIn lo (lo + 2 ^ classOf (w .share)) (tale p .number) (lastOf p) (w .at ∷ w .during) (p .answered ∷ p .duringSaid) ≡ 1
+SlotOnce = (L : ℕ) (c : Chained L) (w : Parting) (p : Passage L c w) (lo : ℕ) → let k = classOf (w .share) in
+    w .at ≡ serve! → WaitsAt k lo (tale p) (lastOf p) (clock (p .f)) (p .answered) (clock (p .g)) → lo + 2 ^ k ≤ clock (p .h)
+    → slotsIn lo (lo + 2 ^ k) (tale p .number) (lastOf p) (w .at ∷ w .during) (p .answered ∷ p .duringSaid) ≡ 1
 
 -- No block ever has two slots begun in one interval of its class.
 abbrev pub NeverTwice : Type 0
-NeverTwice = (L : ℕ) (c : Chained L) (w : Parting) (p : Passage L c w) (lo : ℕ)
-    → tale p .closed ≡ false → Start (classOf (w .share)) lo
-    → slotsIn lo (lo + 2 ^ classOf (w .share)) (tale p .number) (lastOf p) (w .at ∷ w .during) (p .answered ∷ p .duringSaid) ≤ 1
+NeverTwice = (L : ℕ) (c : Chained L) (w : Parting) (p : Passage L c w) (lo : ℕ) → let k = classOf (w .share) in
+    tale p .closed ≡ false → Start k lo
+    → slotsIn lo (lo + 2 ^ k) (tale p .number) (lastOf p) (w .at ∷ w .during) (p .answered ∷ p .duringSaid) ≤ 1
 
 -- A slot sends at most 3L - 1 bytes: the sends of a whole chain that are answered with one clock.
 abbrev pub SlotsSmall : Type 0
@@ -331,4 +341,5 @@ HasChain = (L : ℕ) → InRange L → (cs : List Call) → (s : Holding) × (to
 abbrev pub HasLife : Type 0
 HasLife = (L : ℕ) → InRange L → (before : List Call) (n share : ℕ) (after : List Call)
     → let b = runs (fresh L) before in let o = step b (open! n share) .next in codeOf (answer b (open! n share)) ≡ 0
-    → (last : Option ℕ) × (e : Holding) × Life L share (Runs.story (begins n) o (Runs.row o after)) last e × (reads e ≡ runs o after)
+    → (last : Option ℕ) × (e : Holding)
+    × Life L share (Runs.story (begins n) o (Runs.row o after)) last e × (reads e ≡ runs o after)
