@@ -1,4 +1,4 @@
--- THE THEOREMS: one for each proposition of specs/Demands.antt, in its order.
+-- THE THEOREMS: one for each proposition of specs/Demands.antt, in its order; those that speak of a passage, and has-life, stand in Passages.
 use mathlib.Core.Path.{_≡_, refl, sym, ap, ap₂, subst, _∙_}
 use mathlib.Core.Bool.{Bool, true, false, cond, not, _||_, true≢false, false≢true}
 use mathlib.Core.Logic.{_⊎_, inl, inr, _≢_}
@@ -20,7 +20,7 @@ use Rattle.rules.specs.Calls.{Single, open!, rename!, close!, record!, serve!, 
 use Rattle.rules.specs.Runs
 use Rattle.rules.specs.Runs.{play, runs, answer, laneOf, classAt, isFor, isDone, recordOf, clockOf, closes, isServe, Story, begins, goesOn, tells}
 use Rattle.rules.specs.Promises as Promised
-use Rattle.rules.specs.Promises.{OfRun, Accounted, bound, serves}
+use Rattle.rules.specs.Promises.{OfRun, Accounted, bound}
 use Rattle.rules.proofs.Tidy.{Tidy}
 use Rattle.rules.proofs.TidyCalls.{tidy-step}
 use Rattle.rules.proofs.Conserve.{sentOne, flow-step}
@@ -32,9 +32,11 @@ use Rattle.calls.specs.declared.Reply.{Reply}
 use Rattle.calls.specs.Promises.{Returned, called, made}
 use Rattle.calls.specs.declared.Served.{Served}
 use Rattle.calls.specs.Contract.{BurstOutcome, calledServe, calledBurst}
-use Rattle.chains.specs.Chains.{Holding, replyTells, servedTells, burstTells, Did, byReply, byServe, byBurst, Chain, stops, goes, Made, answersOf}
-use Rattle.chains.specs.Demands.{reads, clock, bytesIn, slotBytes, NoneRefused, NotSpent, Unsent, story, lastSlot, slotAfter, HasRow, BurstIsServes, NeverRefused, Opened, Life, Conserved, SendsFront, ComesToFront, intoEmpty, nextUp, StaysInFront, WaitsAt, SameBytes, ServesSend, BurstSends, beginsSlot, slotsIn, SlotsSmall, OnlyOne, HasChain, HasLife, Spelt, over, single, asServes}
-use Rattle.chains.proofs.Chains.{Agrees, did-agrees, chain-from, chain-is-run}
+use Rattle.chains.specs.Chains.{Holding, replyTells, servedTells, burstTells, Did, byReply, byServe, byBurst, Chain, stops, goes, Made}
+use Rattle.chains.specs.Demands.{reads, clock, bytesIn, slotBytes, NoneRefused, NotSpent, Unsent, story, lastSlot, slotAfter, HasRow, SameBytes}
+use Rattle.chains.specs.Demands.{BurstIsServes, NeverRefused, Opened, Life, Conserved, SendsFront, ComesToFront, intoEmpty, nextUp, StaysInFront}
+use Rattle.chains.specs.Demands.{ServesSend, BurstSends, beginsSlot, slotsIn, WaitsAt, SlotsSmall, OnlyOne, HasChain}
+use Rattle.chains.proofs.Chains.{Agrees, did-agrees, chain-is-run}
 use Rattle.chains.proofs.Rows.{At, at-made, at-tidy, at-on, at-did, saidOf, play-join, Along, along, bytes-said, slot-bytes-said, story-said, unsent-said, spent-said, spelt-bytes, burst-is, row-from}
 use Rattle.chains.proofs.Slots.{Seen, seen-fresh, seen-play, seen-step, begins-said, slots-said}
 
@@ -334,7 +336,9 @@ byte-bound-from L share st last f g e x a xs said l d r s! =
     s = along xs (t .there .good) r
 
     unsent : Runs.Unsent (st .number) (step (reads f) x .next) xs
-    unsent = subst (λ (b : Board.Board). Runs.Unsent (st .number) b xs) (t .after) (unsent-said (st .number) (reads g) xs (subst (Unsent (st .number) xs) (s .answers) (s! .unsent)))
+    unsent =
+        subst (λ (b : Board.Board). Runs.Unsent (st .number) b xs) (t .after)
+        (unsent-said (st .number) (reads g) xs (subst (Unsent (st .number) xs) (s .answers) (s! .unsent)))
 
     count : bytesIn said ≡ Runs.bytesIn (step (reads f) x .next) xs
     count = ap bytesIn (s .answers) ∙ bytes-said (reads g) xs ∙ ap (λ (b : Board.Board). Runs.bytesIn b xs) (t .after)
@@ -355,7 +359,9 @@ sent-in-time-from L share st last f g e x a xs said l d r s! v =
     s = along xs (t .there .good) r
 
     unsent : Runs.Unsent (st .number) (step (reads f) x .next) xs
-    unsent = subst (λ (b : Board.Board). Runs.Unsent (st .number) b xs) (t .after) (unsent-said (st .number) (reads g) xs (subst (Unsent (st .number) xs) (s .answers) (s! .unsent)))
+    unsent =
+        subst (λ (b : Board.Board). Runs.Unsent (st .number) b xs) (t .after)
+        (unsent-said (st .number) (reads g) xs (subst (Unsent (st .number) xs) (s .answers) (s! .unsent)))
 
     spent : Runs.NotSpent (step (reads f) x .next) xs
     spent = subst (λ (b : Board.Board). Runs.NotSpent b xs) (t .after) (spent-said (reads g) xs (subst NotSpent (s .answers) v))
@@ -523,7 +529,7 @@ pub never-twice-from : (L share : ℕ) (st : Story) (last : Option ℕ) (f e : H
     → slotsIn lo (lo + 2 ^ classOf share) (st .number) last xs said ≤ 1
 never-twice-from L share st last f e lo xs said l c r start =
     subst (λ (k : ℕ). slotsIn lo (lo + 2 ^ k) (st .number) last xs said ≤ 1) q
-    (subst (λ (n : ℕ). n ≤ 1) (sym (ap (slotsIn lo (lo + 2 ^ classAt b (st .number)) (st .number) last xs) (along xs (h .good) r .answers) ∙ slots-said lo (lo + 2 ^ classAt b (st .number)) (st .number) last b xs tidy (life-seen L share st last f l)))
+    (subst (λ (n : ℕ). n ≤ 1) (sym count)
     (Promises.never-twice L b (h .run) (st .number) (p .0) lo xs (has-find b (p .0) (st .number) tidy (p .1 c .0)) (subst (λ (k : ℕ). Start k lo) (sym q) start)))
   where
     b : Board.Board
@@ -543,6 +549,14 @@ never-twice-from L share st last f e lo xs said l c r start =
 
     q : classAt b (st .number) ≡ classOf share
     q = class-at share st b tidy lives c
+
+    hi : ℕ
+    hi = lo + 2 ^ classAt b (st .number)
+
+    count : slotsIn lo hi (st .number) last xs said ≡ Runs.slotsIn lo hi (st .number) b xs
+    count =
+        ap (slotsIn lo hi (st .number) last xs) (along xs (h .good) r .answers)
+        ∙ slots-said lo hi (st .number) last b xs tidy (life-seen L share st last f l)
 
 pub slots-small : SlotsSmall
 slots-small L s e cs told xs said made! r t =

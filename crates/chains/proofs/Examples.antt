@@ -1,6 +1,6 @@
 -- Chains that are computed: the worked log, with and without a burst; and chains that meet every premise of demand 3, at moments inside bursts.
 use mathlib.Core.Path.{_≡_, refl, sym, ap, ap₂, subst, _∙_}
-use mathlib.Core.Bool.{true, false}
+use mathlib.Core.Bool.{false}
 use mathlib.Core.Logic.{inl, inr, _≢_}
 use mathlib.Core.Option.{Option, none}
 use mathlib.Core.List.{List, [], _∷_, _++_, map}
@@ -24,7 +24,7 @@ use Rattle.rules.proofs.Examples
 use Rattle.rules.proofs.Examples.{worked, tight, filled, waiting, renames}
 use Rattle.chains.specs.Chains.{Holding, Chain, Made, answersOf}
 use Rattle.chains.specs.Demands.{reads, clock, bytesIn, NotSpent, story, lastSlot, Life, Chained, Parting, callsOf, Passage}
-use Rattle.chains.specs.Demands.{StaysInFront, intoEmpty, nextUp, Unsent, WaitsAt}
+use Rattle.chains.specs.Demands.{StaysInFront, intoEmpty, nextUp, Unsent, slotsIn, WaitsAt}
 use Rattle.chains.proofs.Chains.{Agrees, did-agrees, chain-is-run}
 use Rattle.chains.proofs.Rows.{At, at-made, at-on, at-did, saidOf, Along, along, row-from}
 use Rattle.chains.proofs.Demands.{made-fresh, clock-reads, has-chain}
@@ -112,6 +112,18 @@ atEight = record {
   rest = [];
 }
 
+-- block 12's last two records go in one slot, at 9, inside the second burst
+abbrev fromEight : Parting
+fromEight = record {
+  first = take 1 filling;
+  number = 12;
+  share = 24576;
+  since = drop 2 filling ++ (serve! ∷ serve! ∷ serve! ∷ serve! ∷ renaming);
+  at = serve!;
+  during = serve! ∷ serve! ∷ [];
+  rest = [];
+}
+
 -- the tight run of the rules: a record comes into an empty lane of class 1, and the burst that sends it sends 382 bytes of others before it
 abbrev lastInBurst : List Call
 lastInBurst = map one tight ++ (one (record! 9 (rec 5 64)) ∷ burst! 1000 (0 ∷ 0 ∷ 0 ∷ room) ∷ [])
@@ -121,7 +133,8 @@ tightest = record { first = []; number = 9; share = 32768; since = drop 1 tight;
 
 -- the renames of the rules' example, with a burst for each serve
 abbrev burstEach : List Call
-burstEach = map one (take 4 renames) ++ (burst! 40 room ∷ one (rename! 2 3) ∷ burst! 20 room ∷ one (rename! 3 4) ∷ one (record! 4 (rec 4 9)) ∷ burst! 64 room ∷ [])
+burstEach = map one (take 4 renames)
+    ++ (burst! 40 room ∷ one (rename! 2 3) ∷ burst! 20 room ∷ one (rename! 3 4) ∷ one (record! 4 (rec 4 9)) ∷ burst! 64 room ∷ [])
 
 -- ---- what is known of any passage: its answers and its clocks are those of the rules
 
@@ -269,6 +282,9 @@ passing L cs w range q =
 abbrev taleOf : Parting → Heard → Story
 taleOf w h = story (begins (w .number)) (w .since) (h .since)
 
+abbrev lastBy : Heard → Option ℕ
+lastBy h = lastSlot (lastSlot none (h .first)) (h .since)
+
 pub record Passed (w : Parting) (bytes serves : ℕ) (next : Answer) (h : Heard) : Type 0 where
   pub front : StaysInFront (taleOf w h) (w .at) (h .at) (w .during) (h .during)
   pub notSpent : NotSpent (h .during)
@@ -276,17 +292,23 @@ pub record Passed (w : Parting) (bytes serves : ℕ) (next : Answer) (h : Heard)
   pub calls : servesIn (w .during) ≡ serves
   pub sent : getD (h .rest) 0 (gives 1) ≡ next
 
--- ---- every premise of the slot promise, with the interval's start; that of never two is among them
+-- ---- every premise of the slot promise, with the interval's start; and of that of never two slots, with a slot that is there
 
 pub record Reached (w : Parting) (lo : ℕ) (h : Heard) : Type 0 where
   pub serves : w .at ≡ serve!
-  pub waits : WaitsAt (classOf (w .share)) lo (taleOf w h) (lastSlot (lastSlot none (h .first)) (h .since)) (h .was) (h .at) (h .now)
+  pub waits : WaitsAt (classOf (w .share)) lo (taleOf w h) (lastBy h) (h .was) (h .at) (h .now)
   pub ends : lo + 2 ^ classOf (w .share) ≤ h .then
+
+pub record Slotted (w : Parting) (lo : ℕ) (h : Heard) : Type 0 where
+  pub still : taleOf w h .closed ≡ false
+  pub start : Start (classOf (w .share)) lo
+  pub slots : slotsIn lo (lo + 2 ^ classOf (w .share)) (taleOf w h .number) (lastBy h) (w .at ∷ w .during) (h .at ∷ h .during) ≡ 1
 
 -- ---- what the rules compute
 
 record Computed : Type 0 where
-  workedBurst : answersOf (fresh 100) withBurst ≡ gives 0 ∷ gives 0 ∷ took ∷ took ∷ took ∷ took ∷ took ∷ bursts (record { count = 5; total = 460; code = 1 }) ∷ []
+  workedBurst : answersOf (fresh 100) withBurst ≡ gives 0 ∷ gives 0 ∷ took ∷ took ∷ took ∷ took ∷ took
+      ∷ bursts (record { count = 5; total = 460; code = 1 }) ∷ []
   burstsTold : answersOf (fresh 100) byBursts ≡ gives 0 ∷ gives 0 ∷ took ∷ took ∷ took ∷ took ∷ took ∷ took ∷ took
       ∷ bursts (record { count = 4; total = 400; code = 14 }) ∷ gives 0 ∷ gives 0 ∷ bursts (record { count = 3; total = 300; code = 1 }) ∷ []
   secondParts : Parts 100 byBursts secondRecord
@@ -295,6 +317,8 @@ record Computed : Type 0 where
   fourReached : Reached atFour 4 (ruled 100 atFour)
   eightParts : Parts 100 byBursts atEight
   eightReached : Reached atEight 8 (ruled 100 atEight)
+  onceParts : Parts 100 byBursts fromEight
+  onceSlotted : Slotted fromEight 8 (ruled 100 fromEight)
   tightParts : Parts 64 lastInBurst tightest
   tightPassed : Passed tightest 382 6 (out 9 5 64 36) (ruled 64 tightest)
   opensOne : codeOf (answer (runs (fresh 64) []) (open! 1 32768)) ≡ 0
@@ -304,7 +328,9 @@ not11 : _≢_ {A = ℕ} 0 11
 not11 e = omega arith
 
 computed : Computed
-unfolding worked tight filled waiting renames answersOf Runs.row saidOf story lastSlot Unsent NotSpent bytesIn servesIn runs play Start burst least nextStart classOf framing charged largestCharge creditOf sum below charge firstEntry entry onward someWait anyDue spent fresh whereIs upd takenIn takeRecord release leastReady settle ended sendFrom send lowest begin serveBy serve freeAt openBlock renameBlock quiet step
+unfolding worked tight filled waiting renames answersOf Runs.row saidOf story lastSlot Unsent NotSpent slotsIn bytesIn servesIn runs play Start burst least
+    nextStart classOf framing charged largestCharge creditOf sum below charge firstEntry entry onward someWait anyDue spent fresh whereIs upd takenIn
+    takeRecord release leastReady settle ended sendFrom send lowest begin serveBy serve freeAt openBlock renameBlock quiet step
 computed = record {
   workedBurst = refl;
   burstsTold = refl;
@@ -319,15 +345,31 @@ computed = record {
   fourParts = record { calls = refl; opens = refl };
   fourReached = record {
     serves = refl;
-    waits = record { still = refl; start = (1, refl); early = omega arith; reached = omega arith; before = λ e. three-none (ap length e); after = inl (λ e. three-none (ap length e)) };
+    waits = record {
+      still = refl;
+      start = (1, refl);
+      early = omega arith;
+      reached = omega arith;
+      before = λ e. three-none (ap length e);
+      after = inl (λ e. three-none (ap length e));
+    };
     ends = omega arith;
   };
   eightParts = record { calls = refl; opens = refl };
   eightReached = record {
     serves = refl;
-    waits = record { still = refl; start = (4, refl); early = omega arith; reached = omega arith; before = λ e. four-three (ap length e); after = inr (refl, omega arith) };
+    waits = record {
+      still = refl;
+      start = (4, refl);
+      early = omega arith;
+      reached = omega arith;
+      before = λ e. four-three (ap length e);
+      after = inr (refl, omega arith);
+    };
     ends = omega arith;
   };
+  onceParts = record { calls = refl; opens = refl };
+  onceSlotted = record { still = refl; start = (2, refl); slots = refl };
   tightParts = record { calls = refl; opens = refl };
   tightPassed = record {
     front = record { still = refl; comes = intoEmpty (rec 5 64) took refl refl; unsent = (refl, (refl, (refl, (refl, (refl, (refl, tt)))))) };
@@ -379,6 +421,9 @@ reached-in-bursts = met 100 byBursts atFour range100 (computed .fourParts) (Reac
 
 pub begun-in-burst : (p : Passing 100 byBursts atEight) × Reached atEight 8 (heard (p .passage))
 begun-in-burst = met 100 byBursts atEight range100 (computed .eightParts) (Reached atEight 8) (computed .eightReached)
+
+pub two-in-a-slot : (p : Passing 100 byBursts fromEight) × Slotted fromEight 8 (heard (p .passage))
+two-in-a-slot = met 100 byBursts fromEight range100 (computed .onceParts) (Slotted fromEight 8) (computed .onceSlotted)
 
 pub passed-tightly : (p : Passing 64 lastInBurst tightest) × Passed tightest 382 6 (out 9 5 64 36) (heard (p .passage))
 passed-tightly = met 64 lastInBurst tightest range64 (computed .tightParts) (Passed tightest 382 6 (out 9 5 64 36)) (computed .tightPassed)

@@ -189,23 +189,30 @@ passage-lives L c w p = (
 
 pub byte-bound : ByteBound
 byte-bound L c w p =
-    byte-bound-from L (w .share) (tale p) (lastOf p) (p .f) (p .g) (p .h) (w .at) (p .answered) (w .during) (p .duringSaid) (life-then L c w p) (p .did) (p .lasting)
+    byte-bound-from L (w .share) (tale p) (lastOf p) (p .f) (p .g) (p .h) (w .at) (p .answered) (w .during) (p .duringSaid)
+    (life-then L c w p) (p .did) (p .lasting)
 
 pub sent-in-time : SentInTime
 sent-in-time L c w p =
-    sent-in-time-from L (w .share) (tale p) (lastOf p) (p .f) (p .g) (p .h) (w .at) (p .answered) (w .during) (p .duringSaid) (life-then L c w p) (p .did) (p .lasting)
+    sent-in-time-from L (w .share) (tale p) (lastOf p) (p .f) (p .g) (p .h) (w .at) (p .answered) (w .during) (p .duringSaid)
+    (life-then L c w p) (p .did) (p .lasting)
 
 pub slot-once : SlotOnce
 slot-once L c w p lo is-serve waits ends =
-    subst (λ (x : Single). slotsIn lo (lo + 2 ^ classOf (w .share)) (tale p .number) (lastOf p) (x ∷ w .during) (p .answered ∷ p .duringSaid) ≡ 1) (sym is-serve)
-    (slot-once-from L (w .share) (tale p) (lastOf p) (p .f) (p .g) (p .h) (p .answered) lo (w .during) (p .duringSaid) (life-then L c w p) served (p .lasting) waits ends)
+    subst (λ (x : Single). slotsIn lo hi (tale p .number) (lastOf p) (x ∷ w .during) (p .answered ∷ p .duringSaid) ≡ 1) (sym is-serve)
+    (slot-once-from L (w .share) (tale p) (lastOf p) (p .f) (p .g) (p .h) (p .answered) lo (w .during) (p .duringSaid)
+    (life-then L c w p) served (p .lasting) waits ends)
   where
+    hi : ℕ
+    hi = lo + 2 ^ classOf (w .share)
+
     served : Did (p .f) (one serve!) (p .answered) (p .g)
     served = subst (λ (x : Single). Did (p .f) (one x) (p .answered) (p .g)) is-serve (p .did)
 
 pub never-twice : NeverTwice
 never-twice L c w p lo still =
-    never-twice-from L (w .share) (tale p) (lastOf p) (p .f) (p .h) lo (w .at ∷ w .during) (p .answered ∷ p .duringSaid) (life-then L c w p) still (goes (p .did) (p .lasting))
+    never-twice-from L (w .share) (tale p) (lastOf p) (p .f) (p .h) lo (w .at ∷ w .during) (p .answered ∷ p .duringSaid)
+    (life-then L c w p) still (goes (p .did) (p .lasting))
 
 -- ---- no promise is empty: stories with bursts
 
@@ -218,7 +225,15 @@ SaysDone b (record! n r) t = Unit {0}
 SaysDone b serve! t = Unit {0}
 
 says-done : (b : Board.Board) → Tidy b → (x : Single) → SaysDone b x (step b x)
-says-done b g = call-cases b g (SaysDone b) (record { refused = says; opens = λ n s c e. refl; renames = λ p old new c. tt; closes = λ p n c. tt; takes = λ p n r c. tt; goesOn = λ p c. tt; begins = λ r t p c e. tt })
+says-done b g = call-cases b g (SaysDone b) (record {
+  refused = says;
+  opens = λ n s c e. refl;
+  renames = λ p old new c. tt;
+  closes = λ p n c. tt;
+  takes = λ p n r c. tt;
+  goesOn = λ p c. tt;
+  begins = λ r t p c e. tt;
+})
   where
     says : (x : Single) (code : ℕ) → Refusal code → SaysDone b x (record { out = refused code; next = b })
     says (open! n s) code r = λ e. ap gives e
@@ -254,7 +269,8 @@ has-life L range before n share after e = go (has-chain L range before)
         let r = row-from (at-made L s made! .good) chain in
         let d = has-did m (one (open! n share)) in
         let g = did-agrees m (d .1) (one (open! n share)) (d .0) (h .good) (d .2) in
-        let zero! = g .told! ∙ says-done (reads m) (at-tidy L m h) (open! n share) (subst (λ (z : Board.Board). codeOf (answer z (open! n share)) ≡ 0) (sym q) e) in
+        let code = subst (λ (z : Board.Board). codeOf (answer z (open! n share)) ≡ 0) (sym q) e in
+        let zero! = g .told! ∙ says-done (reads m) (at-tidy L m h) (open! n share) code in
         let opened! : reads (d .1) ≡ o = g .after ∙ ap (λ (z : Board.Board). step z (open! n share) .next) q in
         let c = chain-of (d .1) after in
         let t = chain-from (g .good) (c .2) in
@@ -267,7 +283,18 @@ has-life L range before n share after e = go (has-chain L range before)
             number = n;
             first = lastSlot none (r .1);
             opening = d .1;
-            opened = record { start = s; made = made!; cs = before; told = told′; xs = r .0; said = r .1; before = m; row = r .2; latest = refl; opens = subst (λ (z : Answer). Did m (one (open! n share)) z (d .1)) zero! (d .2) };
+            opened = record {
+              start = s;
+              made = made!;
+              cs = before;
+              told = told′;
+              xs = r .0;
+              said = r .1;
+              before = m;
+              row = r .2;
+              latest = refl;
+              opens = subst (λ (z : Answer). Did m (one (open! n share)) z (d .1)) zero! (d .2);
+            };
             cs = after;
             told = c .0;
             xs = k .0;

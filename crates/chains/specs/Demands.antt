@@ -16,7 +16,8 @@ use Rattle.rules.specs.Board.{fresh}
 use Rattle.rules.specs.Calls
 use Rattle.rules.specs.Calls.{Single, open!, record!, serve!, step, Call, one, burst!, Sent, Answer, gives, takes, sends, bursts, codeOf}
 use Rattle.rules.specs.Runs
-use Rattle.rules.specs.Runs.{play, answer, runs, laneOf, isFor, recordOf, numberAfter, closes, clockOf, isDone, bytesAt, servesIn, Story, begins, goesOn, tells}
+use Rattle.rules.specs.Runs.{answer, runs, laneOf, isFor, recordOf, numberAfter, closes, clockOf, isDone, bytesAt}
+use Rattle.rules.specs.Runs.{servesIn, Story, begins, goesOn, tells}
 use Rattle.rules.specs.Promises.{Accounted, InRange, bound, serves}
 use Rattle.board.specs.Reading.{view}
 use Rattle.calls.specs.declared.Bursted.{Bursted}
@@ -299,8 +300,8 @@ slotsIn lo hi n last (x ∷ xs) (a ∷ said) =
     oneIf (beginsIn lo hi n last a) + cond (closes n x a) 0 later
 
 -- A serving call, single or of a burst, was answered a. It brought the clock from t to u: to lo, a start of class k, or
--- past it. The block waits when the clock gets there: before the call, and after it too unless the call itself began the
--- block's slot at lo or later.
+-- past it. The block waits when the clock gets there: before the call, and after it too unless the call itself began
+-- the block's slot at lo or later.
 pub record WaitsAt (k lo : ℕ) (st : Story) (last : Option ℕ) (t : ℕ) (a : Answer) (u : ℕ) : Type 0 where
   pub still : st .closed ≡ false
   pub start : Start k lo
@@ -313,7 +314,8 @@ pub record WaitsAt (k lo : ℕ) (st : Story) (last : Option ℕ) (t : ℕ) (a : 
 -- reaches its end. The clock may reach either inside a burst.
 abbrev pub SlotOnce : Type 0
 SlotOnce = (L : ℕ) (c : Chained L) (w : Parting) (p : Passage L c w) (lo : ℕ) → let k = classOf (w .share) in
-    w .at ≡ serve! → WaitsAt k lo (tale p) (lastOf p) (clock (p .f)) (p .answered) (clock (p .g)) → lo + 2 ^ k ≤ clock (p .h)
+    w .at ≡ serve! → WaitsAt k lo (tale p) (lastOf p) (clock (p .f)) (p .answered) (clock (p .g))
+    → lo + 2 ^ k ≤ clock (p .h)
     → slotsIn lo (lo + 2 ^ k) (tale p .number) (lastOf p) (w .at ∷ w .during) (p .answered ∷ p .duringSaid) ≡ 1
 
 -- No block ever has two slots begun in one interval of its class.
