@@ -1,4 +1,4 @@
--- THE THEOREMS: one for each proposition of specs/Demands.antt, in its order.
+-- THE THEOREMS: one for each proposition of specs/Demands.antt, in its order; those that speak of a passage, and has-life, stand in Passages.
 use mathlib.Core.Path.{_≡_, refl, sym, ap, ap₂, subst, _∙_}
 use mathlib.Core.Bool.{Bool, true, false, cond, not, _||_, true≢false, false≢true}
 use mathlib.Core.Logic.{_⊎_, inl, inr, _≢_}
@@ -34,7 +34,9 @@ use Rattle.calls.specs.Promises.{Returned, called, made}
 use Rattle.calls.specs.declared.Served.{Served}
 use Rattle.calls.specs.Contract.{BurstOutcome, calledServe, calledBurst}
 use Rattle.chains.specs.Chains.{Holding, replyTells, servedTells, burstTells, Did, byReply, byServe, byBurst, Chain, stops, goes, Made}
-use Rattle.chains.specs.Demands.{reads, clock, bytesIn, slotBytes, NoneRefused, NotSpent, Unsent, story, lastSlot, slotAfter, HasRow, BurstIsServes, NeverRefused, Opened, Life, Conserved, SendsFront, ComesToFront, intoEmpty, nextUp, ByteBound, SentInTime, ServesSend, BurstSends, beginsSlot, slotsIn, SlotOnce, NeverTwice, SlotsSmall, OnlyOne, HasChain, HasLife, Spelt, over, single}
+use Rattle.chains.specs.Demands.{reads, clock, bytesIn, slotBytes, NoneRefused, NotSpent, Unsent, story, lastSlot, slotAfter, HasRow, SameBytes}
+use Rattle.chains.specs.Demands.{BurstIsServes, NeverRefused, Opened, Life, Conserved, SendsFront, ComesToFront, intoEmpty, nextUp, StaysInFront}
+use Rattle.chains.specs.Demands.{ServesSend, BurstSends, beginsSlot, slotsIn, WaitsAt, SlotsSmall, OnlyOne, HasChain}
 use Rattle.chains.proofs.Chains.{Agrees, did-agrees, chain-is-run}
 use Rattle.chains.proofs.Rows.{At, at-made, at-tidy, at-on, at-did, saidOf, play-join, Along, along, bytes-said, slot-bytes-said, story-said, unsent-said, spent-said, spelt-bytes, burst-is, row-from}
 use Rattle.chains.proofs.Slots.{Seen, seen-fresh, seen-play, seen-step, begins-said, slots-said}
@@ -43,6 +45,9 @@ use Rattle.chains.proofs.Slots.{Seen, seen-fresh, seen-play, seen-step,
 
 pub has-row : HasRow
 has-row L s m e before cs told₁ told made! first chain = row-from (at-on L (at-made L s made!) first .good) chain
+
+pub same-bytes : SameBytes
+same-bytes s e cs told xs said r = spelt-bytes (r .spelt)
 
 pub burst-is-serves : BurstIsServes
 burst-is-serves L s m before told₁ made! first bytes list r list′ ids lens p = burst-is m bytes list r list′ ids lens (at-on L (at-made L s made!) first .good) p
@@ -149,7 +154,7 @@ opening-more L share st b x o = record {
 opened-at : (L n share : ℕ) (last : Option ℕ) (o : Holding) → Opened L n share last o → At L o
 opened-at L n share last o w = at-did L (at-on L (at-made L (w .start) (w .made)) (w .row .chain)) (w .opens)
 
-pub life-at : (L share : ℕ) (st : Story) (last : Option ℕ) (e : Holding) → Life L share st last e → At L e
+life-at : (L share : ℕ) (st : Story) (last : Option ℕ) (e : Holding) → Life L share st last e → At L e
 life-at L share st last e l = at-on L (opened-at L (l .number) share (l .first) (l .opening) (l .opened)) (l .row .chain)
 
 life-opening : (L share : ℕ) (st : Story) (last : Option ℕ) (e : Holding) → Life L share st last e → Opening L share st (reads e)
@@ -313,42 +318,51 @@ told-at L share st last f g x a l c d = record {
 told-front : (L share : ℕ) (st : Story) (f g : Holding) (x : Single) (a : Answer) → Told L share st f x a g → st .closed ≡ false → ComesToFront st x a → Fronted L share (reads f) (st .number) x
 told-front L share st f g x a t c z = fronted L share st (reads f) x a (t .is) (at-tidy L f (t .here)) (t .lives) (t .next) c z
 
-pub byte-bound : ByteBound
-byte-bound L share st last f g e x a cs told xs said l c d z r u =
-    subst (λ (k : ℕ). bytesIn told ≤ bound L k) (w .class)
+-- The byte bound, its time and the slot promises at a call of a chain, over any single calls after it: Passages has them at every moment.
+pub byte-bound-from : (L share : ℕ) (st : Story) (last : Option ℕ) (f g e : Holding) (x : Single) (a : Answer) (xs : List Single) (said : List Answer)
+    → Life L share st last f → Did f (one x) a g → Chain g (map one xs) said e → StaysInFront st x a xs said
+    → bytesIn said ≤ bound L (classOf share)
+byte-bound-from L share st last f g e x a xs said l d r s! =
+    subst (λ (k : ℕ). bytesIn said ≤ bound L k) (w .class)
     (subst (λ (n : ℕ). n ≤ bound L (classAt (step (reads f) x .next) (st .number))) (sym count)
     (Promises.byte-bound L (reads f) (t .here .run) (st .number) x xs (w .comes) unsent))
   where
     t : Told L share st f x a g
-    t = told-at L share st last f g x a l c d
+    t = told-at L share st last f g x a l (s! .still) d
 
     w : Fronted L share (reads f) (st .number) x
-    w = told-front L share st f g x a t c z
+    w = told-front L share st f g x a t (s! .still) (s! .comes)
 
     s : Along (reads g) xs said e
-    s = along xs (t .there .good) (r .singles)
+    s = along xs (t .there .good) r
 
     unsent : Runs.Unsent (st .number) (step (reads f) x .next) xs
-    unsent = subst (λ (b : Board.Board). Runs.Unsent (st .number) b xs) (t .after) (unsent-said (st .number) (reads g) xs (subst (Unsent (st .number) xs) (s .answers) u))
+    unsent =
+        subst (λ (b : Board.Board). Runs.Unsent (st .number) b xs) (t .after)
+        (unsent-said (st .number) (reads g) xs (subst (Unsent (st .number) xs) (s .answers) (s! .unsent)))
 
-    count : bytesIn told ≡ Runs.bytesIn (step (reads f) x .next) xs
-    count = spelt-bytes (r .spelt) ∙ ap bytesIn (s .answers) ∙ bytes-said (reads g) xs ∙ ap (λ (b : Board.Board). Runs.bytesIn b xs) (t .after)
+    count : bytesIn said ≡ Runs.bytesIn (step (reads f) x .next) xs
+    count = ap bytesIn (s .answers) ∙ bytes-said (reads g) xs ∙ ap (λ (b : Board.Board). Runs.bytesIn b xs) (t .after)
 
-pub sent-in-time : SentInTime
-sent-in-time L share st last f g e x a cs told xs said l c d z r u v =
+pub sent-in-time-from : (L share : ℕ) (st : Story) (last : Option ℕ) (f g e : Holding) (x : Single) (a : Answer) (xs : List Single) (said : List Answer)
+    → Life L share st last f → Did f (one x) a g → Chain g (map one xs) said e → StaysInFront st x a xs said → NotSpent said
+    → Runs.servesIn xs ≤ bound L (classOf share)
+sent-in-time-from L share st last f g e x a xs said l d r s! v =
     subst (λ (k : ℕ). Runs.servesIn xs ≤ bound L k) (w .class) (Promises.sent-in-time L (reads f) (t .here .run) (st .number) x xs (w .comes) unsent spent)
   where
     t : Told L share st f x a g
-    t = told-at L share st last f g x a l c d
+    t = told-at L share st last f g x a l (s! .still) d
 
     w : Fronted L share (reads f) (st .number) x
-    w = told-front L share st f g x a t c z
+    w = told-front L share st f g x a t (s! .still) (s! .comes)
 
     s : Along (reads g) xs said e
-    s = along xs (t .there .good) (r .singles)
+    s = along xs (t .there .good) r
 
     unsent : Runs.Unsent (st .number) (step (reads f) x .next) xs
-    unsent = subst (λ (b : Board.Board). Runs.Unsent (st .number) b xs) (t .after) (unsent-said (st .number) (reads g) xs (subst (Unsent (st .number) xs) (s .answers) u))
+    unsent =
+        subst (λ (b : Board.Board). Runs.Unsent (st .number) b xs) (t .after)
+        (unsent-said (st .number) (reads g) xs (subst (Unsent (st .number) xs) (s .answers) (s! .unsent)))
 
     spent : Runs.NotSpent (step (reads f) x .next) xs
     spent = subst (λ (b : Board.Board). Runs.NotSpent b xs) (t .after) (spent-said (reads g) xs (subst NotSpent (s .answers) v))
@@ -385,7 +399,8 @@ pub serves-send : ServesSend
 serves-send L share st last f g a l c ne d =
     subst (λ (z : Answer). (z ≡ gives 11) ⊎ ((s : Sent) × (z ≡ sends s))) (sym (did-agrees f g (one serve!) a (life-at L share st last f l .good) d .told!)) (serve-waiting L share st last f l c ne)
 
-abbrev countBy : Answer → ℕ
+-- how many records a burst tells of
+abbrev pub countBy : Answer → ℕ
 countBy (gives code) = 0
 countBy (takes a) = 0
 countBy (sends a) = 0
@@ -420,14 +435,14 @@ burst-sends L share st last s f g cs told bytes list r made! chain d l c ne = go
 
 -- ---- slots
 
-made-fresh : (L : ℕ) (s : Holding) → Made L s → reads s ≡ fresh L
+pub made-fresh : (L : ℕ) (s : Holding) → Made L s → reads s ≡ fresh L
 unfolding runs
 made-fresh L s made! = chain-is-run L s s [] [] made! stops .board
 
 seen-same : {u v : Option ℕ} {b c : Board.Board} → u ≡ v → b ≡ c → Seen u b → Seen v c
 seen-same {v = v} {b = b} e f s = subst (Seen v) f (subst (λ (o : Option ℕ). Seen o b) e s)
 
-pub life-seen : (L share : ℕ) (st : Story) (last : Option ℕ) (e : Holding) → Life L share st last e → Seen last (reads e)
+life-seen : (L share : ℕ) (st : Story) (last : Option ℕ) (e : Holding) → Life L share st last e → Seen last (reads e)
 life-seen L share st last e l = seen-same (ap (lastSlot (l .first)) (sym (at-end .answers)) ∙ l .latest) (sym (at-end .board)) (seen-play (l .first) (reads (l .opening)) (l .xs) (at-tidy L (l .opening) o) opening)
   where
     w : Opened L (l .number) share (l .first) (l .opening)
@@ -465,8 +480,11 @@ said-more : (b : Board.Board) (x : Single) (xs : List Single) (a : Answer) (said
 unfolding saidOf
 said-more b x xs a said e f = ap₂ (λ (z : Answer) (zs : List Answer). z ∷ zs) e f
 
-pub slot-once : SlotOnce
-slot-once L share st last f g e a lo cs told xs said l c d w r h =
+pub slot-once-from : (L share : ℕ) (st : Story) (last : Option ℕ) (f g e : Holding) (a : Answer) (lo : ℕ) (xs : List Single) (said : List Answer)
+    → Life L share st last f → Did f (one serve!) a g → Chain g (map one xs) said e
+    → WaitsAt (classOf share) lo st last (clock f) a (clock g) → lo + 2 ^ classOf share ≤ clock e
+    → slotsIn lo (lo + 2 ^ classOf share) (st .number) last (serve! ∷ xs) (a ∷ said) ≡ 1
+slot-once-from L share st last f g e a lo xs said l d r w h =
     subst (λ (k : ℕ). slotsIn lo (lo + 2 ^ k) (st .number) last (serve! ∷ xs) (a ∷ said) ≡ 1) q
     (ap (slotsIn lo (lo + 2 ^ classAt b (st .number)) (st .number) last (serve! ∷ xs)) (said-more b serve! xs a said (t .is) (s .answers ∙ ap (λ (z : Board.Board). saidOf z xs) (t .after)))
     ∙ slots-said lo (lo + 2 ^ classAt b (st .number)) (st .number) last b (serve! ∷ xs) tidy seen
@@ -476,10 +494,10 @@ slot-once L share st last f g e a lo cs told xs said l c d w r h =
     b = reads f
 
     t : Told L share st f serve! a g
-    t = told-at L share st last f g serve! a l c d
+    t = told-at L share st last f g serve! a l (w .still) d
 
     s : Along (reads g) xs said e
-    s = along xs (t .there .good) (r .singles)
+    s = along xs (t .there .good) r
 
     tidy : Tidy b
     tidy = at-tidy L f (t .here)
@@ -488,7 +506,7 @@ slot-once L share st last f g e a lo cs told xs said l c d w r h =
     seen = life-seen L share st last f l
 
     q : classAt b (st .number) ≡ classOf share
-    q = class-at share st b tidy (t .lives) c
+    q = class-at share st b tidy (t .lives) (w .still)
 
     reached : lo + 2 ^ classOf share ≤ play (step b serve! .next) xs .clock
     reached = subst (λ (n : ℕ). lo + 2 ^ classOf share ≤ n) (sym (clock-reads e) ∙ ap (λ (z : Board.Board). z .clock) (s .board ∙ ap (λ (z : Board.Board). play z xs) (t .after))) h
@@ -507,10 +525,12 @@ slot-once L share st last f g e a lo cs told xs said l c d w r h =
       after = still (w .after);
     }
 
-pub never-twice : NeverTwice
-never-twice L share st last f e lo cs told xs said l c r start =
+pub never-twice-from : (L share : ℕ) (st : Story) (last : Option ℕ) (f e : Holding) (lo : ℕ) (xs : List Single) (said : List Answer)
+    → Life L share st last f → st .closed ≡ false → Chain f (map one xs) said e → Start (classOf share) lo
+    → slotsIn lo (lo + 2 ^ classOf share) (st .number) last xs said ≤ 1
+never-twice-from L share st last f e lo xs said l c r start =
     subst (λ (k : ℕ). slotsIn lo (lo + 2 ^ k) (st .number) last xs said ≤ 1) q
-    (subst (λ (n : ℕ). n ≤ 1) (sym (ap (slotsIn lo (lo + 2 ^ classAt b (st .number)) (st .number) last xs) (along xs (h .good) (r .singles) .answers) ∙ slots-said lo (lo + 2 ^ classAt b (st .number)) (st .number) last b xs tidy (life-seen L share st last f l)))
+    (subst (λ (n : ℕ). n ≤ 1) (sym count)
     (Promises.never-twice L b (h .run) (st .number) (p .0) lo xs (has-find b (p .0) (st .number) tidy (p .1 c .0)) (subst (λ (k : ℕ). Start k lo) (sym q) start)))
   where
     b : Board.Board
@@ -530,6 +550,14 @@ never-twice L share st last f e lo cs told xs said l c r start =
 
     q : classAt b (st .number) ≡ classOf share
     q = class-at share st b tidy lives c
+
+    hi : ℕ
+    hi = lo + 2 ^ classAt b (st .number)
+
+    count : slotsIn lo hi (st .number) last xs said ≡ Runs.slotsIn lo hi (st .number) b xs
+    count =
+        ap (slotsIn lo hi (st .number) last xs) (along xs (h .good) r .answers)
+        ∙ slots-said lo hi (st .number) last b xs tidy (life-seen L share st last f l)
 
 pub slots-small : SlotsSmall
 slots-small L s e cs told xs said made! r t =
@@ -625,61 +653,3 @@ has-chain L range cs = (s, c .0, c .1, record { reply = w .reply; ids = zeros; l
 
     c : (told : List Answer) × (e : Holding) × Chain s cs told e
     c = chain-of s cs
-
--- a chain of single calls is its own row
-pub own-row : {s e : Holding} (xs : List Single) {said : List Answer} → Chain s (map one xs) said e → Spelt (map one xs) said xs said
-own-row [] stops = over
-own-row (x ∷ xs) (goes {a = a} d rest) = single x a (own-row xs rest)
-
--- an opening that is done is answered 0
-abbrev SaysDone : Board.Board → Single → Turn → Type 0
-SaysDone b (open! n s) t = codeOf (told b (t .out)) ≡ 0 → told b (t .out) ≡ gives 0
-SaysDone b (rename! old new) t = Unit {0}
-SaysDone b (close! n) t = Unit {0}
-SaysDone b (record! n r) t = Unit {0}
-SaysDone b serve! t = Unit {0}
-
-says-done : (b : Board.Board) → Tidy b → (x : Single) → SaysDone b x (step b x)
-says-done b g = call-cases b g (SaysDone b) (record { refused = says; opens = λ n s c e. refl; renames = λ p old new c. tt; closes = λ p n c. tt; takes = λ p n r c. tt; goesOn = λ p c. tt; begins = λ r t p c e. tt })
-  where
-    says : (x : Single) (code : ℕ) → Refusal code → SaysDone b x (record { out = refused code; next = b })
-    says (open! n s) code r = λ e. ap gives e
-    says (rename! old new) code r = tt
-    says (close! n) code r = tt
-    says (record! n x) code r = tt
-    says serve! code r = tt
-
-pub has-life : HasLife
-has-life L range before n share after e = go (has-chain L range before)
-  where
-    b : Board.Board
-    b = runs (fresh L) before
-
-    go : ((s : Holding) × (told : List Answer) × (m : Holding) × Made L s × Chain s before told m)
-        → (last : Option ℕ) × (e : Holding) × Life L share (Runs.story (begins n) (step b (open! n share) .next) after) last e × (reads e ≡ play (step b (open! n share) .next) after)
-    go (s, told′, m, made!, chain) =
-        let h = at-on L (at-made L s made!) chain in
-        let q = chain-is-run L s m before told′ made! chain .board in
-        let r = row-from (at-made L s made! .good) chain in
-        let d = has-did m (one (open! n share)) in
-        let g = did-agrees m (d .1) (one (open! n share)) (d .0) (h .good) (d .2) in
-        let zero! = g .told! ∙ says-done (reads m) (at-tidy L m h) (open! n share) (subst (λ (z : Board.Board). codeOf (answer z (open! n share)) ≡ 0) (sym q) e) in
-        let c = chain-of (d .1) (map one after) in
-        let l = along after (g .good) (c .2) in (
-          lastSlot (lastSlot none (r .1)) (c .0),
-          c .1,
-          record {
-            number = n;
-            first = lastSlot none (r .1);
-            opening = d .1;
-            opened = record { start = s; made = made!; cs = before; told = told′; xs = r .0; said = r .1; before = m; row = r .2; latest = refl; opens = subst (λ (z : Answer). Did m (one (open! n share)) z (d .1)) zero! (d .2) };
-            cs = map one after;
-            told = c .0;
-            xs = after;
-            said = c .0;
-            row = record { chain = c .2; spelt = own-row after (c .2); singles = c .2 };
-            latest = refl;
-            told! = ap (story (begins n) after) (l .answers) ∙ story-said (begins n) (reads (d .1)) after ∙ ap (λ (z : Board.Board). Runs.story (begins n) z after) (g .after ∙ ap (λ (z : Board.Board). step z (open! n share) .next) q);
-          },
-          l .board ∙ ap (λ (z : Board.Board). play z after) (g .after ∙ ap (λ (z : Board.Board). step z (open! n share) .next) q),
-        )

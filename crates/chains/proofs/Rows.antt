@@ -29,7 +29,7 @@ use Rattle.chains.proofs.Chains.{KnownHolding, Agrees, did-agrees, chai
 
 -- ---- lists
 
-map-join : {A B : Type 0} (f : A → B) (xs ys : List A) → map f (xs ++ ys) ≡ map f xs ++ map f ys
+pub map-join : {A B : Type 0} (f : A → B) (xs ys : List A) → map f (xs ++ ys) ≡ map f xs ++ map f ys
 map-join f [] ys = refl
 map-join f (x ∷ xs) ys = ap (λ r. f x ∷ r) (map-join f xs ys)
 
@@ -240,7 +240,7 @@ burst-is m bytes list r list′ ids lens k p = record {
 
 -- ---- every chain has its row
 
-chain-join : {s m e : Holding} {cs cs′ : List Call} {told told′ : List Answer} → Chain s cs told m → Chain m cs′ told′ e → Chain s (cs ++ cs′) (told ++ told′) e
+pub chain-join : {s m e : Holding} {cs cs′ : List Call} {told told′ : List Answer} → Chain s cs told m → Chain m cs′ told′ e → Chain s (cs ++ cs′) (told ++ told′) e
 chain-join stops c = c
 chain-join (goes d rest) c = goes d (chain-join rest c)
 

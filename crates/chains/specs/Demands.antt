@@ -7,7 +7,7 @@ use mathlib.Core.Option.{Option, none, some}
 use mathlib.Core.List.{List, [], _∷_, _++_, map}
 use Prim.Native.Nat.{ℕ, _+_, _*_, _-_, _^_, _≤_, _<_}
 use lib.Dec.{leb, ltb, eqb}
-use lib.ListN.{length, drop}
+use lib.ListN.{length, drop, getD}
 use Rattle.base.specs.Sums.{oneIf, sum}
 use Rattle.units.specs.Classes.{Start, classOf}
 use Rattle.units.specs.Credit.{charged, largestCharge}
@@ -16,7 +16,8 @@ use Rattle.rules.specs.Board.{fresh}
 use Rattle.rules.specs.Calls
 use Rattle.rules.specs.Calls.{Single, open!, record!, serve!, step, Call, one, burst!, Sent, Answer, gives, takes, sends, bursts, codeOf}
 use Rattle.rules.specs.Runs
-use Rattle.rules.specs.Runs.{play, answer, runs, laneOf, isFor, recordOf, numberAfter, closes, clockOf, isDone, bytesAt, servesIn, Story, begins, goesOn, tells}
+use Rattle.rules.specs.Runs.{answer, runs, laneOf, isFor, recordOf, numberAfter, closes, clockOf, isDone, bytesAt}
+use Rattle.rules.specs.Runs.{servesIn, Story, begins, goesOn, tells}
 use Rattle.rules.specs.Promises.{Accounted, InRange, bound, serves}
 use Rattle.board.specs.Reading.{encode, view}
 use Rattle.calls.specs.declared.Bursted.{Bursted}
@@ -79,6 +80,11 @@ pub record Row (s : Holding) (cs : List Call) (told : List Answer) (xs : List Si
 abbrev pub HasRow : Type 0
 HasRow = (L : ℕ) (s m e : Holding) (before cs : List Call) (told₁ told : List Answer) → Made L s → Chain s before told₁ m → Chain m cs told e
     → (xs : List Single) × (said : List Answer) × Row m cs told xs said e
+
+-- A chain's own answers, its bursts' totals among them, tell of the bytes that its row's answers tell of.
+abbrev pub SameBytes : Type 0
+SameBytes = (s e : Holding) (cs : List Call) (told : List Answer) (xs : List Single) (said : List Answer)
+    → Row s cs told xs said e → bytesIn told ≡ bytesIn said
 
 -- A burst of a chain: the single serving calls that it is, from the value that it was given to the value that it left; the list's first
 -- entries are their records' numbers, and the others are as they were.
@@ -160,6 +166,78 @@ pub record Life (L share : ℕ) (st : Story) (last : Option ℕ) (e : Holding) :
   pub latest : lastSlot first said ≡ last
   pub told! : story (begins number) xs said ≡ st
 
+-- ---- Any moment of a chain, inside a burst or not
+
+-- a chain from a done making, and its row of single calls
+pub record Chained (L : ℕ) : Type 0 where
+  pub start : Holding
+  pub cs : List Call
+  pub told : List Answer
+  pub xs : List Single
+  pub said : List Answer
+  pub finish : Holding
+  pub made : Made L start
+  pub row : Row start cs told xs said finish
+
+-- The row's calls in parts: those before a block's opening; the opening; those since; one call; those during which
+-- something lasts; the rest. Each part may begin, and end, inside a burst.
+pub record Parting : Type 0 where
+  pub first : List Single
+  pub number : ℕ
+  pub share : ℕ
+  pub since : List Single
+  pub at : Single
+  pub during : List Single
+  pub rest : List Single
+
+abbrev pub callsOf : Parting → List Single
+callsOf w = w .first ++ (open! (w .number) (w .share) ∷ (w .since ++ (w .at ∷ (w .during ++ w .rest))))
+
+-- the answers to each part, of which the opening's is 0, and the values between the parts: f is given to the one call,
+-- which leaves g, and h is what the part that lasts leaves
+pub record Passage (L : ℕ) (c : Chained L) (w : Parting) : Type 0 where
+  pub firstSaid : List Answer
+  pub sinceSaid : List Answer
+  pub answered : Answer
+  pub duringSaid : List Answer
+  pub restSaid : List Answer
+  pub calls : c .xs ≡ callsOf w
+  pub answers : c .said ≡ firstSaid ++ (gives 0 ∷ (sinceSaid ++ (answered ∷ (duringSaid ++ restSaid))))
+  pub before : Holding
+  pub opened : Holding
+  pub f : Holding
+  pub g : Holding
+  pub h : Holding
+  pub toOpening : Chain (c .start) (map one (w .first)) firstSaid before
+  pub opens : Did before (one (open! (w .number) (w .share))) (gives 0) opened
+  pub toCall : Chain opened (map one (w .since)) sinceSaid f
+  pub did : Did f (one (w .at)) answered g
+  pub lasting : Chain g (map one (w .during)) duringSaid h
+  pub toFinish : Chain h (map one (w .rest)) restSaid (c .finish)
+
+-- Wherever a row is parted at an opening that was answered 0, it has such a passage.
+abbrev pub HasPassage : Type 0
+HasPassage = (L : ℕ) (c : Chained L) (w : Parting)
+    → c .xs ≡ callsOf w → getD (c .said) (length (w .first)) (gives 1) ≡ gives 0 → Passage L c w
+
+-- what is told of the block, and the clock of the last send, before the one call; and at the end of the part that lasts
+abbrev pub tale : {L : ℕ} {c : Chained L} {w : Parting} → Passage L c w → Story
+tale {w = w} p = story (begins (w .number)) (w .since) (p .sinceSaid)
+
+abbrev pub lastOf : {L : ℕ} {c : Chained L} {w : Parting} → Passage L c w → Option ℕ
+lastOf p = lastSlot (lastSlot none (p .firstSaid)) (p .sinceSaid)
+
+abbrev pub laterTale : {L : ℕ} {c : Chained L} {w : Parting} → Passage L c w → Story
+laterTale {w = w} p = story (tale p) (w .at ∷ w .during) (p .answered ∷ p .duringSaid)
+
+abbrev pub laterLast : {L : ℕ} {c : Chained L} {w : Parting} → Passage L c w → Option ℕ
+laterLast p = lastSlot (lastOf p) (p .answered ∷ p .duringSaid)
+
+-- Both moments have their life: what holds of every life, as Conserved and ServesSend below, holds inside a burst too.
+abbrev pub PassageLives : Type 0
+PassageLives = (L : ℕ) (c : Chained L) (w : Parting) (p : Passage L c w)
+    → Life L (w .share) (tale p) (lastOf p) (p .f) × Life L (w .share) (laterTale p) (laterLast p) (p .h)
+
 -- ---- Demand 2: each record taken in is sent once, in its block's order, under the number that the block has when it is sent, or it still
 -- stands in its lane. A closed block has none left.
 
@@ -185,19 +263,25 @@ Unsent n [] said = Unit {0}
 Unsent n (x ∷ xs) [] = Unit {0}
 Unsent n (x ∷ xs) (a ∷ said) = (isFor n a ≡ false) × Unsent (numberAfter n x a) xs said
 
--- From the moment a record comes to the front of a lane of class k until it is sent, the answers tell of at most (2^(k+1) - 1) x (3L - 1) bytes.
+-- a record comes to the front by the call x, and is not sent by any of xs
+pub record StaysInFront (st : Story) (x : Single) (a : Answer) (xs : List Single) (said : List Answer) : Type 0 where
+  pub still : st .closed ≡ false
+  pub comes : ComesToFront st x a
+  pub unsent : Unsent (st .number) xs said
+
+-- From the moment a record comes to the front of a lane of class k, by a single call or inside a burst, until it is
+-- sent, by a single call or inside a burst, the answers tell of at most (2^(k+1) - 1) x (3L - 1) bytes. What the burst
+-- that sends it sent before it is told of too, since the part that lasts may end inside that burst.
 abbrev pub ByteBound : Type 0
-ByteBound = (L share : ℕ) (st : Story) (last : Option ℕ) (f g e : Holding) (x : Single) (a : Answer) (cs : List Call) (told : List Answer) (xs : List Single) (said : List Answer)
-    → Life L share st last f → st .closed ≡ false → Did f (one x) a g → ComesToFront st x a
-    → Row g cs told xs said e → Unsent (st .number) xs said
-    → bytesIn told ≤ bound L (classOf share)
+ByteBound = (L : ℕ) (c : Chained L) (w : Parting) (p : Passage L c w)
+    → StaysInFront (tale p) (w .at) (p .answered) (w .during) (p .duringSaid)
+    → bytesIn (p .duringSaid) ≤ bound L (classOf (w .share))
 
 -- It is sent: no more than that many serving calls, those of bursts among them, pass it, unless one is answered 11.
 abbrev pub SentInTime : Type 0
-SentInTime = (L share : ℕ) (st : Story) (last : Option ℕ) (f g e : Holding) (x : Single) (a : Answer) (cs : List Call) (told : List Answer) (xs : List Single) (said : List Answer)
-    → Life L share st last f → st .closed ≡ false → Did f (one x) a g → ComesToFront st x a
-    → Row g cs told xs said e → Unsent (st .number) xs said → NotSpent said
-    → servesIn xs ≤ bound L (classOf share)
+SentInTime = (L : ℕ) (c : Chained L) (w : Parting) (p : Passage L c w)
+    → StaysInFront (tale p) (w .at) (p .answered) (w .during) (p .duringSaid) → NotSpent (p .duringSaid)
+    → servesIn (w .during) ≤ bound L (classOf (w .share))
 
 -- While a record waits, a single serving call is answered with a record that is sent, or 11.
 abbrev pub ServesSend : Type 0
@@ -233,28 +317,30 @@ slotsIn lo hi n last (x ∷ xs) (a ∷ said) =
     let later = slotsIn lo hi (numberAfter n x a) (slotAfter last a) xs said in
     oneIf (beginsIn lo hi n last a) + cond (closes n x a) 0 later
 
--- A single serving call, given f, answered a and left g. It brought the clock to lo, a start of class k, or past it. The block waits when the
--- clock gets there: before the call, and after it too unless the call itself began the block's slot at lo or later.
-pub record WaitsAt (k lo : ℕ) (st : Story) (last : Option ℕ) (f : Holding) (a : Answer) (g : Holding) : Type 0 where
+-- A serving call, single or of a burst, was answered a. It brought the clock from t to u: to lo, a start of class k, or
+-- past it. The block waits when the clock gets there: before the call, and after it too unless the call itself began
+-- the block's slot at lo or later.
+pub record WaitsAt (k lo : ℕ) (st : Story) (last : Option ℕ) (t : ℕ) (a : Answer) (u : ℕ) : Type 0 where
+  pub still : st .closed ≡ false
   pub start : Start k lo
-  pub early : clock f < lo
-  pub reached : lo ≤ clock g
+  pub early : t < lo
+  pub reached : lo ≤ u
   pub before : st .taken ≢ st .sent
   pub after : (goesOn st serve! a .taken ≢ goesOn st serve! a .sent) ⊎ ((beginsSlot (st .number) last a ≡ true) × (lo ≤ clockOf a))
 
 -- A block already waiting when the clock reaches a start of its class has exactly one slot begun in that interval by the time the clock
--- reaches its end.
+-- reaches its end. The clock may reach either inside a burst.
 abbrev pub SlotOnce : Type 0
-SlotOnce = (L share : ℕ) (st : Story) (last : Option ℕ) (f g e : Holding) (a : Answer) (lo : ℕ) (cs : List Call) (told : List Answer) (xs : List Single) (said : List Answer)
-    → Life L share st last f → st .closed ≡ false → Did f (one serve!) a g → WaitsAt (classOf share) lo st last f a g
-    → Row g cs told xs said e → lo + 2 ^ classOf share ≤ clock e
-    → slotsIn lo (lo + 2 ^ classOf share) (st .number) last (serve! ∷ xs) (a ∷ said) ≡ 1
+SlotOnce = (L : ℕ) (c : Chained L) (w : Parting) (p : Passage L c w) (lo : ℕ) → let k = classOf (w .share) in
+    w .at ≡ serve! → WaitsAt k lo (tale p) (lastOf p) (clock (p .f)) (p .answered) (clock (p .g))
+    → lo + 2 ^ k ≤ clock (p .h)
+    → slotsIn lo (lo + 2 ^ k) (tale p .number) (lastOf p) (w .at ∷ w .during) (p .answered ∷ p .duringSaid) ≡ 1
 
 -- No block ever has two slots begun in one interval of its class.
 abbrev pub NeverTwice : Type 0
-NeverTwice = (L share : ℕ) (st : Story) (last : Option ℕ) (f e : Holding) (lo : ℕ) (cs : List Call) (told : List Answer) (xs : List Single) (said : List Answer)
-    → Life L share st last f → st .closed ≡ false → Row f cs told xs said e → Start (classOf share) lo
-    → slotsIn lo (lo + 2 ^ classOf share) (st .number) last xs said ≤ 1
+NeverTwice = (L : ℕ) (c : Chained L) (w : Parting) (p : Passage L c w) (lo : ℕ) → let k = classOf (w .share) in
+    tale p .closed ≡ false → Start k lo
+    → slotsIn lo (lo + 2 ^ k) (tale p .number) (lastOf p) (w .at ∷ w .during) (p .answered ∷ p .duringSaid) ≤ 1
 
 -- A slot sends at most 3L - 1 bytes: the sends of a whole chain that are answered with one clock.
 abbrev pub SlotsSmall : Type 0
@@ -271,8 +357,9 @@ OnlyOne = (s e e′ : Holding) (cs : List Call) (told told′ : List Answer) →
 abbrev pub HasChain : Type 0
 HasChain = (L : ℕ) → InRange L → (cs : List Call) → (s : Holding) × (told : List Answer) × (e : Holding) × Made L s × Chain s cs told e
 
--- and every story of a run of the rules is told by a chain, which comes to that run's board
+-- and every story of a run of the rules is told by a chain, bursts among its calls, which comes to that run's board
 abbrev pub HasLife : Type 0
-HasLife = (L : ℕ) → InRange L → (before : List Call) (n share : ℕ) (after : List Single) → codeOf (answer (runs (fresh L) before) (open! n share)) ≡ 0
-    → (last : Option ℕ) × (e : Holding) × Life L share (Runs.story (begins n) (step (runs (fresh L) before) (open! n share) .next) after) last e
-    × (reads e ≡ play (step (runs (fresh L) before) (open! n share) .next) after)
+HasLife = (L : ℕ) → InRange L → (before : List Call) (n share : ℕ) (after : List Call)
+    → let b = runs (fresh L) before in let o = step b (open! n share) .next in codeOf (answer b (open! n share)) ≡ 0
+    → (last : Option ℕ) × (e : Holding)
+    × Life L share (Runs.story (begins n) o (Runs.row o after)) last e × (reads e ≡ runs o after)
