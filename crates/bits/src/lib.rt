@@ -20,7 +20,7 @@ pub fn without_bit(set: u32, k: u32) -> u32
 }
 
 // Whether class k is in the set.
-pub fn has_bit(set: u32, k: u32) -> bool
+fn has_bit(set: u32, k: u32) -> bool
     requires { ⌜ k < 32 ⌝ }
     ensures { λ r. ⌜ r ≡ inSet set k ⌝ }
 {

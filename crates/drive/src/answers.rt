@@ -6,6 +6,7 @@ use crate::steps;
 use crate::tables;
 use board::Board;
 use calls::Reply;
+use units::Bytes;
 ghost use mathlib.Core.Path.{_≡_};
 ghost use lib.ListN.{length};
 
@@ -73,9 +74,10 @@ pub fn serve(ids: &[u32], lens: &[u16], b: Board) -> Board {
 fn burst_into(ids: &[u32], lens: &[u16], bytes: u64, list: &mut [u32], b: Board) -> Board {
     let done = calls::burst(ids, lens, Bytes(bytes), &mut *list, b);
     let next = done.board;
+    let total = done.bytes;
     output::text(b"burst");
     output::number(done.count as u64);
-    output::number(done.bytes);
+    output::number(total.0);
     output::number(done.code as u64);
     digest::write(digest::lent_words(list, left_by(ids, lens, next)));
     next

@@ -14,7 +14,7 @@ fn main() {
     let mut ids = [0u32; tables::MOST];
     let mut lens = [0u16; tables::MOST];
     let mut more = true;
-    let mut state = play::fresh();
+    let mut state = play::fresh(&mut ids, &mut lens);
     let mut turns = u64::MAX;
     while turns > 0 && more {
         state = play::turn(&mut ids, &mut lens, &mut more, state);

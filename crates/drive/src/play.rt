@@ -17,11 +17,13 @@ pub struct State {
     pub board: Board,
 }
 
-// The board of all zeros and two tables of 2,048 entries.
-pub fn fresh() -> State
+// The board of all zeros and two tables of 2,048 entries. A making with an L of 0 gives that board, and being refused it
+// leaves the tables.
+pub fn fresh(ids: &mut [u32], lens: &mut [u16]) -> State
     ensures { λ r. ⌜ Lendable (r .numbers) (r .lengths) ⌝ }
 {
-    let board = engine::blank(0);
+    let refused = calls::make(ids, lens, 0);
+    let board = refused.board;
     State {
         numbers: tables::ENTRIES,
         lengths: tables::ENTRIES,
@@ -34,13 +36,13 @@ fn begin(ids: &mut [u32], lens: &mut [u16], whole: &mut bool) -> State
     ensures { λ r. ⌜ Lendable (r .numbers) (r .lengths) ⌝ }
 {
     let number = input::number(u64::MAX, &mut *whole);
-    tables::cut(ids, lens, 0, 0);
+    tables::cut(&mut *ids, &mut *lens, 0, 0);
     if *whole {
         output::text(b"case");
         output::number(number);
         output::text(b"\n");
     }
-    fresh()
+    fresh(ids, lens)
 }
 
 fn resize(ids: &mut [u32], lens: &mut [u16], whole: &mut bool, b: Board) -> State

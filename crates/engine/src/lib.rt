@@ -504,8 +504,8 @@ fn begin(
     ready[place] = 0;
     let rest = still_pending(set, k, time, heads, ready);
     let credit = units::credit(shares[place], k as u32, Bytes(largest as u64));
-    let owed = deficits[place];
-    let left = Parts(owed + credit.0);
+    let owed = Parts(deficits[place]);
+    let left = Parts(owed.0 + credit.0);
     deficits[place] = 0;
     Begun {
         left: left,

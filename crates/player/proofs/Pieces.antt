@@ -55,23 +55,24 @@ module _ (len : ℕ) (s : State) (ids lens : List ℕ) (a : length ids ≡ 2048)
     begun-code = tables-right ∙ ap (λ (t : Bool). cond t (cond (unfit len s ids lens) 2 0) 0) b
 
     pub code-long : isLong len ≡ true → 2 ≡ pieceCode len s ids lens
-    code-long e = sym (begun-code ∙ ap (λ (t : Bool). cond (t || (ltb (s .at) (s .sent / 65536) || not (isSound (s .board) ids lens))) 2 0) e)
+    code-long e = sym (begun-code ∙ ap (λ (t : Bool). cond (t || (ltb (s .at) (s .sent .0 / 65536) || not (isSound (s .board) ids lens))) 2 0) e)
 
     module _ (short : isLong len ≡ false) where
-      short-code : pieceCode len s ids lens ≡ cond (ltb (s .at) (s .sent / 65536) || not (isSound (s .board) ids lens)) 2 0
-      short-code = begun-code ∙ ap (λ (t : Bool). cond (t || (ltb (s .at) (s .sent / 65536) || not (isSound (s .board) ids lens))) 2 0) short
+      short-code : pieceCode len s ids lens ≡ cond (ltb (s .at) (s .sent .0 / 65536) || not (isSound (s .board) ids lens)) 2 0
+      short-code = begun-code ∙ ap (λ (t : Bool). cond (t || (ltb (s .at) (s .sent .0 / 65536) || not (isSound (s .board) ids lens))) 2 0) short
 
-      pub code-bytes : ltb (s .at) (s .sent / 65536) ≡ true → 2 ≡ pieceCode len s ids lens
+      pub code-bytes : ltb (s .at) (s .sent .0 / 65536) ≡ true → 2 ≡ pieceCode len s ids lens
       code-bytes e = sym (short-code ∙ ap (λ (t : Bool). cond (t || not (isSound (s .board) ids lens)) 2 0) e)
 
-      code-board : ltb (s .at) (s .sent / 65536) ≡ false → (t : Bool) → isSound (s .board) ids lens ≡ t → _≡_ {A = ℕ} (cond t 0 2) (pieceCode len s ids lens)
+      code-board : ltb (s .at) (s .sent .0 / 65536) ≡ false → (t : Bool) → isSound (s .board) ids lens ≡ t
+          → _≡_ {A = ℕ} (cond t 0 2) (pieceCode len s ids lens)
       code-board e t q = sym (short-code ∙ ap₂ (λ (x y : Bool). cond (x || not y) 2 0) e q ∙ flip t)
         where
           flip : (y : Bool) → _≡_ {A = ℕ} (cond (false || not y) 2 0) (cond y 0 2)
           flip true = refl
           flip false = refl
 
-      pub code-early : ltb (s .at) (s .sent / 65536) ≡ false → earlyCode (s .board) ids lens ≡ pieceCode len s ids lens
+      pub code-early : ltb (s .at) (s .sent .0 / 65536) ≡ false → earlyCode (s .board) ids lens ≡ pieceCode len s ids lens
       unfolding earlyCode
       code-early e = ap (λ (t : Bool). cond t 3 (cond (isSound (s .board) ids lens) 0 2)) (none-wrong (length ids) (length lens) a d) ∙ code-board e (isSound (s .board) ids lens) refl
 
@@ -162,21 +163,30 @@ module _ (log whole : List ℕ) (from : ℕ) (out₀ : List ℕ) (s : Memory) (a
       pub under-last : text ≡ listingFrom (reads s) log at true → PieceDone log s₀ ids lens out₀ (endedPiece used′ s₀) ids′ lens′ out′
       under-last e = ended-done log s₀ ids lens out₀ used′ (u .text ++ take count line) (is ∙ sym (u .joined) ∙ ap (λ (t : List ℕ). u .text ++ t) (sym (l .text ∙ e))) ids′ lens′ out′ text-fits wrote
 
+  -- the state from which the next piece goes on
+  abbrev gone : State
+  gone = record { begun = true; at = at; sent = record { 0 = s .sent }; board = s .board }
+
   -- there is no room for another line
   pub under-more : (s₀ : State) (ids lens : List ℕ) → restOf log s₀ ids lens ≡ whole → isLong (length log) ≡ false → readTo s₀ ≡ from → length out - used < 64
-      → PieceDone log s₀ ids lens out₀ (record { code = 0; used = used; over = false; state = record { begun = true; at = at; sent = s .sent; board = s .board } }) (s .ids) (s .lens) out
+      → PieceDone log s₀ ids lens out₀ (record { code = 0; used = used; over = false; state = gone }) (s .ids) (s .lens) out
   unfolding restAfter restOf
   under-more s₀ ids lens is short from! full = record {
     done = refl;
     fits = u .fits;
     joined = ap (λ (t : List ℕ). t ++ listingFrom (reads s) log at true) (l .text) ∙ u .joined ∙ sym is;
     rest = l .rest;
-    goesOn = λ e. sym (code-board (length log) (record { begun = true; at = at; sent = s .sent; board = s .board }) (s .ids) (s .lens) (u .good .ids-all) (u .good .lens-all) refl short (le-ltb _ _ (u .few)) true (sound-known (s .board) (s .ids) (s .lens) (u .good)));
+    goesOn = λ e. sym ready;
     moves = λ e h. go h (u .moved);
   }
     where
       l : Line out₀ (u .text) used out
       l = from-front out₀ (u .text) out used (omega (arith, u .written .ends, u .fits)) (u .written)
+
+      ready : 0 ≡ pieceCode (length log) gone (s .ids) (s .lens)
+      ready =
+          code-board (length log) gone (s .ids) (s .lens) (u .good .ids-all) (u .good .lens-all) refl short (le-ltb _ _ (u .few)) true
+          (sound-known (s .board) (s .ids) (s .lens) (u .good))
 
       go : 64 ≤ length out₀ → ((from < at) × (at ≤ length log)) ⊎ ((from ≡ at) × (used ≡ 0)) → (readTo s₀ < at) × (at ≤ length log)
       go h (inl m) = (omega (arith, from!, m .0), m .1)
@@ -211,9 +221,9 @@ pub read-is : (len : ℕ) (s : State) (ids lens : List ℕ) → CanGoOn len s id
 read-is len s ids lens r = ap (λ (t : Bool). cond t (s .at) 0) (r .begun)
 
 module _ (log : List ℕ) (s : State) (ids lens : List ℕ) (r : CanGoOn (length log) s ids lens) where
-  pub left-is : restOf log s ids lens ≡ listingFrom (reads (memory (s .board) ids lens (s .sent))) log (s .at) true
+  pub left-is : restOf log s ids lens ≡ listingFrom (reads (memory (s .board) ids lens (s .sent .0))) log (s .at) true
   unfolding restOf
-  left-is = ap (λ (t : Bool). cond t (listingFrom (reads (memory (s .board) ids lens (s .sent))) log (s .at) true) (listingOf log)) (r .begun)
+  left-is = ap (λ (t : Bool). cond t (listingFrom (reads (memory (s .board) ids lens (s .sent .0))) log (s .at) true) (listingOf log)) (r .begun)
 
 -- ---- The first field
 
@@ -238,7 +248,7 @@ made-code ids lens l a d e = rw (none-wrong (length ids) (length lens) a d, e) r
 module _ (log : List ℕ) (s : State) (ids lens out : List ℕ) (unread : s .begun ≡ false) where
   left-whole : restOf log s ids lens ≡ listingOf log
   unfolding restOf
-  left-whole = ap (λ (t : Bool). cond t (listingFrom (reads (memory (s .board) ids lens (s .sent))) log (s .at) true) (listingOf log)) unread
+  left-whole = ap (λ (t : Bool). cond t (listingFrom (reads (memory (s .board) ids lens (s .sent .0))) log (s .at) true) (listingOf log)) unread
 
   -- no room for a line
   pub first-none : pieceCode (length log) s ids lens ≡ 0 → length out < 64 → PieceDone log s ids lens out (record { code = 0; used = 0; over = false; state = s }) ids lens out
@@ -262,7 +272,7 @@ module _ (log : List ℕ) (s : State) (ids lens out : List ℕ) (unread : s .beg
     made-reads = ap (λ (w : Returned Reply). view (w .reply .board) (w .ids) (w .lens)) m ∙ starts .reads
 
     abbrev after-first : State
-    after-first = record { begun = true; at = next; sent = 0; board = r .board }
+    after-first = record { begun = true; at = next; sent = record { 0 = 0 }; board = r .board }
 
     pub first-made : PieceDone log s ids lens out (record { code = 0; used = 0; over = false; state = after-first }) ids′ lens′ out
     unfolding restAfter restOf isLong

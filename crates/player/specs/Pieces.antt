@@ -17,7 +17,7 @@ use Rattle.player.specs.declared.Piece.{Piece}
 
 -- before the first piece: L has not been read, and there is no board yet
 abbrev pub beforeFirst : State
-beforeFirst = record { begun = false; at = 0; sent = 0; board = encode (fresh 0) }
+beforeFirst = record { begun = false; at = 0; sent = record { 0 = 0 }; board = encode (fresh 0) }
 
 -- the offset up to which the log has been read
 abbrev pub readTo : State → ℕ
@@ -25,7 +25,7 @@ readTo s = cond (s .begun) (s .at) 0
 
 -- what of the listing is still to be written
 unfoldable pub restOf : List ℕ → State → List ℕ → List ℕ → List ℕ
-restOf log s ids lens = cond (s .begun) (listingFrom (reads (memory (s .board) ids lens (s .sent))) log (s .at) true) (listingOf log)
+restOf log s ids lens = cond (s .begun) (listingFrom (reads (memory (s .board) ids lens (s .sent .0))) log (s .at) true) (listingOf log)
 
 -- the same after a piece; after the last one nothing
 unfoldable pub restAfter : List ℕ → Piece → List ℕ → List ℕ → List ℕ
@@ -33,7 +33,7 @@ restAfter log r ids lens = cond (r .over) [] (restOf log (r .state) ids lens)
 
 -- A table of another length is 3. After L, a long log, bytes sent of which there are too many for the offset, or a spoilt board is 2: no piece leaves such a state.
 abbrev pub unfit : ℕ → State → List ℕ → List ℕ → Bool
-unfit len s ids lens = isLong len || (ltb (s .at) (s .sent / 65536) || not (isSound (s .board) ids lens))
+unfit len s ids lens = isLong len || (ltb (s .at) (s .sent .0 / 65536) || not (isSound (s .board) ids lens))
 
 unfoldable pub pieceCode : ℕ → State → List ℕ → List ℕ → ℕ
 pieceCode len s ids lens = cond (wrongTables (length ids) (length lens)) 3 (cond (s .begun) (cond (unfit len s ids lens) 2 0) 0)
@@ -42,8 +42,8 @@ pieceCode len s ids lens = cond (wrongTables (length ids) (length lens)) 3 (cond
 pub record CanGoOn (len : ℕ) (s : State) (ids lens : List ℕ) : Type 0 where
   pub begun : s .begun ≡ true
   pub short : isLong len ≡ false
-  pub few : s .sent / 65536 ≤ s .at
-  pub good : KnownMemory (memory (s .board) ids lens (s .sent))
+  pub few : s .sent .0 / 65536 ≤ s .at
+  pub good : KnownMemory (memory (s .board) ids lens (s .sent .0))
 
 -- A refusal writes nothing and gives the state back.
 abbrev pub refusedPiece : ℕ → State → Piece

@@ -20,7 +20,7 @@ use units::Parts;
 pub struct State {
     pub begun: bool,
     pub at: usize,
-    pub sent: u64,
+    pub sent: Bytes,
     pub board: Board,
 }
 
@@ -38,7 +38,7 @@ pub struct Piece {
 // What a field leaves besides the arrays: the length of its line, the bytes sent so far, and the board's numbers.
 struct Moved {
     shown: usize,
-    sent: u64,
+    sent: Bytes,
     clock: u64,
     active: u32,
     pending: u32,
@@ -68,7 +68,7 @@ fn show_serve(
 
 // The next record is sent.
 fn play_serve(
-    sent: u64,
+    sent: Bytes,
     largest: u32,
     clock: u64,
     active: u32,
@@ -89,8 +89,8 @@ fn play_serve(
     lens: &[u16],
     line: &mut [u8; 64],
 ) -> Moved
-    requires { ⌜ KnownMemory (memory (boardNow (now numbers) (now shares) (now starts) (now counts) (now deficits) (now ready) (now next) (now heads) (now tails) (now held) largest (numbersNow clock active pending slot (left .0))) (now ids) (now lens) sent) × (sent < 2 ^ 63) ⌝ }
-    ensures { λ r. ⌜ FieldPlayed (memory (boardNow (now (numbers .entry)) (now (shares .entry)) (now (starts .entry)) (now (counts .entry)) (now (deficits .entry)) (now (ready .entry)) (now (next .entry)) (now (heads .entry)) (now (tails .entry)) (now (held .entry)) largest (numbersNow clock active pending slot (left .0))) (now (ids .entry)) (now (lens .entry)) sent) Serve (memory (boardNow (now (numbers .entry)) (now (shares .entry)) (now (starts .exit)) (now (counts .exit)) (now (deficits .exit)) (now (ready .exit)) (now (next .exit)) (now (heads .exit)) (now (tails .exit)) (now (held .exit)) largest (numbersNow (r .clock) (r .active) (r .pending) (r .slot) (r .left .0))) (now (ids .entry)) (now (lens .entry)) (r .sent)) (now (line .entry)) (r .shown) (now (line .exit)) ⌝ }
+    requires { ⌜ KnownMemory (memory (boardNow (now numbers) (now shares) (now starts) (now counts) (now deficits) (now ready) (now next) (now heads) (now tails) (now held) largest (numbersNow clock active pending slot (left .0))) (now ids) (now lens) (sent .0)) × (sent .0 < 2 ^ 63) ⌝ }
+    ensures { λ r. ⌜ FieldPlayed (memory (boardNow (now (numbers .entry)) (now (shares .entry)) (now (starts .entry)) (now (counts .entry)) (now (deficits .entry)) (now (ready .entry)) (now (next .entry)) (now (heads .entry)) (now (tails .entry)) (now (held .entry)) largest (numbersNow clock active pending slot (left .0))) (now (ids .entry)) (now (lens .entry)) (sent .0)) Serve (memory (boardNow (now (numbers .entry)) (now (shares .entry)) (now (starts .exit)) (now (counts .exit)) (now (deficits .exit)) (now (ready .exit)) (now (next .exit)) (now (heads .exit)) (now (tails .exit)) (now (held .exit)) largest (numbersNow (r .clock) (r .active) (r .pending) (r .slot) (r .left .0))) (now (ids .entry)) (now (lens .entry)) (r .sent .0)) (now (line .entry)) (r .shown) (now (line .exit)) ⌝ }
 {
     let s = engine::serve_within(
         Bytes(engine::ANY_LENGTH),
@@ -117,7 +117,7 @@ fn play_serve(
     let rest = s.left;
     Moved {
         shown: shown,
-        sent: sent + charge.0,
+        sent: Bytes(sent.0 + charge.0),
         clock: s.clock,
         active: s.active,
         pending: s.pending,
@@ -129,7 +129,7 @@ fn play_serve(
 // One field after L: what it says is done, and its line is put in front of the buffer.
 fn play_field(
     event: Event,
-    sent: u64,
+    sent: Bytes,
     largest: u32,
     clock: u64,
     active: u32,
@@ -150,8 +150,8 @@ fn play_field(
     lens: &mut [u16],
     line: &mut [u8; 64],
 ) -> Moved
-    requires { ⌜ KnownMemory (memory (boardNow (now numbers) (now shares) (now starts) (now counts) (now deficits) (now ready) (now next) (now heads) (now tails) (now held) largest (numbersNow clock active pending slot (left .0))) (now ids) (now lens) sent) × ((sent < 2 ^ 63) × (inTurn event true ≡ true)) ⌝ }
-    ensures { λ r. ⌜ FieldPlayed (memory (boardNow (now (numbers .entry)) (now (shares .entry)) (now (starts .entry)) (now (counts .entry)) (now (deficits .entry)) (now (ready .entry)) (now (next .entry)) (now (heads .entry)) (now (tails .entry)) (now (held .entry)) largest (numbersNow clock active pending slot (left .0))) (now (ids .entry)) (now (lens .entry)) sent) event (memory (boardNow (now (numbers .exit)) (now (shares .exit)) (now (starts .exit)) (now (counts .exit)) (now (deficits .exit)) (now (ready .exit)) (now (next .exit)) (now (heads .exit)) (now (tails .exit)) (now (held .exit)) largest (numbersNow (r .clock) (r .active) (r .pending) (r .slot) (r .left .0))) (now (ids .exit)) (now (lens .exit)) (r .sent)) (now (line .entry)) (r .shown) (now (line .exit)) ⌝ }
+    requires { ⌜ KnownMemory (memory (boardNow (now numbers) (now shares) (now starts) (now counts) (now deficits) (now ready) (now next) (now heads) (now tails) (now held) largest (numbersNow clock active pending slot (left .0))) (now ids) (now lens) (sent .0)) × ((sent .0 < 2 ^ 63) × (inTurn event true ≡ true)) ⌝ }
+    ensures { λ r. ⌜ FieldPlayed (memory (boardNow (now (numbers .entry)) (now (shares .entry)) (now (starts .entry)) (now (counts .entry)) (now (deficits .entry)) (now (ready .entry)) (now (next .entry)) (now (heads .entry)) (now (tails .entry)) (now (held .entry)) largest (numbersNow clock active pending slot (left .0))) (now (ids .entry)) (now (lens .entry)) (sent .0)) event (memory (boardNow (now (numbers .exit)) (now (shares .exit)) (now (starts .exit)) (now (counts .exit)) (now (deficits .exit)) (now (ready .exit)) (now (next .exit)) (now (heads .exit)) (now (tails .exit)) (now (held .exit)) largest (numbersNow (r .clock) (r .active) (r .pending) (r .slot) (r .left .0))) (now (ids .exit)) (now (lens .exit)) (r .sent .0)) (now (line .entry)) (r .shown) (now (line .exit)) ⌝ }
 {
     let mut shown: usize = 0;
     let mut set = active;
@@ -284,7 +284,8 @@ fn unready(len: usize, ids: &[u32], lens: &[u16], s: State) -> u8
     if log::is_long(len) {
         return 2;
     }
-    if s.at < s.sent as usize / 65536 {
+    let sent = s.sent;
+    if s.at < sent.0 as usize / 65536 {
         return 2;
     }
     calls::early(ids, lens, s.board)
@@ -360,7 +361,7 @@ fn next_piece(log: &[u8], ids: &mut [u32], lens: &mut [u16], out: &mut [u8], s: 
             };
         }
         if at == log.len() {
-            let last = lines::put_end(&mut line, clock, sent, waiting(&counts));
+            let last = lines::put_end(&mut line, clock, sent.0, waiting(&counts));
             let end = append(out, used, &line, last);
             return last_piece(end, s);
         }
@@ -394,7 +395,8 @@ fn next_piece(log: &[u8], ids: &mut [u32], lens: &mut [u16], out: &mut [u8], s: 
         );
         used = append(out, used, &line, moved.shown);
         at = on;
-        sent = moved.sent;
+        let total = moved.sent;
+        sent = total;
         clock = moved.clock;
         active = moved.active;
         pending = moved.pending;
@@ -441,7 +443,7 @@ fn first_piece(log: &[u8], ids: &mut [u32], lens: &mut [u16], out: &mut [u8], s:
         state: State {
             begun: true,
             at: on,
-            sent: 0,
+            sent: Bytes(0),
             board: board,
         },
     }
@@ -473,7 +475,7 @@ pub fn begin() -> State
     State {
         begun: false,
         at: 0,
-        sent: 0,
+        sent: Bytes(0),
         board: engine::blank(0),
     }
 }

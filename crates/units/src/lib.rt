@@ -58,7 +58,7 @@ pub fn charged(length: Bytes) -> Bytes
 }
 
 // What a record of the largest length is charged.
-pub fn largest_charge(largest: Bytes) -> Bytes
+fn largest_charge(largest: Bytes) -> Bytes
     requires { ⌜ largest .0 ≤ 2048 ⌝ }
     ensures { λ r. ⌜ r .0 ≡ largestCharge (largest .0) ⌝ }
 {

@@ -10,6 +10,12 @@ Inv-loop ids₀ lens₀ more₀ state₀ turns₀ ids lens more state turns = Le
 abbrev μ-loop : tie.MeasureT-loop
 μ-loop ids₀ lens₀ more₀ state₀ turns₀ ids lens more state turns = turns
 
+slice-aggregate-fresh : tie.Need-slice-aggregate-fresh Inv-loop μ-loop
+slice-aggregate-fresh c = search needs
+
+slice-aggregate-fresh-2 : tie.Need-slice-aggregate-fresh-2 Inv-loop μ-loop
+slice-aggregate-fresh-2 c = search needs
+
 fresh-requires : tie.Need-fresh-requires Inv-loop μ-loop
 fresh-requires c κs = search needs
 
@@ -40,6 +46,8 @@ main-spec =
     (tie.spec
     Inv-loop
     μ-loop
+    slice-aggregate-fresh
+    slice-aggregate-fresh-2
     fresh-requires
     loop-holds
     turn-requires

@@ -39,14 +39,19 @@ cast-credit c = let h : c .before .before .before .before .before .before .befor
 credit-requires : tie.Need-credit-requires
 credit-requires c κs = search needs
 
-mul-owed : tie.Need-mul-owed
-mul-owed c = search needs
+mul-t25 : tie.Need-mul-t25
+mul-t25 c = search needs
 
-element-copy-out-owed : tie.Need-element-copy-out-owed
-element-copy-out-owed c = search needs
+element-copy-out-t34 : tie.Need-element-copy-out-t34
+element-copy-out-t34 c = search needs
 
 add-t34 : tie.Need-add-t34
-add-t34 c = let a = credit-under (c .before .before .before .before .before .before .before .before .before .before .before .before .before .before .args .largest) (getD (c .before .before .before .before .before .before .before .before .before .before .before .before .before .before .args .shares .now) (c .before .before .before .before .before .before .before .before .before .before .before .before .before .before .args .place) 0) (c .before .before .before .before .before .before .before .before .before .before .before .before .before .before .pre .high) (most-pos (c .before .before .before .before .before .before .before .before .before .before .before .before .before .before .args .largest) (c .before .before .before .before .before .before .before .before .before .before .before .before .before .before .pre .least)) in let b = charge-small (c .before .before .before .before .before .before .before .before .before .before .before .before .before .before .args .largest) (c .before .before .before .before .before .before .before .before .before .before .before .before .before .before .pre .most) in omega (arith, a, b, c .before .before .credit .ensures, c .before .before .before .before .before .before .before .before .before .before .before .before .before .before .pre .owed)
+add-t34 c =
+    let start = c .before .before .before .before .before .before .before .before .before .before .before .before .before .before .before in
+    let most = start .args .largest in
+    let share = getD (start .args .shares .now) (start .args .place) 0 in
+    let under = credit-under most share (start .pre .high) (most-pos most (start .pre .least)) in
+    omega (arith, under, charge-small most (start .pre .most), c .before .before .before .credit .ensures, start .pre .owed)
 
 mul-deficits : tie.Need-mul-deficits
 mul-deficits c = search needs
@@ -56,7 +61,13 @@ element-write-deficits c = search needs
 
 returns : tie.Need-returns
 unfolding beganAt
-returns c = rw (← c .before .before .before .before .before .before .before .before .before .before .before .advance .ensures, ← c .before .before .before .before .before .before .before .leave .ensures, c .before .before .before .before .still-pending .ensures, c .before .before .credit .ensures)
+returns c =
+    rw (
+      ← c .before .before .before .before .before .before .before .before .before .before .before .before .advance .ensures,
+      ← c .before .before .before .before .before .before .before .before .leave .ensures,
+      c .before .before .before .before .before .still-pending .ensures,
+      c .before .before .before .credit .ensures,
+    )
 
 pub begin-spec : {M : Type 1} → statement M
 begin-spec =
@@ -71,8 +82,8 @@ begin-spec =
     element-copy-out-credit
     cast-credit
     credit-requires
-    mul-owed
-    element-copy-out-owed
+    mul-t25
+    element-copy-out-t34
     add-t34
     mul-deficits
     element-write-deficits

@@ -15,29 +15,46 @@ use Rattle.player.proofs.next_piece.Tie as tie
 
 abbrev Inv-loop : tie.InvT-loop
 Inv-loop log ids₀ lens₀ out₀ s b numbers₀ shares₀ starts₀ counts₀ deficits₀ ready₀ next₀ heads₀ tails₀ held₀ clock₀ active₀ pending₀ slot₀ left₀ at₀ sent₀ used₀ line₀ ids lens out numbers shares starts counts deficits ready next heads tails held clock active pending slot left at sent used line =
-    UnderWay log (listingFrom (reads (memory (s .board) ids₀ lens₀ (s .sent))) log (s .at) true) (s .at) out₀ (memory (boardNow numbers shares starts counts deficits ready next heads tails held (b .largest) (numbersNow clock active pending slot (left .0))) ids lens sent) at used out
+    UnderWay log (listingFrom (reads (memory (s .board) ids₀ lens₀ (s .sent .0))) log (s .at) true) (s .at) out₀
+    (memory
+    (boardNow numbers shares starts counts deficits ready next heads tails held (b .largest) (numbersNow clock active pending slot (left .0)))
+    ids lens (sent .0)) at used out
 
 abbrev μ-loop : tie.MeasureT-loop
 μ-loop log ids₀ lens₀ out₀ s b numbers₀ shares₀ starts₀ counts₀ deficits₀ ready₀ next₀ heads₀ tails₀ held₀ clock₀ active₀ pending₀ slot₀ left₀ at₀ sent₀ used₀ line₀ ids lens out numbers shares starts counts deficits ready next heads tails held clock active pending slot left at sent used line =
     length log - at
 
 loop-holds : tie.Need-loop-holds Inv-loop μ-loop
-loop-holds c = under-first _ _ _ _ (c .before .before .before .before .before .before .before .before .before .before .before .before .before .before .before .before .pre .good) (c .before .before .before .before .before .before .before .before .before .before .before .before .before .before .before .before .pre .few)
+loop-holds c =
+    let start = c .before .before .before .before .before .before .before .before .before .before .before .before .before .before .before .before .before in
+    under-first _ _ _ _ (start .pre .good) (start .pre .few)
 
 sub-if1 : tie.Need-sub-if1 Inv-loop μ-loop
 sub-if1 c = omega (arith, c .loop .inv .fits, c .loop .inv .same)
 
 same-length : tie.Need-same-length Inv-loop μ-loop
-same-length c = c .before .loop .inv .good .ids-all ∙ sym (c .before .before .before .before .before .before .before .before .before .before .before .before .before .before .before .before .before .before .pre .good .ids-all)
+same-length c =
+    let at-loop = c .before in
+    let at-b = at-loop .before .before .before .before .before .before .before .before .before .before .before .before .before in
+    let start = at-b .before .before .before .before .before in
+    at-loop .loop .inv .good .ids-all ∙ sym (start .pre .good .ids-all)
 
 same-length-2 : tie.Need-same-length-2 Inv-loop μ-loop
-same-length-2 c = c .before .loop .inv .good .lens-all ∙ sym (c .before .before .before .before .before .before .before .before .before .before .before .before .before .before .before .before .before .before .pre .good .lens-all)
+same-length-2 c =
+    let at-loop = c .before in
+    let at-b = at-loop .before .before .before .before .before .before .before .before .before .before .before .before .before in
+    let start = at-b .before .before .before .before .before in
+    at-loop .loop .inv .good .lens-all ∙ sym (start .pre .good .lens-all)
 
 same-length-3 : tie.Need-same-length-3 Inv-loop μ-loop
 same-length-3 c = c .before .loop .inv .same
 
 returns : tie.Need-returns Inv-loop μ-loop
-returns c = under-more _ _ _ _ _ _ _ _ (c .before .loop .inv) _ _ _ (left-is _ _ _ _ (c .before .before .before .before .before .before .before .before .before .before .before .before .before .before .before .before .before .before .pre)) (c .before .before .before .before .before .before .before .before .before .before .before .before .before .before .before .before .before .before .pre .short) (read-is _ _ _ _ (c .before .before .before .before .before .before .before .before .before .before .before .before .before .before .before .before .before .before .pre)) (c .if1 .taken)
+returns c =
+    let at-loop = c .before in
+    let at-b = at-loop .before .before .before .before .before .before .before .before .before .before .before .before .before in
+    let start = at-b .before .before .before .before .before in
+    under-more _ _ _ _ _ _ _ _ (at-loop .loop .inv) _ _ _ (left-is _ _ _ _ (start .pre)) (start .pre .short) (read-is _ _ _ _ (start .pre)) (c .if1 .taken)
 
 waiting-requires : tie.Need-waiting-requires Inv-loop μ-loop
 waiting-requires c κs = search needs
@@ -46,22 +63,50 @@ put-end-requires : tie.Need-put-end-requires Inv-loop μ-loop
 put-end-requires c κs = search needs
 
 append-requires : tie.Need-append-requires Inv-loop μ-loop
-append-requires c κs = (c .before .before .put-end .ensures .1, under-fits _ _ _ _ _ _ _ _ (c .before .before .before .before .before .before .before .before .loop .inv) (c .before .before .before .before .before .before .before .if1 .left) _ (c .before .before .put-end .ensures .1))
+append-requires c κs =
+    let at-put-end = c .before .before in
+    let at-if1 = at-put-end .before .before .before .before .before in
+    let at-loop = at-if1 .before in
+    (at-put-end .put-end .ensures .1, under-fits _ _ _ _ _ _ _ _ (at-loop .loop .inv) (at-if1 .if1 .left) _ (at-put-end .put-end .ensures .1))
 
 last-piece-requires : tie.Need-last-piece-requires Inv-loop μ-loop
 last-piece-requires c κs = search needs
 
 same-length-4 : tie.Need-same-length-4 Inv-loop μ-loop
-same-length-4 c = c .before .before .before .before .before .before .before .before .before .before .before .before .loop .inv .good .ids-all ∙ sym (c .before .before .before .before .before .before .before .before .before .before .before .before .before .before .before .before .before .before .before .before .before .before .before .before .before .before .before .before .before .pre .good .ids-all)
+same-length-4 c =
+    let at-loop = c .before .before .before .before .before .before .before .before .before .before .before .before in
+    let at-b = at-loop .before .before .before .before .before .before .before .before .before .before .before .before .before in
+    let start = at-b .before .before .before .before .before in
+    at-loop .loop .inv .good .ids-all ∙ sym (start .pre .good .ids-all)
 
 same-length-5 : tie.Need-same-length-5 Inv-loop μ-loop
-same-length-5 c = c .before .before .before .before .before .before .before .before .before .before .before .before .loop .inv .good .lens-all ∙ sym (c .before .before .before .before .before .before .before .before .before .before .before .before .before .before .before .before .before .before .before .before .before .before .before .before .before .before .before .before .before .pre .good .lens-all)
+same-length-5 c =
+    let at-loop = c .before .before .before .before .before .before .before .before .before .before .before .before in
+    let at-b = at-loop .before .before .before .before .before .before .before .before .before .before .before .before .before in
+    let start = at-b .before .before .before .before .before in
+    at-loop .loop .inv .good .lens-all ∙ sym (start .pre .good .lens-all)
 
 same-length-6 : tie.Need-same-length-6 Inv-loop μ-loop
-same-length-6 c = c .before .before .before .append .kept .0 ∙ c .before .before .before .before .before .before .before .before .before .before .before .before .loop .inv .same
+same-length-6 c =
+    let at-append = c .before .before .before in
+    let at-loop = at-append .before .before .before .before .before .before .before .before .before in
+    at-append .append .kept .0 ∙ at-loop .loop .inv .same
 
 returns-2 : tie.Need-returns-2 Inv-loop μ-loop
-returns-2 c = rw (c .last-piece .ensures) (under-last _ _ _ _ _ _ _ _ (c .before .before .before .before .before .before .before .before .before .before .before .before .loop .inv) _ _ _ _ _ _ (c .before .before .before .before .before .before .put-end .ensures .0) (c .before .before .before .before .before .before .put-end .ensures .1) (under-room _ _ _ _ _ _ _ _ (c .before .before .before .before .before .before .before .before .before .before .before .before .loop .inv) (c .before .before .before .before .before .before .before .before .before .before .before .if1 .left)) (c .before .before .before .append .ensures) _ _ _ (left-is _ _ _ _ (c .before .before .before .before .before .before .before .before .before .before .before .before .before .before .before .before .before .before .before .before .before .before .before .before .before .before .before .before .before .pre)) _ _ (end-listing _ (c .before .before .before .before .before .before .before .before .before .before .before .before .loop .inv .good) _ _ _ _ (c .before .before .before .before .before .before .before .before .before .before .if2 .taken) refl (c .before .before .before .before .before .before .before .waiting .ensures)))
+returns-2 c =
+    let at-append = c .before .before .before in
+    let at-put-end = at-append .before .before .before in
+    let at-waiting = at-put-end .before in
+    let at-if2 = at-waiting .before .before .before in
+    let at-if1 = at-if2 .before in
+    let at-loop = at-if1 .before in
+    let at-b = at-loop .before .before .before .before .before .before .before .before .before .before .before .before .before in
+    let start = at-b .before .before .before .before .before in
+    let shown = at-put-end .put-end .ensures in
+    let room = under-room _ _ _ _ _ _ _ _ (at-loop .loop .inv) (at-if1 .if1 .left) in
+    let ends = end-listing _ (at-loop .loop .inv .good) _ _ _ _ (at-if2 .if2 .taken) refl (at-waiting .waiting .ensures) in
+    rw (c .last-piece .ensures) (under-last _ _ _ _ _ _ _ _ (at-loop .loop .inv) _ _ _ _ _ _ (shown .0) (shown .1) room (at-append .append .ensures) _ _ _
+    (left-is _ _ _ _ (start .pre)) _ _ ends)
 
 field-at-requires : tie.Need-field-at-requires Inv-loop μ-loop
 field-at-requires c κs = search needs
@@ -76,34 +121,92 @@ put-broken-requires : tie.Need-put-broken-requires Inv-loop μ-loop
 put-broken-requires c κs = search needs
 
 append-requires-2 : tie.Need-append-requires-2 Inv-loop μ-loop
-append-requires-2 c κs = (c .before .before .put-broken .ensures .1, under-fits _ _ _ _ _ _ _ _ (c .before .before .before .before .before .before .before .before .before .loop .inv) (c .before .before .before .before .before .before .before .before .if1 .left) _ (c .before .before .put-broken .ensures .1))
+append-requires-2 c κs =
+    let at-put-broken = c .before .before in
+    let at-if1 = at-put-broken .before .before .before .before .before .before in
+    let at-loop = at-if1 .before in
+    (at-put-broken .put-broken .ensures .1, under-fits _ _ _ _ _ _ _ _ (at-loop .loop .inv) (at-if1 .if1 .left) _ (at-put-broken .put-broken .ensures .1))
 
 last-piece-requires-2 : tie.Need-last-piece-requires-2 Inv-loop μ-loop
 last-piece-requires-2 c κs = search needs
 
 same-length-7 : tie.Need-same-length-7 Inv-loop μ-loop
-same-length-7 c = c .before .before .before .before .before .before .before .before .before .before .before .before .before .loop .inv .good .ids-all ∙ sym (c .before .before .before .before .before .before .before .before .before .before .before .before .before .before .before .before .before .before .before .before .before .before .before .before .before .before .before .before .before .before .pre .good .ids-all)
+same-length-7 c =
+    let at-loop = c .before .before .before .before .before .before .before .before .before .before .before .before .before in
+    let at-b = at-loop .before .before .before .before .before .before .before .before .before .before .before .before .before in
+    let start = at-b .before .before .before .before .before in
+    at-loop .loop .inv .good .ids-all ∙ sym (start .pre .good .ids-all)
 
 same-length-8 : tie.Need-same-length-8 Inv-loop μ-loop
-same-length-8 c = c .before .before .before .before .before .before .before .before .before .before .before .before .before .loop .inv .good .lens-all ∙ sym (c .before .before .before .before .before .before .before .before .before .before .before .before .before .before .before .before .before .before .before .before .before .before .before .before .before .before .before .before .before .before .pre .good .lens-all)
+same-length-8 c =
+    let at-loop = c .before .before .before .before .before .before .before .before .before .before .before .before .before in
+    let at-b = at-loop .before .before .before .before .before .before .before .before .before .before .before .before .before in
+    let start = at-b .before .before .before .before .before in
+    at-loop .loop .inv .good .lens-all ∙ sym (start .pre .good .lens-all)
 
 same-length-9 : tie.Need-same-length-9 Inv-loop μ-loop
-same-length-9 c = c .before .before .before .append2 .kept .0 ∙ c .before .before .before .before .before .before .before .before .before .before .before .before .before .loop .inv .same
+same-length-9 c =
+    let at-append2 = c .before .before .before in
+    let at-loop = at-append2 .before .before .before .before .before .before .before .before .before .before in
+    at-append2 .append2 .kept .0 ∙ at-loop .loop .inv .same
 
 returns-3 : tie.Need-returns-3 Inv-loop μ-loop
-returns-3 c = rw (c .last-piece2 .ensures) (under-last _ _ _ _ _ _ _ _ (c .before .before .before .before .before .before .before .before .before .before .before .before .before .loop .inv) _ _ _ _ _ _ (c .before .before .before .before .before .before .put-broken .ensures .0) (c .before .before .before .before .before .before .put-broken .ensures .1) (under-room _ _ _ _ _ _ _ _ (c .before .before .before .before .before .before .before .before .before .before .before .before .before .loop .inv) (c .before .before .before .before .before .before .before .before .before .before .before .before .if1 .left)) (c .before .before .before .append2 .ensures) _ _ _ (left-is _ _ _ _ (c .before .before .before .before .before .before .before .before .before .before .before .before .before .before .before .before .before .before .before .before .before .before .before .before .before .before .before .before .before .before .pre)) _ _ (broken-listing _ (c .before .before .before .before .before .before .before .before .before .before .before .before .before .loop .inv .good) _ _ _ (c .before .before .before .before .before .before .before .before .before .before .before .if2 .left) (sym (c .before .before .before .before .before .before .before .before .before .before .field-at .ensures) ∙ c .before .before .before .before .before .before .before .before .enum-told .given .1)))
+returns-3 c =
+    let at-append2 = c .before .before .before in
+    let at-put-broken = at-append2 .before .before .before in
+    let at-enum-told = at-put-broken .before .before in
+    let at-field-at = at-enum-told .before .before in
+    let at-if2 = at-field-at .before in
+    let at-if1 = at-if2 .before in
+    let at-loop = at-if1 .before in
+    let at-b = at-loop .before .before .before .before .before .before .before .before .before .before .before .before .before in
+    let start = at-b .before .before .before .before .before in
+    let shown = at-put-broken .put-broken .ensures in
+    let room = under-room _ _ _ _ _ _ _ _ (at-loop .loop .inv) (at-if1 .if1 .left) in
+    let read = sym (at-field-at .field-at .ensures) ∙ at-enum-told .enum-told .given .1 in
+    let breaks = broken-listing _ (at-loop .loop .inv .good) _ _ _ (at-if2 .if2 .left) read in
+    rw (c .last-piece2 .ensures) (under-last _ _ _ _ _ _ _ _ (at-loop .loop .inv) _ _ _ _ _ _ (shown .0) (shown .1) room (at-append2 .append2 .ensures) _ _ _
+    (left-is _ _ _ _ (start .pre)) _ _ breaks)
 
 play-field-requires : tie.Need-play-field-requires Inv-loop μ-loop
-play-field-requires c κs = let f = sym (c .before .before .before .before .before .before .before .before .before .before .before .before .before .before .before .before .field-at .ensures) ∙ c .before .before .before .before .before .before .before .before .before .before .before .before .before .before .event .given .1 in (c .before .before .before .before .before .before .before .before .before .before .before .before .before .before .before .before .before .before .before .loop .inv .good, (under-small _ _ _ _ _ _ _ _ (c .before .before .before .before .before .before .before .before .before .before .before .before .before .before .before .before .before .before .before .loop .inv) _ _ f (c .before .before .before .before .before .before .before .before .before .before .before .before .before .before .before .before .before .before .before .before .before .before .before .before .before .before .before .before .before .before .before .before .before .before .before .before .pre .short), whole-is _ _ _ _ _ f .turn))
+play-field-requires c κs =
+    let at-event = c .before .before .before .before .before .before .before .before .before .before .before .before .before .before in
+    let at-field-at = at-event .before .before in
+    let at-loop = at-field-at .before .before .before in
+    let at-b = at-loop .before .before .before .before .before .before .before .before .before .before .before .before .before in
+    let start = at-b .before .before .before .before .before in
+    let f = sym (at-field-at .field-at .ensures) ∙ at-event .event .given .1 in
+    (at-loop .loop .inv .good, (under-small _ _ _ _ _ _ _ _ (at-loop .loop .inv) _ _ f (start .pre .short), whole-is _ _ _ _ _ f .turn))
 
 append-requires-3 : tie.Need-append-requires-3 Inv-loop μ-loop
-append-requires-3 c κs = (c .before .before .before .before .before .before .play-field .ensures .short, under-fits _ _ _ _ _ _ _ _ (c .before .before .before .before .before .before .before .before .before .before .before .before .before .before .before .before .before .before .before .before .before .before .before .before .before .before .loop .inv) (c .before .before .before .before .before .before .before .before .before .before .before .before .before .before .before .before .before .before .before .before .before .before .before .before .before .if1 .left) _ (c .before .before .before .before .before .before .play-field .ensures .short))
+append-requires-3 c κs =
+    let at-play-field = c .before .before .before .before .before .before in
+    let at-event = at-play-field .before .before .before .before .before .before .before .before .before .before .before .before .before .before .before in
+    let at-if1 = at-event .before .before .before .before in
+    let at-loop = at-if1 .before in
+    let short = at-play-field .play-field .ensures .short in
+    (short, under-fits _ _ _ _ _ _ _ _ (at-loop .loop .inv) (at-if1 .if1 .left) _ short)
 
 loop-less : tie.Need-loop-less Inv-loop μ-loop
-loop-less c = let f = whole-next _ _ _ _ _ (sym (c .before .before .before .before .before .before .before .before .before .before .before .before .before .before .before .before .before .before .before .before .before .before .before .before .before .before .before .field-at .ensures) ∙ c .before .before .before .before .before .before .before .before .before .before .before .before .before .before .before .before .before .before .before .before .before .before .before .before .before .event .given .1) in omega (arith, f .0, f .1)
+loop-less c =
+    let at-play-field = c .before .before .before .before .before .before .before .before .before .before .before in
+    let at-event = at-play-field .before .before .before .before .before .before .before .before .before .before .before .before .before .before .before in
+    let at-field-at = at-event .before .before in
+    let f = whole-next _ _ _ _ _ (sym (at-field-at .field-at .ensures) ∙ at-event .event .given .1) in omega (arith, f .0, f .1)
 
 loop-again : tie.Need-loop-again Inv-loop μ-loop
-loop-again c = under-next _ _ _ _ _ _ _ _ (c .before .before .before .before .before .before .before .before .before .before .before .before .before .before .before .before .before .before .before .before .before .before .before .before .before .before .before .before .before .before .loop .inv) _ _ _ _ _ _ (c .before .before .before .before .before .before .before .before .before .before .play-field .ensures .line) (c .before .before .before .before .before .before .before .before .before .before .play-field .ensures .short) (under-room _ _ _ _ _ _ _ _ (c .before .before .before .before .before .before .before .before .before .before .before .before .before .before .before .before .before .before .before .before .before .before .before .before .before .before .before .before .before .before .loop .inv) (c .before .before .before .before .before .before .before .before .before .before .before .before .before .before .before .before .before .before .before .before .before .before .before .before .before .before .before .before .before .if1 .left)) (c .before .before .before .append3 .ensures) _ _ (sym (c .before .before .before .before .before .before .before .before .before .before .before .before .before .before .before .before .before .before .before .before .before .before .before .before .before .before .before .field-at .ensures) ∙ c .before .before .before .before .before .before .before .before .before .before .before .before .before .before .before .before .before .before .before .before .before .before .before .before .before .event .given .1) _ (c .before .before .before .before .before .before .before .before .before .before .play-field .ensures) (c .before .before .before .append3 .kept .0)
+loop-again c =
+    let at-append3 = c .before .before .before .before in
+    let at-play-field = at-append3 .before .before .before .before .before .before .before in
+    let at-event = at-play-field .before .before .before .before .before .before .before .before .before .before .before .before .before .before .before in
+    let at-field-at = at-event .before .before in
+    let at-if1 = at-field-at .before .before in
+    let at-loop = at-if1 .before in
+    let played = at-play-field .play-field .ensures in
+    let room = under-room _ _ _ _ _ _ _ _ (at-loop .loop .inv) (at-if1 .if1 .left) in
+    let read = sym (at-field-at .field-at .ensures) ∙ at-event .event .given .1 in
+    under-next _ _ _ _ _ _ _ _ (at-loop .loop .inv) _ _ _ _ _ _ (played .line) (played .short) room (at-append3 .append3 .ensures) _ _ read _ played
+    (at-append3 .append3 .kept .0)
 
 pub next-piece-spec : {M : Type 1} → statement M
 next-piece-spec =

@@ -19,22 +19,47 @@ unfolding pieceCode
 returns-2 c = (rw (lens-wrong _ _ (c .if2 .taken)) refl, λ z. absurd (omega arith))
 
 returns-3 : tie.Need-returns-3
-returns-3 c = (code-unbegun _ _ _ _ (c .before .before .before .if1 .left) (c .before .before .if2 .left) (not-true _ (c .if3 .taken)), λ z b. absurd (true≢false (sym b ∙ not-true _ (c .if3 .taken))))
+returns-3 c =
+    let at-if2 = c .before .before in
+    let at-if1 = at-if2 .before in
+    let unbegun = not-true _ (c .if3 .taken) in
+    (code-unbegun _ _ _ _ (at-if1 .if1 .left) (at-if2 .if2 .left) unbegun, λ z b. absurd (true≢false (sym b ∙ unbegun)))
 
 is-long-requires : tie.Need-is-long-requires
 is-long-requires c κs = search needs
 
 returns-4 : tie.Need-returns-4
-returns-4 c = (code-long _ _ _ _ (c .before .before .before .before .before .if1 .left) (c .before .before .before .before .if2 .left) (not-false _ (c .before .before .if3 .left)) (sym (c .before .is-long .ensures) ∙ c .if4 .taken), λ z. absurd (omega arith))
+returns-4 c =
+    let at-if3 = c .before .before in
+    let at-if2 = at-if3 .before .before in
+    let at-if1 = at-if2 .before in
+    let long = sym (c .before .is-long .ensures) ∙ c .if4 .taken in
+    (code-long _ _ _ _ (at-if1 .if1 .left) (at-if2 .if2 .left) (not-false _ (at-if3 .if3 .left)) long, λ z. absurd (omega arith))
 
 returns-5 : tie.Need-returns-5
-returns-5 c = (code-bytes _ _ _ _ (c .before .before .before .before .before .before .before .if1 .left) (c .before .before .before .before .before .before .if2 .left) (not-false _ (c .before .before .before .before .if3 .left)) (sym (c .before .before .before .is-long .ensures) ∙ c .before .before .if4 .left) (lt-ltb _ _ (c .if5 .taken)), λ z. absurd (omega arith))
+returns-5 c =
+    let at-if4 = c .before .before .before in
+    let at-is-long = at-if4 .before in
+    let at-if3 = at-is-long .before in
+    let at-if2 = at-if3 .before .before in
+    let at-if1 = at-if2 .before in
+    let short = sym (at-is-long .is-long .ensures) ∙ at-if4 .if4 .left in
+    let code = code-bytes _ _ _ _ (at-if1 .if1 .left) (at-if2 .if2 .left) (not-false _ (at-if3 .if3 .left)) short (lt-ltb _ _ (c .if5 .taken)) in
+    (code, λ z. absurd (omega arith))
 
 early-requires : tie.Need-early-requires
 early-requires c κs = search needs
 
 returns-6 : tie.Need-returns-6
-returns-6 c = (c .early .ensures .0 ∙ code-early _ _ _ _ (c .before .before .before .before .before .before .before .before .if1 .left) (c .before .before .before .before .before .before .before .if2 .left) (not-false _ (c .before .before .before .before .before .if3 .left)) (sym (c .before .before .before .before .is-long .ensures) ∙ c .before .before .before .if4 .left) (le-ltb _ _ (c .before .if5 .left)), λ z b. record { begun = b; short = sym (c .before .before .before .before .is-long .ensures) ∙ c .before .before .before .if4 .left; few = c .before .if5 .left; good = c .early .ensures .1 z })
+returns-6 c =
+    let at-if4 = c .before .before .before .before in
+    let at-is-long = at-if4 .before in
+    let at-if3 = at-is-long .before in
+    let at-if2 = at-if3 .before .before in
+    let at-if1 = at-if2 .before in
+    let short! = sym (at-is-long .is-long .ensures) ∙ at-if4 .if4 .left in
+    let code = code-early _ _ _ _ (at-if1 .if1 .left) (at-if2 .if2 .left) (not-false _ (at-if3 .if3 .left)) short! (le-ltb _ _ (c .before .if5 .left)) in
+    (c .early .ensures .0 ∙ code, λ z b. record { begun = b; short = short!; few = c .before .if5 .left; good = c .early .ensures .1 z })
 
 pub unready-spec : {M : Type 1} → statement M
 unready-spec =
