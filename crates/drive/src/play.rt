@@ -17,8 +17,8 @@ pub struct State {
     pub board: Board,
 }
 
-// The board of all zeros and two tables of 2,048 entries. A making with an L of 0 gives that board, and being refused it
-// leaves the tables.
+// The board of all zeros and two tables of 2,048 entries. A making with an L of 0 gives that board, and being refused
+// it leaves the tables.
 pub fn fresh(ids: &mut [u32], lens: &mut [u16]) -> State
     ensures { λ r. ⌜ Lendable (r .numbers) (r .lengths) ⌝ }
 {
