@@ -4,4 +4,6 @@ pub mod Rows
 pub mod Slots
 pub mod Demands
 pub mod Passages
+pub mod Codes
+pub mod Limits
 pub mod Examples

@@ -1,2 +1,4 @@
 pub mod Chains
 pub mod Demands
+pub mod Codes
+pub mod Limits

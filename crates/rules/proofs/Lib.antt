@@ -30,5 +30,6 @@ pub mod Refusals
 pub mod Burst
 pub mod SlotBytes
 pub mod Holds
+pub mod Exact
 pub mod Promises
 pub mod Examples

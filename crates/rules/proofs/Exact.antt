@@ -1,0 +1,85 @@
+-- What the tests of the checks decide, in words of open blocks, lanes, shares and holds.
+use mathlib.Core.Path.{_≡_, refl, sym, ap, _∙_}
+use mathlib.Core.Bool.{Bool, true, false, not, true≢false, false≢true}
+use mathlib.Core.Logic.{_⊎_, inl, inr, _≢_}
+use mathlib.Core.Option.{none}
+use mathlib.Core.List.{List, [], _∷_}
+use Prim.Native.Nat.{ℕ, zero, suc, _+_, _-_, _≤_, _<_}
+use native.Mathlib.Omega.{arith}
+use lib.Dec.{leb, ltb, eqb}
+use lib.ListN.{length, getD}
+use Rattle.base.specs.Tests.{Decides}
+use Rattle.base.proofs.Decides.{d-iff, d-leb}
+use Rattle.base.proofs.Numbers.{split, leb-yes, true-le, eqb-no}
+use Rattle.base.proofs.Tests.{least-none, least-false}
+use Rattle.rules.specs.Board.{Record, Place, freePlace, Board, at, waits, someWait, spent, freeShare}
+use Rattle.rules.specs.Choice.{whereIs, leastReady}
+use Rattle.rules.specs.Blocks.{freeAt, quiet}
+use Rattle.rules.proofs.Calls.{or-left, or-right, not-zero, where-share, where-none}
+use Rattle.rules.proofs.Cases.{Has, where-number}
+use Rattle.rules.proofs.Tidy.{Tidy}
+use Rattle.rules.proofs.Waiting.{some-quiet}
+
+-- ---- the block that has a number
+
+-- the search ends below 64 exactly where an open block has the number
+pub found-decides : (b : Board) (n : ℕ) → Tidy b → Decides (ltb (whereIs b n) 64) ((p : ℕ) × Has b p n)
+found-decides b n g = record { yes = λ e. (whereIs b n, has (true-le (suc (whereIs b n)) 64 e)); no = λ w. go (ltb (whereIs b n) 64) refl w }
+  where
+    has : whereIs b n < 64 → Has b (whereIs b n) n
+    has h = record { inside = h; bought = where-share b n h; named = where-number b n h }
+
+    go : (t : Bool) → ltb (whereIs b n) 64 ≡ t → (p : ℕ) × Has b p n → t ≡ true
+    go true e w = refl
+    go false e (p, h) = absurd (where-none b n (g .shape .all64) e p (h .bought) (h .named))
+
+pub unknown-decides : (b : Board) (n : ℕ) → Tidy b → Decides (leb 64 (whereIs b n)) ((p : ℕ) → Has b p n → ⊥)
+unknown-decides b n g = record {
+  yes = λ e p h. absurd (omega (arith, true-le 64 (whereIs b n) e, true-le (suc (whereIs b n)) 64 (found-decides b n g .no (p, h))));
+  no = λ f. go (split 64 (whereIs b n)) f;
+}
+  where
+    go : (64 ≤ whereIs b n) ⊎ (whereIs b n < 64) → ((p : ℕ) → Has b p n → ⊥) → leb 64 (whereIs b n) ≡ true
+    go (inl h) f = leb-yes 64 (whereIs b n) h
+    go (inr h) f = let w = found-decides b n g .yes (leb-yes (suc (whereIs b n)) 64 h) in absurd (f (w .0) (w .1))
+
+-- ---- places and shares
+
+pub taken-decides : (b : Board) → Decides (leb 64 (freeAt b)) ((p : ℕ) → p < 64 → 1 ≤ at b p .share)
+unfolding freeAt
+taken-decides b = record {
+  yes = λ e p h. not-zero (at b p .share) (least-false test 64 p (omega (arith, true-le 64 (freeAt b) e)));
+  no = λ f. leb-yes 64 (freeAt b) (omega (arith, least-none test 64 (λ p h. taken p (f p h))));
+}
+  where
+    test : ℕ → Bool
+    test p = eqb (at b p .share) 0
+
+    taken : (p : ℕ) → 1 ≤ at b p .share → test p ≡ false
+    taken p h = eqb-no (at b p .share) 0 (λ e. omega arith)
+
+pub free-decides : (b : Board) (s : ℕ) → spent b ≤ 65536 → Decides (ltb (freeShare b) s) (65536 < spent b + s)
+free-decides b s h = d-iff (d-leb (suc (freeShare b)) s) (λ l. omega arith) (λ l. omega arith)
+
+-- ---- waiting
+
+pub waits-decides : (l : List Record) → Decides (ltb 0 (length l)) (l ≢ [])
+waits-decides [] = record { yes = λ e. absurd (false≢true e); no = λ n. absurd (n refl) }
+waits-decides (r ∷ rs) = record { yes = λ e f. absurd (omega (arith, ap length f)); no = λ n. leb-yes 1 (length (r ∷ rs)) (omega arith) }
+
+-- no block waits where no slot is open and none is in an order
+pub none-wait : (b : Board) → Tidy b → b .slot ≡ none → leastReady (b .places) ≡ none → (p : ℕ) → at b p .lane ≡ []
+unfolding quiet someWait
+none-wait b g e f p = go (b .places) (some-quiet b g ∙ quiet!) p
+  where
+    quiet! : not (quiet b) ≡ false
+    quiet! = rw (e, f)
+
+    empty : (l : List Record) → ltb 0 (length l) ≡ false → l ≡ []
+    empty [] n = refl
+    empty (r ∷ rs) n = absurd (true≢false (sym (waits-decides (r ∷ rs) .no (λ z. omega (arith, ap length z))) ∙ n))
+
+    go : (l : List Place) → someWait l ≡ false → (p : ℕ) → getD l p freePlace .lane ≡ []
+    go [] n p = refl
+    go (x ∷ xs) n zero = empty (x .lane) (or-left (waits x) (someWait xs) n)
+    go (x ∷ xs) n (suc p) = go xs (or-right (waits x) (someWait xs) n) p
