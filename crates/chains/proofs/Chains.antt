@@ -33,7 +33,7 @@ use Rattle.calls.specs.declared.Served.{Served}
 use Rattle.calls.specs.Promises.{Known, earlyCode, Returned, returned, ruled, made}
 use Rattle.calls.specs.Contract.{servedBy, goodServe, BurstOutcome, burstNow, goodBurst}
 use Rattle.chains.specs.Chains.{Holding, isRecord, replyTells, servedTells, burstTells, Did, byReply, byServe, byBurst, Chain, stops, goes, Made, answersOf}
-use Rattle.chains.specs.Demands.{reads}
+use Rattle.chains.specs.Demands.{reads, KnownHolding, Agrees, CallAgrees, IsRun, ChainIsRun, ChainOfRun}
 use Rattle.calls.proofs.Next.{Follows, call-follows}
 use Rattle.calls.proofs.Making.{Starts, made-starts}
 use Rattle.calls.proofs.Calling
@@ -98,16 +98,7 @@ serve-next m = refl
 abbrev KnownReturned : Returned Reply → Type 0
 KnownReturned w = Known (w .reply .board) (w .ids) (w .lens)
 
-abbrev pub KnownHolding : Holding → Type 0
-KnownHolding s = Known (s .board) (s .ids) (s .lens)
-
--- it is known to be good, reads as the rules' board after the call, and was told what the rules tell
-pub record Agrees (s : Holding) (c : Call) (a : Answer) (m : Holding) : Type 0 where
-  pub good : KnownHolding m
-  pub after : reads m ≡ leaves (reads s) c
-  pub told! : a ≡ done! (reads s) c .answer
-
-pub did-agrees : (s m : Holding) (c : Call) (a : Answer) → KnownHolding s → Did s c a m → Agrees s c a m
+pub did-agrees : CallAgrees
 did-agrees s m c a k (byReply x e r ids lens p) = record {
   good = subst (λ (w : Returned Reply). Known (w .reply .board) (w .ids) (w .lens)) (sym q) (f .good);
   after = ap (λ (w : Returned Reply). view (w .reply .board) (w .ids) (w .lens)) q ∙ f .reads;
@@ -160,11 +151,6 @@ none-run : (L : ℕ) → runs (fresh L) [] .largest ≡ L
 unfolding runs fresh
 none-run L = refl
 
-pub record IsRun (L : ℕ) (cs : List Call) (answers : List Answer) (e : Holding) : Type 0 where
-  pub good : Known (e .board) (e .ids) (e .lens)
-  pub board : view (e .board) (e .ids) (e .lens) ≡ runs (fresh L) cs
-  pub answer : answers ≡ answersOf (fresh L) cs
-
 pub chain-from : {s e : Holding} {cs : List Call} {answers : List Answer} → KnownHolding s → Chain s cs answers e
     → KnownHolding e × (reads e ≡ runs (reads s) cs) × (answers ≡ answersOf (reads s) cs)
 unfolding runs answersOf
@@ -175,7 +161,7 @@ chain-from {s = s} {e = e} k (goes {m = m} {c = c} {a = a} {cs = cs} d rest) =
     (t .0, t .1 ∙ ap (λ (b : Board.Board). runs b cs) (g .after), ap₂ (λ (x : Answer) (xs : List Answer). x ∷ xs) (g .told!) (t .2 ∙ ap (λ (b : Board.Board). answersOf b cs) (g .after)))
 
 -- THE DEMANDS OF THE REAL CALLS: from a done making, what the calls leave and answer is what the rules' run leaves and answers
-pub chain-is-run : (L : ℕ) (s e : Holding) (cs : List Call) (answers : List Answer) → Made L s → Chain s cs answers e → IsRun L cs answers e
+pub chain-is-run : ChainIsRun
 chain-is-run L s e cs answers made! chain = record { good = t .0; board = t .1 ∙ ap (λ (b : Board.Board). runs b cs) fresh!; answer = t .2 ∙ ap (λ (b : Board.Board). answersOf b cs) fresh! }
   where
     start : Starts (made (made! .ids) (made! .lens) L) L
@@ -207,5 +193,5 @@ in-range L s made! = record { low = subst (λ (n : ℕ). 64 ≤ n) size (shape .
     size = ap (λ (b : Board.Board). b .largest) (t .board) ∙ none-run L
 
 -- so what a chain holds reads as a board of a run, and every promise of the rules' page holds of it and of what is answered next
-pub chain-of-run : (L : ℕ) (s e : Holding) (cs : List Call) (answers : List Answer) → Made L s → Chain s cs answers e → OfRun L (view (e .board) (e .ids) (e .lens))
+pub chain-of-run : ChainOfRun
 chain-of-run L s e cs answers made! chain = record { size = in-range L s made!; calls = row (fresh L) cs; is = chain-is-run L s e cs answers made! chain .board ∙ run-is-row (fresh L) cs }

@@ -2,9 +2,9 @@
 use mathlib.Core.Path.{_≡_, refl, sym, ap, subst, _∙_}
 use mathlib.Core.Bool.{Bool, true, false, cond, not, _&&_, _||_, false≢true}
 use mathlib.Core.Logic.{_⊎_, inl, inr, _≢_}
-use mathlib.Core.Option.{none, some, Option}
+use mathlib.Core.Option.{none, some}
 use mathlib.Core.List.{List, []}
-use Prim.Native.Nat.{ℕ, suc, _+_, _^_, _≤_, _<_, max}
+use Prim.Native.Nat.{ℕ, suc, _^_, _≤_, _<_, max}
 use native.Mathlib.Omega.{arith}
 use lib.Dec.{leb, ltb, eqb}
 use lib.ListN.{length}
@@ -13,8 +13,8 @@ use Rattle.base.proofs.Decides.{d-iff, d-leb, d-eqb, d-not, d-and, d-or}
 use Rattle.base.proofs.Numbers.{split, eqb-yes, false-lt}
 use Rattle.base.proofs.Tests.{and-left, and-right}
 use Rattle.rules.specs.Board
-use Rattle.rules.specs.Board.{tableLength, Record, Stand, out, queued, serving, Place, at, depth, spent, freeShare}
-use Rattle.rules.specs.Choice.{Out, refused, done, taken, sent, Turn, refuse, check, whereIs, isNone, leastReady, send, serve}
+use Rattle.rules.specs.Board.{tableLength, Record, Stand, out, queued, serving, at, depth, spent, freeShare, Has}
+use Rattle.rules.specs.Choice.{Out, refused, done, taken, sent, Turn, check, whereIs, isNone, leastReady, send, serve}
 use Rattle.rules.specs.Blocks.{freeAt}
 use Rattle.rules.specs.Spoilt.{isQueued, readyNum, unspoilt}
 use Rattle.rules.specs.Calls.{Single, open!, rename!, close!, record!, serve!, step, Call, one, burst!, told, codeOf}
@@ -22,13 +22,11 @@ use Rattle.rules.specs.Calls.{Outcome, wrongTables, done!, refusedBy, unlessSpo
 use Rattle.rules.specs.Burst.{Burst, burst}
 use Rattle.rules.specs.Runs.{answer}
 use Rattle.rules.specs.Promises.{serves, Stopped, byCall, byList, byBytes}
-use Rattle.rules.proofs.Cases
-use Rattle.rules.proofs.Cases.{Unserved, nobody, late, GoesOn, Begins, Refusal, where-number, serve-cases}
+use Rattle.rules.proofs.Cases.{Unserved, nobody, late, Begins, Refusal, where-number, serve-cases}
 use Rattle.rules.proofs.Calls.{where-share}
 use Rattle.rules.proofs.Checks.{take-checks, open-checks, rename-checks, close-checks}
 use Rattle.rules.proofs.Exact.{found-decides, unknown-decides, taken-decides, free-decides, waits-decides, none-wait}
 use Rattle.rules.proofs.Names.{has-where}
-use Rattle.rules.proofs.Orders.{ready}
 use Rattle.rules.proofs.Shape.{LeastIs, least-is, queued-ok}
 use Rattle.rules.proofs.Promises.{burst-is-serves}
 use Rattle.rules.proofs.Refusals.{ServeOut, serve-codes, burst-codes}
@@ -42,7 +40,7 @@ use Rattle.calls.specs.Contract.{servedBy, boardOr, goodBurst, burstedBy, calle
 use Rattle.calls.proofs.Calling.{right-tables}
 use Rattle.calls.proofs.Promises.{burst-known}
 use Rattle.chains.specs.Codes.{Lines, last, line, ExactlyBelow, Exactly}
-use Rattle.chains.specs.Codes.{WrongTables, NoneWaits, SizeOutside, Has, NoneHas, SomeHas, AllTaken, OverFree, BeginsLate, TooLate, ListFull, OverBytes}
+use Rattle.chains.specs.Codes.{WrongTables, NoneWaits, SizeOutside, NoneHas, SomeHas, AllTaken, OverFree, BeginsLate, TooLate, ListFull, OverBytes}
 use Rattle.chains.specs.Codes.{makeLines, lentLines, openLines, closeLines, renameLines, recordLines, serveLines, burstLines, Codes}
 
 -- ---- a code falls on a line: that line's condition holds, and that of no line above it
@@ -118,24 +116,18 @@ falls-done = refl
 
 -- ---- the block that has a number
 
-ruled-has : {m : Board.Board} {p n : ℕ} → Has m p n → Cases.Has m p n
-ruled-has h = record { inside = h .inside; bought = h .bought; named = h .named }
-
-spec-has : {m : Board.Board} {p n : ℕ} → Cases.Has m p n → Has m p n
-spec-has h = record { inside = h .inside; bought = h .bought; named = h .named }
-
 module _ (m : Board.Board) (g : Tidy m) where
   some-has : (n : ℕ) → Decides (ltb (whereIs m n) 64) (SomeHas m n)
-  some-has n = d-iff (found-decides m n g) (λ w. (w .0, spec-has (w .1))) (λ w. (w .0, ruled-has (w .1)))
+  some-has n = found-decides m n g
 
   none-has : (n : ℕ) → Decides (leb 64 (whereIs m n)) (NoneHas m n)
-  none-has n = d-iff (unknown-decides m n g) (λ f p h. f p (ruled-has h)) (λ f p h. f p (spec-has h))
+  none-has n = unknown-decides m n g
 
   -- a test of the place that is found decides the fact of the place that has the number
   at-found : (n : ℕ) {t : Bool} (P : ℕ → Type 0) → leb 64 (whereIs m n) ≡ false → Decides t (P (whereIs m n)) → Decides t ((p : ℕ) × Has m p n × P p)
   at-found n P e d = record {
     yes = λ h. let i = false-lt 64 (whereIs m n) e in (whereIs m n, record { inside = i; bought = where-share m n i; named = where-number m n i }, d .yes h);
-    no = λ w. d .no (subst P (sym (has-where m (w .0) n g (ruled-has (w .1)))) (w .2));
+    no = λ w. d .no (subst P (sym (has-where m (w .0) n g (w .1))) (w .2));
   }
 
   all-taken : Decides (leb 64 (freeAt m)) (AllTaken m)

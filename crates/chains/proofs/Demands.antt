@@ -12,7 +12,7 @@ use Rattle.base.proofs.Numbers.{eqb-yes, leb-yes}
 use Rattle.units.specs.Classes.{Start, classOf}
 use Rattle.units.specs.Credit.{largestCharge}
 use Rattle.rules.specs.Board
-use Rattle.rules.specs.Board.{Place, freePlace, at, waits, someWait, fresh}
+use Rattle.rules.specs.Board.{Place, freePlace, at, waits, someWait, fresh, Has}
 use Rattle.rules.specs.Choice.{Out, refused, done, taken, sent, Turn, goOn, send}
 use Rattle.rules.specs.Blocks.{opened, freeAt}
 use Rattle.rules.specs.Burst.{Burst, burst}
@@ -24,7 +24,7 @@ use Rattle.rules.specs.Promises.{OfRun, Accounted, bound}
 use Rattle.rules.proofs.Tidy.{Tidy}
 use Rattle.rules.proofs.TidyCalls.{tidy-step}
 use Rattle.rules.proofs.Conserve.{sentOne, flow-step}
-use Rattle.rules.proofs.Cases.{Refusal, refusal-not0, Has, CanOpen, call-cases}
+use Rattle.rules.proofs.Cases.{Refusal, refusal-not0, CanOpen, call-cases}
 use Rattle.rules.proofs.Names.{follows, has-find, has-lane, has-share}
 use Rattle.rules.proofs.Promises
 use Rattle.board.specs.declared.Board as struct
@@ -34,10 +34,10 @@ use Rattle.calls.specs.Promises.{Returned, called, made}
 use Rattle.calls.specs.declared.Served.{Served}
 use Rattle.calls.specs.Contract.{BurstOutcome, calledServe, calledBurst}
 use Rattle.chains.specs.Chains.{Holding, replyTells, servedTells, burstTells, Did, byReply, byServe, byBurst, Chain, stops, goes, Made}
-use Rattle.chains.specs.Demands.{reads, clock, bytesIn, slotBytes, NoneRefused, NotSpent, Unsent, story, lastSlot, slotAfter, HasRow, SameBytes}
+use Rattle.chains.specs.Demands.{reads, clock, bytesIn, slotBytes, NoneRefused, NotSpent, Unsent, story, lastSlot, slotAfter, HasRow, SameBytes, Agrees}
 use Rattle.chains.specs.Demands.{BurstIsServes, NeverRefused, Opened, Life, Conserved, SendsFront, ComesToFront, intoEmpty, nextUp, StaysInFront}
 use Rattle.chains.specs.Demands.{ServesSend, BurstSends, beginsSlot, slotsIn, WaitsAt, SlotsSmall, OnlyOne, HasChain}
-use Rattle.chains.proofs.Chains.{Agrees, did-agrees, chain-is-run}
+use Rattle.chains.proofs.Chains.{did-agrees, chain-is-run}
 use Rattle.chains.proofs.Rows.{At, at-made, at-tidy, at-on, at-did, saidOf, play-join, Along, along, bytes-said, slot-bytes-said, story-said, unsent-said, spent-said, spelt-bytes, burst-is, row-from}
 use Rattle.chains.proofs.Slots.{Seen, seen-fresh, seen-play, seen-step, begins-said, slots-said}
 

@@ -23,9 +23,9 @@ use Rattle.rules.specs.Promises.{InRange}
 use Rattle.rules.proofs.Examples
 use Rattle.rules.proofs.Examples.{worked, tight, filled, waiting, renames}
 use Rattle.chains.specs.Chains.{Holding, Chain, Made, answersOf}
-use Rattle.chains.specs.Demands.{reads, clock, bytesIn, NotSpent, story, lastSlot, Life, Chained, Parting, callsOf, Passage}
+use Rattle.chains.specs.Demands.{reads, clock, bytesIn, NotSpent, story, lastSlot, Life, Chained, Parting, callsOf, Passage, Agrees}
 use Rattle.chains.specs.Demands.{StaysInFront, intoEmpty, nextUp, Unsent, slotsIn, WaitsAt}
-use Rattle.chains.proofs.Chains.{Agrees, did-agrees, chain-is-run}
+use Rattle.chains.proofs.Chains.{did-agrees, chain-is-run}
 use Rattle.chains.proofs.Rows.{At, at-made, at-on, at-did, saidOf, Along, along, row-from}
 use Rattle.chains.proofs.Demands.{made-fresh, clock-reads, has-chain}
 use Rattle.chains.proofs.Passages.{has-passage, spelt-row, has-life}

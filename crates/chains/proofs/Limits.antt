@@ -1,13 +1,12 @@
 -- No answered clock is 2^62 or later, and no deficit that is left comes to L bytes.
-use mathlib.Core.Path.{_≡_, refl, sym, ap, subst, _∙_}
+use mathlib.Core.Path.{_≡_, sym, ap, subst, _∙_}
 use mathlib.Core.List.{List, [], _∷_}
-use Prim.Native.Nat.{ℕ, _+_, _*_, _^_, _≤_, _<_}
+use Prim.Native.Nat.{ℕ, _^_, _<_}
 use native.Mathlib.Omega.{arith}
 use lib.ListN.{getD, List·getD-map}
-use Rattle.units.specs.Credit.{largestCharge}
 use Rattle.rules.specs.Board
 use Rattle.rules.specs.Board.{Place, freePlace, at}
-use Rattle.rules.specs.Choice.{Turn, send, begin}
+use Rattle.rules.specs.Choice.{send, begin}
 use Rattle.rules.specs.Calls.{Single, step, told}
 use Rattle.rules.specs.Runs.{answer, clockOf}
 use Rattle.rules.proofs.Cases.{call-cases}
@@ -17,7 +16,6 @@ use Rattle.rules.proofs.TidyCalls.{tidy-step}
 use Rattle.rules.proofs.Turns.{busy}
 use Rattle.board.specs.declared.Board as struct
 use Rattle.board.specs.Reading.{encode}
-use Rattle.chains.specs.Chains.{Holding}
 use Rattle.chains.specs.Demands.{reads}
 use Rattle.chains.specs.Limits.{InTime, ClocksInTime, DeficitsSmall}
 use Rattle.chains.proofs.Rows.{At, at-made, at-tidy, at-on, saidOf, along}

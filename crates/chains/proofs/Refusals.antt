@@ -19,13 +19,14 @@ use Rattle.rules.specs.Promises.{KeepsAll, IsServes, serves}
 use Rattle.rules.proofs.Refusals.{call-by, stop-else, burst-codes}
 use Rattle.rules.proofs.Promises
 use Rattle.board.specs.declared.Board as struct
-use Rattle.board.specs.Reading.{encode, view, isSpelt}
+use Rattle.board.specs.Reading.{encode, view, Sound, isSpelt}
 use Rattle.board.proofs.Sound.{spelt-decides}
 use Rattle.calls.specs.declared.Reply.{Reply}
 use Rattle.calls.specs.declared.Served.{Served}
 use Rattle.calls.specs.declared.Bursted.{Bursted}
 use Rattle.calls.specs.Promises.{Returned, returned, idsAfter, lensAfter, spelt, boardAfter, written, lent, called, made}
 use Rattle.calls.specs.Contract.{servedBy, boardOr, BurstOutcome, burstNow, burstedBy, calledServe, calledBurst}
+use Rattle.calls.proofs.Making.{refused-spoilt}
 use Rattle.chains.specs.Chains.{Holding, isRecord, replyTells, servedTells, Did, byReply, byServe}
 use Rattle.chains.specs.Demands.{RefusalChangesNothing}
 
@@ -163,11 +164,17 @@ refused-burst s bytes list r list′ ids lens p c = (
 -- ---- a making
 
 refused-making : (L : ℕ) (ids lens : List ℕ) (r : Reply) (ids′ lens′ : List ℕ) → returned r ids′ lens′ ≡ made ids lens L → r .code ≢ 0
-    → (ids′ ≡ ids) × (lens′ ≡ lens) × (r .board ≡ encode (fresh 0))
+    → (ids′ ≡ ids) × (lens′ ≡ lens) × (r .board ≡ encode (fresh 0)) × ((is ls : List ℕ) → Sound (r .board) is ls → ⊥)
 unfolding made make
 refused-making L ids lens r ids′ lens′ p n =
-    let k = go (wrongTables (length ids) (length lens)) (not (leb 64 L && leb L 2048)) (λ z. n (ap (λ (w : Returned Reply). w .reply .code) p ∙ z)) in
-    (ap (λ (w : Returned Reply). w .ids) p ∙ k .0, ap (λ (w : Returned Reply). w .lens) p ∙ k .1, ap (λ (w : Returned Reply). w .reply .board) p ∙ k .2)
+    let no0 : made ids lens L .reply .code ≢ 0 = λ z. n (ap (λ (w : Returned Reply). w .reply .code) p ∙ z) in
+    let k = go (wrongTables (length ids) (length lens)) (not (leb 64 L && leb L 2048)) no0 in
+    let board = ap (λ (w : Returned Reply). w .reply .board) p in (
+      ap (λ (w : Returned Reply). w .ids) p ∙ k .0,
+      ap (λ (w : Returned Reply). w .lens) p ∙ k .1,
+      board ∙ k .2,
+      λ is ls sound. refused-spoilt ids lens L no0 is ls (subst (λ (b : struct.Board). Sound b is ls) board sound),
+    )
   where
     go : (t u : Bool) → (let w = written (encode (fresh 0)) ids lens (makeBy t u L) in w .reply .code ≢ 0 → (w .ids ≡ ids) × (w .lens ≡ lens) × (w .reply .board ≡ encode (fresh 0)))
     go true u z = (refl, refl, refl)

@@ -23,9 +23,9 @@ use Rattle.calls.specs.Promises.{Returned, returned}
 use Rattle.calls.specs.Contract.{BurstOutcome, burstNow, goodBurst, calledServe, calledBurst}
 use Rattle.calls.proofs.Calling
 use Rattle.chains.specs.Chains.{Holding, servedTells, burstTells, Did, byReply, byServe, byBurst, Chain, stops, goes, Made, answersOf}
-use Rattle.chains.specs.Demands.{reads, bytesOf, bytesIn, slotBytes, NotSpent, Unsent, story, Spelt, over, single, asServes, Row, BurstIs}
+use Rattle.chains.specs.Demands.{reads, bytesOf, bytesIn, slotBytes, NotSpent, Unsent, story, Spelt, over, single, asServes, Row, BurstIs, KnownHolding, Agrees}
 use Rattle.chains.proofs.Refusals.{serve-tables}
-use Rattle.chains.proofs.Chains.{KnownHolding, Agrees, did-agrees, chain-from, chain-is-run, chain-of-run}
+use Rattle.chains.proofs.Chains.{did-agrees, chain-from, chain-is-run, chain-of-run}
 
 -- ---- lists
 

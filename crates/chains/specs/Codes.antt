@@ -10,7 +10,7 @@ use lib.ListN.{length}
 use Rattle.base.specs.Sums.{sum, below}
 use Rattle.units.specs.Credit.{charged}
 use Rattle.rules.specs.Board
-use Rattle.rules.specs.Board.{tableLength, Record, Place, queued, at, depth}
+use Rattle.rules.specs.Board.{tableLength, Record, Place, queued, at, depth, Has}
 use Rattle.rules.specs.Calls.{open!, rename!, close!, record!, serve!, Sent, sends}
 use Rattle.rules.specs.Runs.{answer}
 use Rattle.board.specs.declared.Board as struct
@@ -61,12 +61,6 @@ ShareOutside share = (share ≡ 0) ⊎ (65536 < share)
 
 abbrev pub LengthOutside : Board.Board → (length : ℕ) → Type 0
 LengthOutside m length = (length ≡ 0) ⊎ (m .largest < length)
-
--- place p has the open block n
-pub record Has (m : Board.Board) (p n : ℕ) : Type 0 where
-  pub inside : p < 64
-  pub bought : 1 ≤ at m p .share
-  pub named : at m p .number ≡ n
 
 -- 6: no open block has that number
 abbrev pub NoneHas : Board.Board → (n : ℕ) → Type 0

@@ -14,17 +14,17 @@ use Rattle.units.specs.Credit.{charged, largestCharge}
 use Rattle.rules.specs.Board
 use Rattle.rules.specs.Board.{fresh}
 use Rattle.rules.specs.Calls
-use Rattle.rules.specs.Calls.{Single, open!, record!, serve!, step, Call, one, burst!, Sent, Answer, gives, takes, sends, bursts, codeOf}
+use Rattle.rules.specs.Calls.{Single, open!, record!, serve!, step, Call, one, burst!, Sent, Answer, gives, takes, sends, bursts, codeOf, done! }
 use Rattle.rules.specs.Runs
-use Rattle.rules.specs.Runs.{answer, runs, laneOf, isFor, recordOf, numberAfter, closes, clockOf, isDone, bytesAt}
+use Rattle.rules.specs.Runs.{answer, leaves, runs, laneOf, isFor, recordOf, numberAfter, closes, clockOf, isDone, bytesAt}
 use Rattle.rules.specs.Runs.{servesIn, Story, begins, goesOn, tells}
-use Rattle.rules.specs.Promises.{Accounted, InRange, bound, serves}
-use Rattle.board.specs.Reading.{encode, view}
+use Rattle.rules.specs.Promises.{OfRun, Accounted, InRange, bound, serves}
+use Rattle.board.specs.Reading.{encode, view, Sound}
 use Rattle.calls.specs.declared.Bursted.{Bursted}
 use Rattle.calls.specs.declared.Reply.{Reply}
-use Rattle.calls.specs.Promises.{returned, made}
+use Rattle.calls.specs.Promises.{returned, made, Known}
 use Rattle.calls.specs.Contract.{burstNow, calledBurst}
-use Rattle.chains.specs.Chains.{Holding, burstTells, Did, Chain, Made}
+use Rattle.chains.specs.Chains.{Holding, burstTells, Did, Chain, Made, answersOf}
 
 -- the board that a holding spells, and its clock, which is a field of the value
 abbrev pub reads : Holding → Board.Board
@@ -32,6 +32,37 @@ reads s = view (s .board) (s .ids) (s .lens)
 
 abbrev pub clock : Holding → ℕ
 clock s = s .board .clock
+
+-- ---- A chain is a run of the rules
+
+-- the value is not spoilt, and both tables have their 2,048 entries
+abbrev pub KnownHolding : Holding → Type 0
+KnownHolding s = Known (s .board) (s .ids) (s .lens)
+
+-- What follows any call on such a value, of a chain or not: what is left is not spoilt, and reads as the rules' board
+-- after the call; the caller is told what the rules tell.
+pub record Agrees (s : Holding) (c : Call) (a : Answer) (m : Holding) : Type 0 where
+  pub good : KnownHolding m
+  pub after : reads m ≡ leaves (reads s) c
+  pub told! : a ≡ done! (reads s) c .answer
+
+abbrev pub CallAgrees : Type 0
+CallAgrees = (s m : Holding) (c : Call) (a : Answer) → KnownHolding s → Did s c a m → Agrees s c a m
+
+-- So a chain from a done making leaves and answers what the rules' run of the same calls leaves and answers,
+pub record IsRun (L : ℕ) (cs : List Call) (answers : List Answer) (e : Holding) : Type 0 where
+  pub good : KnownHolding e
+  pub board : reads e ≡ runs (fresh L) cs
+  pub answer : answers ≡ answersOf (fresh L) cs
+
+abbrev pub ChainIsRun : Type 0
+ChainIsRun = (L : ℕ) (s e : Holding) (cs : List Call) (answers : List Answer)
+    → Made L s → Chain s cs answers e → IsRun L cs answers e
+
+-- and each board that it spells is one of a run.
+abbrev pub ChainOfRun : Type 0
+ChainOfRun = (L : ℕ) (s e : Holding) (cs : List Call) (answers : List Answer)
+    → Made L s → Chain s cs answers e → OfRun L (reads e)
 
 -- ---- What a list of answers says
 
@@ -110,10 +141,10 @@ pub record RefusalChangesNothing : Type 0 where
       → returned (burstNow r list′) ids lens ≡ calledBurst (s .board) (s .ids) (s .lens) bytes list
       → (r .code ≡ 3) ⊎ ((r .code ≡ 2) ⊎ (r .count ≡ 0))
       → (r .board ≡ s .board) × (ids ≡ s .ids) × (lens ≡ s .lens) × (list′ ≡ list)
-  -- a making, which is lent no board: both tables, and it gives the board of all zeros
+  -- a making, which is lent no board: both tables; it gives the board of all zeros, which is spoilt with any tables
   pub making : (L : ℕ) (ids lens : List ℕ) (r : Reply) (ids′ lens′ : List ℕ)
       → returned r ids′ lens′ ≡ made ids lens L → r .code ≢ 0
-      → (ids′ ≡ ids) × (lens′ ≡ lens) × (r .board ≡ encode (fresh 0))
+      → (ids′ ≡ ids) × (lens′ ≡ lens) × (r .board ≡ encode (fresh 0)) × ((is ls : List ℕ) → Sound (r .board) is ls → ⊥)
 
 -- ---- and no call of a chain after its making is given 3 or 2
 

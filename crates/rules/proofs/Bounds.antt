@@ -9,7 +9,7 @@ use lib.Dec.{leb}
 use lib.ListN.{length, length-append}
 use lib.Seq.{getD-set-same}
 use Rattle.base.proofs.Numbers.{eqb-true, eqb-yes}
-use Rattle.rules.specs.Board.{Record, Board, at, charge, freePlace}
+use Rattle.rules.specs.Board.{Record, Board, at, charge, freePlace, Has}
 use Rattle.rules.specs.Choice.{Out, refused, done, taken, sent, Turn, send, takenIn, joining, joins, goOn, more}
 use Rattle.rules.specs.Calls.{Single, open!, rename!, close!, record!, serve!, step, told}
 use Rattle.rules.specs.Runs.{answer, isDone, numberAfter, closes, isFor, classAt, bytesOf, bytesIn, Unsent, ComesToFront, intoEmpty, nextUp, NotSpent, servesIn}
@@ -19,7 +19,7 @@ use Rattle.rules.proofs.Run.{keeps-step, sentBytes, UnsentAt, ToFront, 
 use Rattle.rules.proofs.Live.{bound-serves}
 use Rattle.rules.proofs.Tidy.{Tidy}
 use Rattle.rules.proofs.TidyCalls.{tidy-step}
-use Rattle.rules.proofs.Cases.{Refusal, refusal-not0, Has, CanTake, call-cases}
+use Rattle.rules.proofs.Cases.{Refusal, refusal-not0, CanTake, call-cases}
 use Rattle.rules.proofs.Names.{Follows, follows, has-lane, has-share}
 use Rattle.rules.proofs.Checks.{tookAt}
 

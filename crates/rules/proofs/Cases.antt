@@ -10,7 +10,7 @@ use lib.ListN.{length}
 use Rattle.base.specs.Tests.{least}
 use Rattle.base.proofs.Tests.{least-true, and-left, and-right}
 use Rattle.base.proofs.Numbers.{true-le, false-lt, eqb-true, eqb-yes}
-use Rattle.rules.specs.Board.{Record, Board, at, isOpen, freeShare, spent, charge, front}
+use Rattle.rules.specs.Board.{Record, Board, at, isOpen, Has, freeShare, spent, charge, front}
 use Rattle.rules.specs.Choice.{done, Turn, refuse, check, whereIs, goOn, leastReady, lowest, chosen, begin, send, serve, serveBy, leftOf}
 use Rattle.rules.specs.Blocks.{opened, freeAt, renamed, closed}
 use Rattle.rules.specs.Spoilt.{isServing, isAt}
@@ -38,12 +38,6 @@ refusal-not2 code r = not-true (eqb code 2) (and-left (not (eqb code 2)) _ (and-
 
 pub refusal-not3 : (code : ℕ) → Refusal code → eqb code 3 ≡ false
 refusal-not3 code r = not-true (eqb code 3) (and-right (not (eqb code 2)) _ (and-right (not (eqb code 0)) _ r))
-
--- place p has the open block n
-pub record Has (b : Board) (p n : ℕ) : Type 0 where
-  pub inside : p < 64
-  pub bought : 1 ≤ at b p .share
-  pub named : at b p .number ≡ n
 
 -- no open block has n
 abbrev pub Nobody : Board → ℕ → Type 0

@@ -4,7 +4,7 @@ use mathlib.Core.Bool.{Bool, true, false, not, true≢false, false≢true}
 use mathlib.Core.Logic.{_⊎_, inl, inr, _≢_}
 use mathlib.Core.Option.{none}
 use mathlib.Core.List.{List, [], _∷_}
-use Prim.Native.Nat.{ℕ, zero, suc, _+_, _-_, _≤_, _<_}
+use Prim.Native.Nat.{ℕ, zero, suc, _+_, _≤_, _<_}
 use native.Mathlib.Omega.{arith}
 use lib.Dec.{leb, ltb, eqb}
 use lib.ListN.{length, getD}
@@ -12,11 +12,11 @@ use Rattle.base.specs.Tests.{Decides}
 use Rattle.base.proofs.Decides.{d-iff, d-leb}
 use Rattle.base.proofs.Numbers.{split, leb-yes, true-le, eqb-no}
 use Rattle.base.proofs.Tests.{least-none, least-false}
-use Rattle.rules.specs.Board.{Record, Place, freePlace, Board, at, waits, someWait, spent, freeShare}
+use Rattle.rules.specs.Board.{Record, Place, freePlace, Board, at, waits, someWait, spent, freeShare, Has}
 use Rattle.rules.specs.Choice.{whereIs, leastReady}
 use Rattle.rules.specs.Blocks.{freeAt, quiet}
 use Rattle.rules.proofs.Calls.{or-left, or-right, not-zero, where-share, where-none}
-use Rattle.rules.proofs.Cases.{Has, where-number}
+use Rattle.rules.proofs.Cases.{where-number}
 use Rattle.rules.proofs.Tidy.{Tidy}
 use Rattle.rules.proofs.Waiting.{some-quiet}
 

@@ -9,7 +9,7 @@ use lib.Dec.{leb, ltb}
 use lib.ListN.{length}
 use Rattle.base.specs.Sums.{oneIf}
 use Rattle.units.specs.Classes.{Start, classOf}
-use Rattle.rules.specs.Board.{Record, Board, at, blockClass}
+use Rattle.rules.specs.Board.{Record, Board, at, blockClass, Has}
 use Rattle.rules.specs.Choice.{Out, refused, done, taken, sent, Found, openAt, unknown, find, isNone, byFound, takenIn, joining, joins, goOn, more}
 use Rattle.rules.specs.Calls.{Single, serve!, step, told}
 use Rattle.rules.specs.Runs.{play, answer, numberAfter, closes, isFor, laneOf, classAt, clockOf, beginsSlot, beginsIn, slotsIn}
@@ -20,7 +20,7 @@ use Rattle.rules.proofs.Stretch.{slotsAt, Keeping, never-two}
 use Rattle.rules.proofs.Reached.{slot-when-reached}
 use Rattle.rules.proofs.Tidy.{Tidy}
 use Rattle.rules.proofs.TidyCalls.{tidy-step}
-use Rattle.rules.proofs.Cases.{Has, call-cases}
+use Rattle.rules.proofs.Cases.{call-cases}
 use Rattle.rules.proofs.Names.{Follows, follows, has-lane, has-share, find-has}
 use Rattle.rules.proofs.Bounds.{waits-open}
 use Rattle.rules.specs.Blocks.{closed}

@@ -12,7 +12,7 @@ use lib.Seq.{getD-set-same, getD-set-other}
 use Rattle.base.specs.Tests.{least}
 use Rattle.base.proofs.Tests.{least-false}
 use Rattle.base.proofs.Numbers.{split, leb-yes, eqb-yes, eqb-no, eqb-true, true-le}
-use Rattle.rules.specs.Board.{Record, Place, freePlace, Board, at, isOpen, charge, noRecord, blockClass}
+use Rattle.rules.specs.Board.{Record, Place, freePlace, Board, at, isOpen, charge, noRecord, blockClass, Has}
 use Rattle.rules.specs.Choice.{done, sent, Turn, refuse, Found, openAt, unknown, foundAt, find, byFound, whereIs, goOn, more, joins, joining, takenIn, emptied, short, going, started, ended, sendFrom, send, begin, chosen, upd, leftAfter, refused}
 use Rattle.rules.specs.Blocks.{opened, freeAt, renamed, closed}
 use Rattle.rules.specs.Calls.{Single, open!, rename!, close!, record!, serve!, step, gives, takes, told}
@@ -23,7 +23,7 @@ use Rattle.rules.proofs.Turns.{fromPlace}
 use Rattle.rules.proofs.Calls.{set-field, where-share}
 use Rattle.rules.proofs.Tidy.{Tidy}
 use Rattle.rules.proofs.Conserve.{tookOne}
-use Rattle.rules.proofs.Cases.{Refusal, refusal-not0, Has, CanOpen, CanRename, CanClose, CanTake, call-cases, where-number}
+use Rattle.rules.proofs.Cases.{Refusal, refusal-not0, CanOpen, CanRename, CanClose, CanTake, call-cases, where-number}
 
 -- ---- one number, one place
 

@@ -7,7 +7,7 @@ use native.Mathlib.Omega.{arith}
 use lib.ListN.{length, getD, set}
 use lib.Seq.{getD-set-same}
 use Rattle.base.proofs.Numbers.{eqb-yes}
-use Rattle.rules.specs.Board.{Record, Place, freePlace, Board, at}
+use Rattle.rules.specs.Board.{Record, Place, freePlace, Board, at, Has}
 use Rattle.rules.specs.Choice.{Out, refused, done, taken, sent, Turn, goOn}
 use Rattle.rules.specs.Blocks.{opened, freeAt}
 use Rattle.rules.specs.Calls.{Single, open!, rename!, close!, record!, serve!, step, told, codeOf}
@@ -17,7 +17,7 @@ use Rattle.rules.proofs.Turns.{fromPlace}
 use Rattle.rules.proofs.Tidy.{Tidy}
 use Rattle.rules.proofs.TidyCalls.{tidy-step}
 use Rattle.rules.proofs.Conserve.{tookOne, sentOne, flow-step}
-use Rattle.rules.proofs.Cases.{Refusal, refusal-not0, Has, CanOpen, call-cases}
+use Rattle.rules.proofs.Cases.{Refusal, refusal-not0, CanOpen, call-cases}
 use Rattle.rules.proofs.Names.{Follows, follows, has-find, has-lane}
 use Rattle.rules.proofs.Unspoilt.{tidy-play}
 

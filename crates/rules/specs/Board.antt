@@ -3,7 +3,7 @@ use mathlib.Core.Path.{_≡_}
 use mathlib.Core.Bool.{Bool, false, _&&_, _||_}
 use mathlib.Core.Option.{Option, none}
 use mathlib.Core.List.{List, [], _∷_}
-use Prim.Native.Nat.{ℕ, _+_, _*_, _-_, _%_, _≤_}
+use Prim.Native.Nat.{ℕ, _+_, _*_, _-_, _%_, _≤_, _<_}
 use lib.Dec.{leb, ltb, eqb}
 use lib.ListN.{length, getD, replicate}
 use Rattle.base.specs.Sums.{sum, below}
@@ -94,6 +94,12 @@ blockClass x = classOf (x .share)
 -- A place is open if a block has it.
 abbrev pub isOpen : Place → Bool
 isOpen x = ltb 0 (x .share)
+
+-- Place p has the open block n.
+pub record Has (b : Board) (p n : ℕ) : Type 0 where
+  pub inside : p < 64
+  pub bought : 1 ≤ at b p .share
+  pub named : at b p .number ≡ n
 
 -- A block waits if its lane holds a record.
 abbrev pub waits : Place → Bool
