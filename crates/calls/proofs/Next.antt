@@ -26,7 +26,7 @@ use Rattle.board.proofs.Rings.{lane-by, lane-put, lane-away, entry-apart, empty
 use Rattle.board.proofs.Reading.{Fit, Holds, view-encode}
 use Rattle.board.proofs.Sound.{sound-encode, fit-view, holds-view}
 use Rattle.calls.specs.declared.Reply.{Reply}
-use Rattle.calls.specs.Promises.{Returned, returned, replied, Known, ruled}
+use Rattle.calls.specs.Promises.{Returned, returned, NoSecondAnswer, replied, Known, ruled}
 use Rattle.calls.proofs.Answers.{turned}
 
 -- ---- THE TABLES HOLD THE LANES after it
@@ -103,8 +103,8 @@ pub record Follows (b : struct.Board) (ids lens : List ℕ) (r : Returned Reply)
   pub good : Known (r .reply .board) (r .ids) (r .lens)
 
 -- no second answer fits a promise
-pub only-one : {A : Type 0} (w : Returned A) (r s : A) (ids lens ids′ lens′ : List ℕ) → returned r ids lens ≡ w → returned s ids′ lens′ ≡ w → (r ≡ s) × (ids ≡ ids′) × (lens ≡ lens′)
-only-one w r s ids lens ids′ lens′ e f = let g = e ∙ sym f in (ap (λ (x : Returned _). x .reply) g, ap (λ (x : Returned _). x .ids) g, ap (λ (x : Returned _). x .lens) g)
+pub only-one : (A : Type 0) → NoSecondAnswer A
+only-one A w r s ids lens ids′ lens′ e f = let g = e ∙ sym f in (ap (λ (x : Returned A). x .reply) g, ap (λ (x : Returned A). x .ids) g, ap (λ (x : Returned A). x .lens) g)
 
 fit-step : (m : Board.Board) (x : Single) → Fit m → Fit (step m x .next)
 fit-step m x f = record { tidy = tidy-step m x (f .tidy); classes = seventeen-step m x (f .classes) }

@@ -22,6 +22,12 @@ pub record Returned (A : Type 0) : Type 0 where
 abbrev pub returned : {A : Type 0} → A → List ℕ → List ℕ → Returned A
 returned reply ids lens = record { reply = reply; ids = ids; lens = lens }
 
+-- Every promise equates what is returned with a function of what was given; so no second answer fits it.
+abbrev pub NoSecondAnswer : Type 0 → Type 0
+NoSecondAnswer A =
+    (promised : Returned A) (r s : A) (ids lens ids′ lens′ : List ℕ)
+    → returned r ids lens ≡ promised → returned s ids′ lens′ ≡ promised → (r ≡ s) × (ids ≡ ids′) × (lens ≡ lens′)
+
 abbrev pub replied : ℕ → struct.Board → Reply
 replied code b = record { code = code; board = b }
 

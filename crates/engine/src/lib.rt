@@ -266,26 +266,6 @@ pub fn close_in(
 
 // ---- making
 
-pub fn clear_ids(ids: &mut [u32])
-    ensures { λ _. ⌜ now (ids .exit) ≡ replicate (length (now (ids .entry))) 0 ⌝ }
-{
-    let mut i: usize = 0;
-    while i < ids.len() {
-        ids[i] = 0;
-        i += 1;
-    }
-}
-
-pub fn clear_lens(lens: &mut [u16])
-    ensures { λ _. ⌜ now (lens .exit) ≡ replicate (length (now (lens .entry))) 0 ⌝ }
-{
-    let mut i: usize = 0;
-    while i < lens.len() {
-        lens[i] = 0;
-        i += 1;
-    }
-}
-
 // The board of all zeros but for L.
 pub fn blank(largest: u32) -> Board
     ensures { λ r. ⌜ r ≡ encode (fresh largest) ⌝ }

@@ -17,7 +17,7 @@ same-length : tie.Need-same-length
 same-length c = search needs
 
 returns : tie.Need-returns
-returns c = burst-lent _ _ _ _ _ _ _ _ _ _ _ _ _ _ (c .put-back .ensures) (c .before .before .before .before .before .before .before .before .before .before .before .before .before .before .before .before .before .before .before .before .burst .ensures) (c .before .before .before .before .before .before .before .before .before .before .before .before .before .before .before .before .before .before .before .before .before .before .lent-board .ensures)
+returns c = burst-lent _ _ _ _ _ _ _ _ _ _ _ _ _ _ (c .put-back .ensures) (c .before .before .before .before .before .before .before .before .before .before .before .before .before .before .before .before .before .before .before .before .before .burst .ensures) (c .before .before .before .before .before .before .before .before .before .before .before .before .before .before .before .before .before .before .before .before .before .before .before .lent-board .ensures)
 
 pub box-burst-spec : {M : Type 1} → statement M
 box-burst-spec =

@@ -7,8 +7,8 @@ use Prim.Native.Nat.{ℕ, _-_, _≤_}
 use mathlib.Core.Path.{_≡_, _∙_, refl, ap}
 use denote.Ref.{now}
 use borrow.Author.Needs.{needs}
-use Rattle.engine.proofs.clear_ids.Statement.{statement}
-use Rattle.engine.proofs.clear_ids.Tie as tie
+use Rattle.calls.proofs.clear_ids.Statement.{statement}
+use Rattle.calls.proofs.clear_ids.Tie as tie
 
 abbrev Inv-loop : tie.InvT-loop
 Inv-loop ids₀ i₀ ids i = (i ≤ length ids₀) × ((length ids ≡ length ids₀) × (ids ≡ replicate i 0 ++ drop i ids₀))

@@ -7,8 +7,8 @@ use Prim.Native.Nat.{ℕ, _-_, _≤_}
 use mathlib.Core.Path.{_≡_, _∙_, refl, ap}
 use denote.Ref.{now}
 use borrow.Author.Needs.{needs}
-use Rattle.engine.proofs.clear_lens.Statement.{statement}
-use Rattle.engine.proofs.clear_lens.Tie as tie
+use Rattle.calls.proofs.clear_lens.Statement.{statement}
+use Rattle.calls.proofs.clear_lens.Tie as tie
 
 abbrev Inv-loop : tie.InvT-loop
 Inv-loop lens₀ i₀ lens i = (i ≤ length lens₀) × ((length lens ≡ length lens₀) × (lens ≡ replicate i 0 ++ drop i lens₀))
