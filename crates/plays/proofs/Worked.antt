@@ -9,7 +9,7 @@ use Rattle.rules.specs.Choice.{whereIs, upd, takenIn, takeRecord, release, leas
 use Rattle.rules.specs.Blocks.{freeAt, openBlock}
 use Rattle.rules.specs.Calls.{step}
 use Rattle.log.specs.Rows.{Reading}
-use Rattle.log.proofs.Worked.{workedLog, worked-reading}
+use Rattle.log.proofs.Worked.{worked-reading}
 use Rattle.lines.specs.Text.{decimalIn, decimal, columns, lineOf}
 use Rattle.lines.specs.Listing.{openLine, inLine, outLine, refusedLine, endLine}
 use Rattle.lines.proofs.Worked.{workedBytes}
