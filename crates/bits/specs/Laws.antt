@@ -1,4 +1,4 @@
--- WHAT IS PROVED of class sets: a class is put in and taken out alone, and a set has exactly the classes that it is made of.
+-- WHAT IS PROVED of class sets: a class is put in and taken out alone, and a set has exactly the classes that pass.
 use mathlib.Core.Path.{_≡_}
 use mathlib.Core.Logic.{_≢_}
 use mathlib.Core.Bool.{Bool}

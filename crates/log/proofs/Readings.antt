@@ -13,7 +13,8 @@ use Rattle.log.specs.declared.Event.the-variants.{Largest, Open, Close, 
 use Rattle.log.specs.declared.Field.{Field}
 use Rattle.log.specs.declared.Field.the-variants.{Whole, Broken}
 use Rattle.log.specs.Format.{isL, fieldAt, inTurn, isLong, isWhole, isFramed}
-use Rattle.log.specs.Rows.{End, whole, broken, long, WholeField, Reading, only, andThen, atEnd, follow, readUpTo, readFrom, readLog, Reads, InRow, endOf, begunAfter, NoL, LFirst, RowOf}
+use Rattle.log.specs.Rows.{End, whole, broken, long, WholeField, Reading, only, andThen, atEnd, follow, readUpTo}
+use Rattle.log.specs.Rows.{readFrom, readLog, Reads, InRow, endOf, begunAfter, NoL, LFirst, RowOf}
 use Rattle.log.specs.Laws.{Ahead, Unbegun, HasReading, OneReading, Enough, ReadStep, ReadEnd, ReadWhole, ReadBroken, LogRow, LongLog, EmptyLog}
 use Rattle.log.proofs.Fields.{differ, whole-is, whole-next, broken-at}
 

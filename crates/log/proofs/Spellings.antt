@@ -16,7 +16,8 @@ use Rattle.log.specs.declared.Event.the-variants.{Largest, Open, Close, 
 use Rattle.log.specs.declared.Field.the-variants.{Whole}
 use Rattle.log.specs.Format.{numberAt, tagAt, lengthAt, tagOf, isPassed, lengthOf, rightLength, eventOf, inTurn, fieldAt, isLong}
 use Rattle.log.specs.Rows.{End, whole, broken, long, WholeField, only, atEnd, readFrom, readLog, Reads}
-use Rattle.log.specs.Spelling.{bytesOf, Operand, operandsOf, valueOf, widthOf, Fit, fieldOf, valueAt, SaysIf, Says, AllBytes, Spelt, logOf, AllSay, AllInTurn, withOffsets}
+use Rattle.log.specs.Spelling.{bytesOf, Operand, operandsOf, valueOf, widthOf, Fit, fieldOf, valueAt, SaysIf}
+use Rattle.log.specs.Spelling.{Says, AllBytes, Spelt, logOf, AllSay, AllInTurn, withOffsets}
 use Rattle.log.specs.Laws.{FieldBack, FieldOnly, LogBack, LogOnly}
 use Rattle.log.proofs.Fields.{differ, FrameIs, made-whole, whole-is, framed-fits, fits-framed}
 use Rattle.log.proofs.Numbers.{number-lt}

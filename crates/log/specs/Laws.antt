@@ -7,17 +7,21 @@ use lib.ListN.{length, drop}
 use Rattle.log.specs.declared.Event.{Event}
 use Rattle.log.specs.declared.Field.the-variants.{Whole, Broken}
 use Rattle.log.specs.Format.{tagAt, inTurn, fieldAt}
-use Rattle.log.specs.Rows.{whole, broken, long, Reading, only, andThen, atEnd, follow, readUpTo, readFrom, readLog, IsReading, RowOf}
+use Rattle.log.specs.Rows.{whole, broken, long, Reading, only, andThen, atEnd, follow}
+use Rattle.log.specs.Rows.{readUpTo, readFrom, readLog, IsReading, RowOf}
 use Rattle.log.specs.Spelling.{fieldOf, valueAt, Says, AllBytes, Spelt, logOf, AllSay, AllInTurn, withOffsets}
 
 -- ---- One field
 
--- A field that says an event in its turn, with anything before and after it, is read as that event, and the next offset is the one after it.
+-- A field that says an event in its turn, with anything before and after it, is read as that event, and the
+-- next offset is the one after it.
 abbrev pub FieldBack : Type 0
 FieldBack = (e : Event) (tag : ℕ) (value pre rest : List ℕ) (begun : Bool) → Says e tag value → inTurn e begun ≡ true
-    → fieldAt (pre ++ (fieldOf tag value ++ rest)) (length pre) begun ≡ Whole e (length pre + length (fieldOf tag value))
+    → fieldAt (pre ++ (fieldOf tag value ++ rest)) (length pre) begun
+    ≡ Whole e (length pre + length (fieldOf tag value))
 
--- A field that is read whole says that event in its turn, and the log from its offset on is the field's bytes and what follows them.
+-- A field that is read whole says that event in its turn, and the log from its offset on is the field's bytes and what
+-- follows them.
 abbrev pub FieldOnly : Type 0
 FieldOnly = (s : List ℕ) (at : ℕ) (begun : Bool) (e : Event) (next : ℕ) → AllBytes s → fieldAt s at begun ≡ Whole e next
     → (Says e (tagAt s at) (valueAt s at) × (inTurn e begun ≡ true))
@@ -37,10 +41,12 @@ abbrev pub Enough : Type 0
 Enough = (n m : ℕ) (s : List ℕ) (at : ℕ) (begun : Bool) → length s - at < n → length s - at < m
     → readUpTo n s at begun ≡ readUpTo m s at begun
 
--- The reading from an offset is the field there, followed by the reading from its end; any other field ends it, and so does the log's end.
+-- The reading from an offset is the whole field there, followed by the reading from its end; any other field ends it,
+-- and so does the log's end.
 abbrev pub ReadStep : Type 0
 ReadStep = (s : List ℕ) (at : ℕ) (begun : Bool)
-    → readFrom s at begun ≡ cond (atEnd s at begun) (only whole) (follow (λ next. readFrom s next true) at (fieldAt s at begun))
+    → readFrom s at begun
+    ≡ cond (atEnd s at begun) (only whole) (follow (λ next. readFrom s next true) at (fieldAt s at begun))
 
 abbrev pub ReadWhole : Type 0
 ReadWhole = (s : List ℕ) (at : ℕ) (begun : Bool) (e : Event) (next : ℕ) → fieldAt s at begun ≡ Whole e next
