@@ -15,7 +15,8 @@ use Rattle.rules.specs.Board.{Seventeen, Place, freePlace, at}
 use Rattle.rules.specs.Spoilt.{unspoilt}
 use Rattle.rules.proofs.Spoilt.{tidy-unspoilt, unspoilt-tidy}
 use Rattle.board.specs.declared.Board as struct
-use Rattle.board.specs.Reading.{tab, encode, laneOf, bareOf, placeOf, follow, view, Holds, Sound, alikeInEach, isSpelt, isSound, SpeltDecides, IsSoundDecides}
+use Rattle.board.specs.Reading.{tab, encode, laneOf, bareOf, placeOf, follow, view}
+use Rattle.board.specs.Reading.{Holds, Sound, alikeInEach, isSpelt, isSound, SpeltDecides, IsSoundDecides}
 use Rattle.board.specs.Laws.{WrittenRead, WrittenSound, SoundOne}
 use Rattle.board.proofs.Lists.{getD-tab, length-tab}
 use Rattle.board.proofs.Rings.{length-lane, empty-lane, lane-by}

@@ -1,5 +1,5 @@
--- WHAT IS PROVED of the board in memory: what is written is read again and is not spoilt, no second value spells a board,
--- both class sets are as ruled, and lanes are rings.
+-- WHAT IS PROVED of the board in memory: what is written is read again and is not spoilt, no second value spells a
+-- board, both class sets are as ruled, and lanes are rings.
 use mathlib.Core.Path.{_≡_}
 use mathlib.Core.Logic.{_≢_}
 use mathlib.Core.Bool.{true}
@@ -15,7 +15,7 @@ use Rattle.board.specs.Reading.{encode, recordAt, laneOf, view, Holds, S
 
 -- ---- Writing and reading
 
--- A board of the rules that breaks no clause, written, is read again, if the tables hold its lanes; and it is not spoilt.
+-- A board of the rules that breaks no clause, written, is read again if the tables hold its lanes, and is not spoilt.
 abbrev pub WrittenRead : Type 0
 WrittenRead = (m : Board.Board) (ids lens : List ℕ) → Seventeen m → unspoilt m ≡ true → Holds m ids lens
     → view (encode m) ids lens ≡ m
@@ -58,6 +58,7 @@ LaneDrop = (ids lens : List ℕ) (p : ℕ) (x y : Place) (c : ℕ) → y .start 
 
 -- Taking a record sets one entry in each table: it goes to the end of its lane.
 abbrev pub LanePut : Type 0
-LanePut = (ids lens : List ℕ) (p : ℕ) (x : Place) (c id len : ℕ) → p < 64 → c < 32 → length ids ≡ 2048 → length lens ≡ 2048
+LanePut = (ids lens : List ℕ) (p : ℕ) (x : Place) (c id len : ℕ) → p < 64 → c < 32
+    → length ids ≡ 2048 → length lens ≡ 2048
     → laneOf (set ids (entry p x c) id) (set lens (entry p x c) len) p x (suc c)
     ≡ laneOf ids lens p x c ++ (record { number = id; bytes = len } ∷ [])

@@ -13,8 +13,7 @@ use lib.Seq.{getD-at, take-add, drop-drop, take-suc, drop-cons, getD-drop, lengt
 use Rattle.base.proofs.Tests.{and-left, and-right, and-both}
 use Rattle.log.specs.declared.Event.{Event}
 use Rattle.log.specs.declared.Event.the-variants.{Largest, Open, Close, Rename, Arrive, Serve, Passed}
-use Rattle.log.specs.declared.Field.the-variants.{Whole}
-use Rattle.log.specs.Format.{numberAt, tagAt, lengthAt, tagOf, isPassed, lengthOf, rightLength, eventOf, inTurn, fieldAt, isLong}
+use Rattle.log.specs.Format.{numberAt, tagAt, lengthAt, tagOf, isPassed, lengthOf, rightLength, eventOf, isLong}
 use Rattle.log.specs.Rows.{End, whole, broken, long, WholeField, only, atEnd, readFrom, readLog, Reads}
 use Rattle.log.specs.Spelling.{bytesOf, Operand, operandsOf, valueOf, widthOf, Fit, fieldOf, valueAt, SaysIf}
 use Rattle.log.specs.Spelling.{Says, AllBytes, Spelt, logOf, AllSay, AllInTurn, withOffsets}

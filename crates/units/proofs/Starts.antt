@@ -6,7 +6,7 @@ use native.Mathlib.Nat.{lt-div-mul-add, div-mul-le-self, mul-le-mul-right, lt-of
 use native.Mathlib.Omega.{arith}
 use lib.Pow.{pow-pos, pow-mono, pow-add}
 use Rattle.base.proofs.Numbers.{split}
-use Rattle.units.specs.Classes.{Start, IsNextStart, nextStart}
+use Rattle.units.specs.Classes.{Start, nextStart}
 use Rattle.units.specs.Laws.{NextStartIs, NextStartOnly, StartDown, NextAlign}
 
 -- ---- the next start is a start, above the clock, at most one interval away
