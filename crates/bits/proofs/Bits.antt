@@ -10,6 +10,7 @@ use lib.Dec.{lit<}
 use lib.Pow.{pow-pos, pow-mono, pow-lt, pow-add, shr-shr, shl-exact}
 use lib.Bits.{bitOr, bitAnd, or-shr, or-mod, and-high, or-disjoint, and-le-l, or-lt}
 use Rattle.bits.specs.Sets.{bitAt, withBit, withoutBit}
+use Rattle.bits.specs.Laws.{WithOwn, WithOther, WithoutOwn, WithoutOther}
 
 pub bit-lt : (x k : ℕ) → bitAt x k < 2
 unfolding bitAt
@@ -50,7 +51,7 @@ bit-power-below k j h =
 
 -- ---- a bit is set
 
-pub with-own : (x k : ℕ) → bitAt (withBit x k) k ≡ 1
+pub with-own : WithOwn
 unfolding withBit
 with-own x k = bit-or x (2 ^ k) k ∙ omega (arith, bit-power-own k, bit-lt x k)
 
@@ -68,7 +69,7 @@ power-other k j ne = go (lt-or-le j k)
     go (inl h) = bit-power-below k j h
     go (inr h) = bit-power-above k j (lt-of-le-of-ne h (λ (e : k ≡ j). ne (sym e)))
 
-pub with-other : (x k j : ℕ) → (j ≡ k → ⊥) → bitAt (withBit x k) j ≡ bitAt x j
+pub with-other : WithOther
 unfolding withBit
 with-other x k j ne = bit-or x (2 ^ k) j ∙ omega (arith, power-other k j ne)
 
@@ -105,14 +106,14 @@ add-power : (y k : ℕ) → bitAt (y + 2 ^ k) k ≡ 1 → bitAt y k ≡ 0
 unfolding bitAt
 add-power y k h = odd-next (y / 2 ^ k) (rw (add-div-right y (pow-pos k)) at h)
 
-pub without-own : (x k : ℕ) → bitAt (withoutBit x k) k ≡ 0
+pub without-own : WithoutOwn
 without-own x k = go (two-cases (bitAt x k) (bit-lt x k))
   where
     go : (bitAt x k ≡ 0) ⊎ (bitAt x k ≡ 1) → bitAt (withoutBit x k) k ≡ 0
     go (inl e) = rw (without-none x k e) e
     go (inr e) = add-power (withoutBit x k) k (ap (λ (n : ℕ). bitAt n k) (sym (without-some x k e)) ∙ e)
 
-pub without-other : (x k j : ℕ) → (j ≡ k → ⊥) → bitAt (withoutBit x k) j ≡ bitAt x j
+pub without-other : WithoutOther
 without-other x k j ne = go (two-cases (bitAt x k) (bit-lt x k))
   where
     go : (bitAt x k ≡ 0) ⊎ (bitAt x k ≡ 1) → bitAt (withoutBit x k) j ≡ bitAt x j

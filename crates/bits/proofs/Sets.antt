@@ -8,6 +8,7 @@ use native.Mathlib.Decide.{ℕ-discrete}
 use native.Mathlib.Omega.{arith}
 use Rattle.base.specs.Sums.{oneIf}
 use Rattle.bits.specs.Sets.{bitAt, withBit, withoutBit, setBelow}
+use Rattle.bits.specs.Laws.{SetBit}
 use Rattle.bits.proofs.Bits.{with-own, with-other, with-lt, without-own, without-other, without-le, bits-ext, bit-high}
 
 pub set-lt : (f : ℕ → Bool) (n : ℕ) → setBelow n f < 2 ^ n
@@ -20,7 +21,7 @@ set-lt f (suc n) = go (f n) (set-lt f n)
     go false h = omega arith
 
 -- bit k is set exactly when class k passes
-pub set-bit : (f : ℕ → Bool) (n k : ℕ) → k < n → bitAt (setBelow n f) k ≡ oneIf (f k)
+pub set-bit : SetBit
 unfolding setBelow
 set-bit f zero k h = absurd (omega arith)
 set-bit f (suc n) k h = go (f n) refl (eq-or-lt-of-le (le-of-suc-le-suc h)) (λ g. set-bit f n k g)

@@ -21,6 +21,7 @@ use Rattle.rules.specs.Choice.{upd, joining}
 use Rattle.rules.specs.Spoilt.{count, isQueued}
 use Rattle.rules.proofs.Orders.{pl, ready, Rising, first-due, due-any, in-head, upd-same, upd-other}
 use Rattle.board.specs.Reading.{encode}
+use Rattle.board.specs.Laws.{ActiveBit, PendingBit}
 use Rattle.board.proofs.Moves.{due-away, due-snoc, isActive, active-here, active-set}
 
 -- ---- BIT k EXACTLY WHEN
@@ -32,11 +33,11 @@ bit-is t k h = ap (λ (n : ℕ). eqb n 1) (set-bit t 17 k h) ∙ go (t k)
     go true = refl
     go false = refl
 
-pub active-bit : (m : Board.Board) (k : ℕ) → k < 17 → inSet (encode m .active) k ≡ active m k
+pub active-bit : ActiveBit
 unfolding encode
 active-bit m k h = bit-is (active m) k h
 
-pub pending-bit : (m : Board.Board) (k : ℕ) → k < 17 → inSet (encode m .pending) k ≡ pending m k
+pub pending-bit : PendingBit
 unfolding encode
 pending-bit m k h = bit-is (pending m) k h
 

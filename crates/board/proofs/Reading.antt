@@ -20,13 +20,9 @@ use Rattle.rules.specs.Choice.{leftOf}
 use Rattle.rules.proofs.Tidy.{Tidy}
 use Rattle.rules.proofs.Shape.{StandOk, listed-in}
 use Rattle.rules.proofs.Orders.{pl}
-use Rattle.board.specs.Reading.{bareOf, tab, firstLink, behind, slotLink, slotLeft, encode, laneOf, standBy, placeOf, follow, slotBy, view}
+use Rattle.board.specs.Reading.{bareOf, tab, firstLink, behind, slotLink, slotLeft, encode, laneOf, standBy, placeOf, follow, slotBy, view, Holds}
 use Rattle.board.proofs.Lists.{getD-tab, getD-tab-out, tab-of, follow-linked, linked-behind, short-list}
 use Rattle.board.proofs.Rings.{lane-by}
-
--- the tables hold the lanes of the board
-abbrev pub Holds : Board.Board → List ℕ → List ℕ → Type 0
-Holds m ids lens = (i : ℕ) → at m i .lane ≡ laneOf ids lens i (at m i) (length (at m i .lane))
 
 -- what a board of the rules must be for a value to be written for it
 pub record Fit (m : Board.Board) : Type 0 where

@@ -4,10 +4,11 @@ use mathlib.Core.Logic.{_≢_}
 use mathlib.Core.List.{List, [], _∷_, _++_}
 use Prim.Native.Nat.{ℕ, zero, suc, _-_, _<_}
 use native.Mathlib.Omega.{arith}
-use lib.ListN.{length, getD, set, drop}
+use lib.ListN.{length, set}
 use lib.Seq.{getD-set-same, getD-set-other}
 use Rattle.rules.specs.Board.{Record, noRecord, Place, firstEntry, entry, onward}
 use Rattle.board.specs.Reading.{tab, recordAt, laneOf}
+use Rattle.board.specs.Laws.{EntryApart, EntryOwn, LaneAt, LaneDrop, LanePut}
 use Rattle.board.proofs.Lists.{length-tab, getD-tab, tab-ext}
 
 tab-snoc : {A : Type 0} (n : ℕ) (f : ℕ → A) → tab (suc n) f ≡ tab n f ++ (f n ∷ [])
@@ -27,12 +28,12 @@ unfolding entry firstEntry
 entry-by p x y j e = omega (arith, e)
 
 -- lanes don't overlap
-pub entry-apart : (i p : ℕ) (x y : Place) (j n : ℕ) → i ≢ p → entry i x j ≢ entry p y n
+pub entry-apart : EntryApart
 unfolding entry firstEntry
 entry-apart i p x y j n ne e = ne (omega arith)
 
 -- nor does a lane meet itself
-pub entry-own : (p : ℕ) (x : Place) (j n : ℕ) → j < n → n < 32 → entry p x j ≢ entry p x n
+pub entry-own : EntryOwn
 unfolding entry firstEntry
 entry-own p x j n a b e = omega arith
 
@@ -56,12 +57,12 @@ unfolding laneOf tab
 empty-lane ids lens p x = refl
 
 -- the j-th record from the front
-pub lane-at : (ids lens : List ℕ) (p : ℕ) (x : Place) (c j : ℕ) → j < c → getD (laneOf ids lens p x c) j noRecord ≡ recordAt ids lens (entry p x j)
+pub lane-at : LaneAt
 unfolding laneOf
 lane-at ids lens p x c j h = getD-tab c (λ i. recordAt ids lens (entry p x i)) j noRecord h
 
 -- the first goes: the start moves on
-pub lane-drop : (ids lens : List ℕ) (p : ℕ) (x y : Place) (c : ℕ) → y .start ≡ onward x → laneOf ids lens p y (c - 1) ≡ drop 1 (laneOf ids lens p x c)
+pub lane-drop : LaneDrop
 unfolding laneOf tab
 lane-drop ids lens p x y zero e = refl
 lane-drop ids lens p x y (suc c) e = ap (λ (n : ℕ). tab n (λ j. recordAt ids lens (entry p y j))) less ∙ tab-ext c _ _ (λ j l. ap (recordAt ids lens) (entry-on p x y j e))
@@ -75,8 +76,7 @@ unfolding laneOf
 lane-away ids lens i x c e id len h = tab-ext c _ _ (λ j l k. record { number = getD-set-other ids e (entry i x j) id 0 (h j l) k; bytes = getD-set-other lens e (entry i x j) len 0 (h j l) k })
 
 -- a record is put behind the last
-pub lane-put : (ids lens : List ℕ) (p : ℕ) (x : Place) (c id len : ℕ) → p < 64 → c < 32 → length ids ≡ 2048 → length lens ≡ 2048
-    → laneOf (set ids (entry p x c) id) (set lens (entry p x c) len) p x (suc c) ≡ laneOf ids lens p x c ++ (record { number = id; bytes = len } ∷ [])
+pub lane-put : LanePut
 unfolding laneOf
 lane-put ids lens p x c id len hp hc a b =
     tab-snoc c (λ j. recordAt (set ids (entry p x c) id) (set lens (entry p x c) len) (entry p x j))

@@ -15,11 +15,13 @@ use Rattle.rules.specs.Board.{Seventeen, Place, freePlace, at}
 use Rattle.rules.specs.Spoilt.{unspoilt}
 use Rattle.rules.proofs.Spoilt.{tidy-unspoilt, unspoilt-tidy}
 use Rattle.board.specs.declared.Board as struct
-use Rattle.board.specs.Reading.{tab, encode, laneOf, bareOf, placeOf, follow, view, Sound, alikeInEach, isSpelt, isSound, SpeltDecides, IsSoundDecides}
+use Rattle.board.specs.Reading.{tab, encode, laneOf, bareOf, placeOf, follow, view}
+use Rattle.board.specs.Reading.{Holds, Sound, alikeInEach, isSpelt, isSound, SpeltDecides, IsSoundDecides}
+use Rattle.board.specs.Laws.{WrittenRead, WrittenSound, SoundOne}
 use Rattle.board.proofs.Lists.{getD-tab, length-tab}
 use Rattle.board.proofs.Rings.{length-lane, empty-lane, lane-by}
 use Rattle.board.proofs.Same.{Same, same}
-use Rattle.board.proofs.Reading.{Holds, Fit, view-encode}
+use Rattle.board.proofs.Reading.{Fit, view-encode}
 
 -- THE TEST IN THE PROMISES decides it: it holds of the value that spells a board, and of the one that is not spoilt
 
@@ -69,7 +71,7 @@ unfolding isSound
 is-sound-decides b ids lens = d-iff (d-and (spelt-decides b ids lens) (d-true (unspoilt (view b ids lens)))) (λ w. record { spells = w .0; keeps = w .1 }) (λ s. (s .spells, s .keeps))
 
 -- NO SECOND VALUE: two that are not spoilt and spell one board are one
-pub sound-one : (b c : struct.Board) (ids lens ids′ lens′ : List ℕ) → Sound b ids lens → Sound c ids′ lens′ → view b ids lens ≡ view c ids′ lens′ → b ≡ c
+pub sound-one : SoundOne
 sound-one b c ids lens ids′ lens′ s t e = sym (s .spells) ∙ ap encode e ∙ t .spells
 
 -- a board of the rules that keeps every clause, written, is not spoilt
@@ -78,6 +80,16 @@ sound-encode m ids lens f holds = record { spells = ap encode read; keeps = rw r
   where
     read : view (encode m) ids lens ≡ m
     read = view-encode m ids lens f holds
+
+-- both in the words of the rules
+fit : (m : Board.Board) → Seventeen m → unspoilt m ≡ true → Fit m
+fit m high h = record { tidy = unspoilt-tidy m high h; classes = high }
+
+pub written-read : WrittenRead
+written-read m ids lens high h holds = view-encode m ids lens (fit m high h) holds
+
+pub written-sound : WrittenSound
+written-sound m ids lens high h holds = sound-encode m ids lens (fit m high h) holds
 
 -- what is read has seventeen classes
 pub seventeen-view : (b : struct.Board) (ids lens : List ℕ) → length (b .heads) ≡ 17 → length (b .held) ≡ 17 → Seventeen (view b ids lens)
@@ -100,7 +112,7 @@ module _ (b : struct.Board) (ids lens : List ℕ) (s : Sound b ids lens) where
   high = seventeen-view b ids lens heads-17 held-17
 
   pub fit-view : Fit (view b ids lens)
-  fit-view = record { tidy = unspoilt-tidy (view b ids lens) high (s .keeps); classes = high }
+  fit-view = fit (view b ids lens) high (s .keeps)
 
   pub holds-view : Holds (view b ids lens) ids lens
   unfolding view placeOf bareOf

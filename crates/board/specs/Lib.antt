@@ -1,2 +1,3 @@
 pub mod With
 pub mod Reading
+pub mod Laws

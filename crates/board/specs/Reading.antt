@@ -117,6 +117,10 @@ view b ids lens =
       held = λ k. getD (b .held) k 0;
     }
 
+-- the tables hold the lanes of the board
+abbrev pub Holds : Board.Board → List ℕ → List ℕ → Type 0
+Holds m ids lens = (i : ℕ) → at m i .lane ≡ laneOf ids lens i (at m i) (length (at m i .lane))
+
 -- what the arrays' types say of every value
 pub record Sized (b : struct.Board) : Type 0 where
   pub numbers : length (b .numbers) ≡ 64

@@ -14,9 +14,9 @@ use Rattle.rules.specs.Calls.{makeBy, wrongTables, make}
 use Rattle.rules.proofs.Run.{all-free}
 use Rattle.rules.proofs.Frame.{seventeen-fresh}
 use Rattle.rules.proofs.Unspoilt.{tidy-fresh}
-use Rattle.board.specs.Reading.{encode, laneOf, view, Sound}
+use Rattle.board.specs.Reading.{encode, laneOf, view, Holds, Sound}
 use Rattle.board.proofs.Rings.{empty-lane}
-use Rattle.board.proofs.Reading.{view-encode, Fit, Holds}
+use Rattle.board.proofs.Reading.{view-encode, Fit}
 use Rattle.board.proofs.Sound.{sound-encode, fit-view}
 use Rattle.calls.specs.declared.Reply.{Reply}
 use Rattle.calls.specs.Promises.{Returned, written, returned, replied, Known, made}

@@ -15,8 +15,8 @@ use Rattle.rules.specs.Board.{Record, at, charge}
 use Rattle.rules.specs.Choice.{Out, refused, done, taken, sent, serve}
 use Rattle.rules.specs.Burst.{Burst, stopped, sentFirst, noRoom, withRoom, chargeNext, burst}
 use Rattle.board.specs.declared.Board as struct
-use Rattle.board.specs.Reading.{encode, view}
-use Rattle.board.proofs.Reading.{Fit, Holds, view-encode}
+use Rattle.board.specs.Reading.{encode, view, Holds}
+use Rattle.board.proofs.Reading.{Fit, view-encode}
 use Rattle.board.proofs.Sound.{sound-encode, fit-view, holds-view}
 use Rattle.calls.specs.declared.Served.{Served}
 use Rattle.engine.specs.Serving.{engineOf, withEngine, Within, engineAfter, servedWithin, CanServe}

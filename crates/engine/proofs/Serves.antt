@@ -31,10 +31,10 @@ use Rattle.rules.proofs.Turns.{busy}
 use Rattle.rules.proofs.Tidy.{Tidy, tidy-send, tidy-begin}
 use Rattle.rules.proofs.Cases.{Refusal, GoesOn, Begins, Unserved, nobody, late, serve-cases}
 use Rattle.board.specs.declared.Board as struct
-use Rattle.board.specs.Reading.{firstLink, lastLink, slotLink, slotLeft, encode, recordAt, laneOf}
+use Rattle.board.specs.Reading.{firstLink, lastLink, slotLink, slotLeft, encode, recordAt, laneOf, Holds}
 use Rattle.board.proofs.Lists.{getD-tab, last-in}
 use Rattle.board.proofs.Rings.{lane-at, lane-drop, lane-by, empty-lane}
-use Rattle.board.proofs.Reading.{Fit, Holds, small}
+use Rattle.board.proofs.Reading.{Fit, small}
 use Rattle.board.proofs.Moves.{after-first}
 use Rattle.engine.specs.declared.Choice.the-variants.{Stop, Go}
 use Rattle.engine.specs.Serving.{Engine, engineOf, withEngine, choice, choiceOf, chosenClass, slotClock, CanChoose, CanBegin, openedSlot, opened, frontEntry, startAfter, sentFrom, CanSend, enacted, CanEnact, CanServe}

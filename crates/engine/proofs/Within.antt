@@ -18,8 +18,8 @@ use Rattle.rules.specs.Burst.{stopped, sentFirst, burst}
 use Rattle.rules.specs.Calls.{serve!, step}
 use Rattle.rules.proofs.Tidy.{tidy-serve}
 use Rattle.rules.proofs.Frame.{seventeen-step}
-use Rattle.board.specs.Reading.{encode}
-use Rattle.board.proofs.Reading.{Fit, Holds}
+use Rattle.board.specs.Reading.{encode, Holds}
+use Rattle.board.proofs.Reading.{Fit}
 use Rattle.engine.specs.declared.Choice.{Choice}
 use Rattle.engine.specs.declared.Choice.the-variants.{Go}
 use Rattle.engine.specs.Serving.{Engine, engineOf, withEngine, choiceOf, frontEntry, enacted, Within, engineAfter, withinOf, servedBy, servedWithin}

@@ -6,6 +6,7 @@ use lib.Dec.{lit≤}
 use lib.ListN.{length, length-append}
 use Rattle.lines.specs.Text.{decimal, columns, lineOf}
 use Rattle.lines.specs.Listing.{openWord, closeWord, nameWord, inWord, outWord, refusedWord, endWord, brokenWord, longWord, openLine, closeLine, nameLine, inLine, outLine, refusedLine, endLine, brokenLine, longLine}
+use Rattle.lines.specs.Laws.{OpenFits, CloseFits, NameFits, InFits, OutFits, RefusedFits, EndFits, BrokenFits, LongFits}
 use Rattle.lines.proofs.Texts.{decimal-length, line-length}
 
 -- each number has at most as many digits as its limit says, which counts those after the first
@@ -30,38 +31,38 @@ columns-fit (w ∷ ws) (n ∷ ns) b = omega (arith, length-append (decimal n) (c
 fits : (word ws ns : List ℕ) → Below ws ns → length word + room ws + 1 ≤ 64 → length (lineOf word ns) ≤ 64
 fits word ws ns b h = omega (arith, line-length word ns, columns-fit ws ns b)
 
-pub open-fits : (block code : ℕ) → block < 2 ^ 32 → code < 2 ^ 8 → length (openLine block code) ≤ 64
+pub open-fits : OpenFits
 unfolding openLine
 open-fits block code h0 h1 = fits openWord (9 ∷ 2 ∷ []) (block ∷ code ∷ []) (omega arith, (omega arith, tt)) (lit≤ tt)
 
-pub close-fits : (block code : ℕ) → block < 2 ^ 32 → code < 2 ^ 8 → length (closeLine block code) ≤ 64
+pub close-fits : CloseFits
 unfolding closeLine
 close-fits block code h0 h1 = fits closeWord (9 ∷ 2 ∷ []) (block ∷ code ∷ []) (omega arith, (omega arith, tt)) (lit≤ tt)
 
-pub name-fits : (old new code : ℕ) → old < 2 ^ 32 → new < 2 ^ 32 → code < 2 ^ 8 → length (nameLine old new code) ≤ 64
+pub name-fits : NameFits
 unfolding nameLine
 name-fits old new code h0 h1 h2 = fits nameWord (9 ∷ 9 ∷ 2 ∷ []) (old ∷ new ∷ code ∷ []) (omega arith, (omega arith, (omega arith, tt))) (lit≤ tt)
 
-pub in-fits : (number code : ℕ) → number < 2 ^ 32 → code < 2 ^ 8 → length (inLine number code) ≤ 64
+pub in-fits : InFits
 unfolding inLine
 in-fits number code h0 h1 = fits inWord (9 ∷ 2 ∷ []) (number ∷ code ∷ []) (omega arith, (omega arith, tt)) (lit≤ tt)
 
-pub out-fits : (block number len clock : ℕ) → block < 2 ^ 32 → number < 2 ^ 32 → len < 2 ^ 16 → clock < 2 ^ 64 → length (outLine block number len clock) ≤ 64
+pub out-fits : OutFits
 unfolding outLine
 out-fits block number len clock h0 h1 h2 h3 = fits outWord (9 ∷ 9 ∷ 4 ∷ 19 ∷ []) (block ∷ number ∷ len ∷ clock ∷ []) (omega arith, (omega arith, (omega arith, (omega arith, tt)))) (lit≤ tt)
 
-pub refused-fits : (code : ℕ) → code < 2 ^ 8 → length (refusedLine code) ≤ 64
+pub refused-fits : RefusedFits
 unfolding refusedLine
 refused-fits code h0 = fits refusedWord (2 ∷ []) (code ∷ []) (omega arith, tt) (lit≤ tt)
 
-pub end-fits : (clock bytes waiting : ℕ) → clock < 2 ^ 64 → bytes < 2 ^ 64 → waiting < 2 ^ 32 → length (endLine clock bytes waiting) ≤ 64
+pub end-fits : EndFits
 unfolding endLine
 end-fits clock bytes waiting h0 h1 h2 = fits endWord (19 ∷ 19 ∷ 9 ∷ []) (clock ∷ bytes ∷ waiting ∷ []) (omega arith, (omega arith, (omega arith, tt))) (lit≤ tt)
 
-pub broken-fits : (offset : ℕ) → offset < 2 ^ 64 → length (brokenLine offset) ≤ 64
+pub broken-fits : BrokenFits
 unfolding brokenLine
 broken-fits offset h0 = fits brokenWord (19 ∷ []) (offset ∷ []) (omega arith, tt) (lit≤ tt)
 
-pub long-fits : length longLine ≤ 64
+pub long-fits : LongFits
 unfolding longLine
 long-fits = fits longWord [] [] tt (lit≤ tt)

@@ -11,6 +11,7 @@ use lib.Dec.{ltb}
 use lib.ListN.{length, length-append, set, take, drop, getD, take-append-drop}
 use lib.Seq.{sets, sets-eq, take-suc, take-length, length-take-le, take-at, drop-at}
 use Rattle.lines.specs.Text.{decimalIn, decimal, columns, lineOf, Written, Line}
+use Rattle.lines.specs.Laws.{LineOne}
 
 -- ---- writing one text after another
 
@@ -39,7 +40,7 @@ from-front l text m n h w =
     }
 
 -- no second answer is a line
-pub line-one : (l line : List ℕ) (n m : ℕ) (a b : List ℕ) → Line l line n a → Line l line m b → (n ≡ m) × (a ≡ b)
+pub line-one : LineOne
 line-one l line n m a b p q = (p .counts ∙ sym (q .counts), whole n a p ∙ sym (whole m b q))
   where
     whole : (k : ℕ) (c : List ℕ) → Line l line k c → c ≡ line ++ drop (length line) l

@@ -13,16 +13,18 @@ use Rattle.log.specs.declared.Event.the-variants.{Largest, Open, Close, 
 use Rattle.log.specs.declared.Field.{Field}
 use Rattle.log.specs.declared.Field.the-variants.{Whole, Broken}
 use Rattle.log.specs.Format.{isL, fieldAt, inTurn, isLong, isWhole, isFramed}
-use Rattle.log.specs.Rows.{End, whole, broken, long, WholeField, Reading, only, andThen, atEnd, follow, readUpTo, readFrom, readLog, Reads, IsReading, InRow, endOf, begunAfter, NoL, LFirst, RowOf}
+use Rattle.log.specs.Rows.{End, whole, broken, long, WholeField, Reading, only, andThen, atEnd, follow, readUpTo}
+use Rattle.log.specs.Rows.{readFrom, readLog, Reads, InRow, endOf, begunAfter, NoL, LFirst, RowOf}
+use Rattle.log.specs.Laws.{Ahead, Unbegun, HasReading, OneReading, Enough, ReadStep, ReadEnd, ReadWhole, ReadBroken, LogRow, LongLog, EmptyLog}
 use Rattle.log.proofs.Fields.{differ, whole-is, whole-next, broken-at}
 
 -- the log does not end before its last byte, nor before L
-pub ahead : (s : List ℕ) (at : ℕ) (begun : Bool) → at < length s → atEnd s at begun ≡ false
+pub ahead : Ahead
 unfolding atEnd
 ahead s at true l = ne-eqb at (length s) (λ q. omega arith)
 ahead s at false l = refl
 
-pub unbegun : (s : List ℕ) (at : ℕ) → atEnd s at false ≡ false
+pub unbegun : Unbegun
 unfolding atEnd
 unbegun s at = refl
 
@@ -63,7 +65,7 @@ reads-one (suc n) s at begun (f ∷ fs) e l r = go (atEnd s at begun) refl (read
     go false p q = rw (r .1 .0, ← r .0) (ap (andThen f) q)
 
 -- a larger count changes nothing
-pub enough : (n m : ℕ) (s : List ℕ) (at : ℕ) (begun : Bool) → length s - at < n → length s - at < m → readUpTo n s at begun ≡ readUpTo m s at begun
+pub enough : Enough
 enough n m s at begun h l = reads-one m s at begun (readUpTo n s at begun .fields) (readUpTo n s at begun .ends) l (reads n s at begun h)
 
 -- ---- what a player of the log steps by
@@ -75,29 +77,27 @@ follow-on s at begun (Whole e next) q =
     ap (andThen (record { offset = at; event = e; next = next })) (enough (length s) (suc (length s)) s next true (omega arith) (omega arith))
 follow-on s at begun (Broken n) q = refl
 
-pub read-step : (s : List ℕ) (at : ℕ) (begun : Bool)
-    → readFrom s at begun ≡ cond (atEnd s at begun) (only whole) (follow (λ next. readFrom s next true) at (fieldAt s at begun))
+pub read-step : ReadStep
 unfolding readFrom readUpTo
 read-step s at begun = ap (λ (r : Reading). cond (atEnd s at begun) (only whole) r) (follow-on s at begun (fieldAt s at begun) refl)
 
 -- the same by what stands at the offset
-pub read-end : (s : List ℕ) → readFrom s (length s) true ≡ only whole
+pub read-end : ReadEnd
 read-end s = read-step s (length s) true ∙ rw (atEnd-here s)
 
-pub read-whole : (s : List ℕ) (at : ℕ) (begun : Bool) (e : Event) (next : ℕ) → fieldAt s at begun ≡ Whole e next
-    → readFrom s at begun ≡ andThen (record { offset = at; event = e; next = next }) (readFrom s next true)
+pub read-whole : ReadWhole
 read-whole s at begun e next h = read-step s at begun ∙ rw (whole-not-end s at begun e next h, h)
 
-pub read-broken : (s : List ℕ) (at : ℕ) (begun : Bool) (n : ℕ) → atEnd s at begun ≡ false → fieldAt s at begun ≡ Broken n → readFrom s at begun ≡ only (broken n)
+pub read-broken : ReadBroken
 read-broken s at begun n t h = read-step s at begun ∙ rw (t, h)
 
 -- ---- exactly one
 
-pub has-reading : (s : List ℕ) → IsReading s (readLog s)
+pub has-reading : HasReading
 unfolding readLog readFrom
 has-reading s = record { over = λ h. rw h; row = λ h. rw h (reads (suc (length s)) s 0 false (omega arith)) }
 
-pub one-reading : (s : List ℕ) (r : Reading) → IsReading s r → r ≡ readLog s
+pub one-reading : OneReading
 unfolding readLog readFrom
 one-reading s r i = go (isLong (length s)) refl
   where
@@ -185,16 +185,16 @@ row-of s r h = record {
   short = not-long s 0 false (r .fields) (r .ends) h;
 }
 
-pub log-row : (s : List ℕ) → length s ≤ 32768 → RowOf s (readLog s)
+pub log-row : LogRow
 unfolding isLong
 log-row s l = row-of s (readLog s) (has-reading s .row (le-ltb 32768 (length s) l))
 
 -- ---- long, and empty
 
-pub long-log : (s : List ℕ) → 32768 < length s → readLog s ≡ only long
+pub long-log : LongLog
 unfolding isLong
 long-log s l = has-reading s .over (lt-ltb 32768 (length s) l)
 
-pub empty-log : readLog [] ≡ only (broken 0)
+pub empty-log : EmptyLog
 unfolding readLog readFrom readUpTo isLong atEnd fieldAt isWhole isFramed
 empty-log = refl

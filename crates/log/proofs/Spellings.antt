@@ -13,10 +13,11 @@ use lib.Seq.{getD-at, take-add, drop-drop, take-suc, drop-cons, getD-drop, lengt
 use Rattle.base.proofs.Tests.{and-left, and-right, and-both}
 use Rattle.log.specs.declared.Event.{Event}
 use Rattle.log.specs.declared.Event.the-variants.{Largest, Open, Close, Rename, Arrive, Serve, Passed}
-use Rattle.log.specs.declared.Field.the-variants.{Whole}
-use Rattle.log.specs.Format.{numberAt, tagAt, lengthAt, tagOf, isPassed, lengthOf, rightLength, eventOf, inTurn, fieldAt, isLong}
+use Rattle.log.specs.Format.{numberAt, tagAt, lengthAt, tagOf, isPassed, lengthOf, rightLength, eventOf, isLong}
 use Rattle.log.specs.Rows.{End, whole, broken, long, WholeField, only, atEnd, readFrom, readLog, Reads}
-use Rattle.log.specs.Spelling.{bytesOf, Operand, operandsOf, valueOf, widthOf, Fit, fieldOf, SaysIf, Says, AllBytes, Spelt, logOf, AllSay, AllInTurn, withOffsets}
+use Rattle.log.specs.Spelling.{bytesOf, Operand, operandsOf, valueOf, widthOf, Fit, fieldOf, valueAt, SaysIf}
+use Rattle.log.specs.Spelling.{Says, AllBytes, Spelt, logOf, AllSay, AllInTurn, withOffsets}
+use Rattle.log.specs.Laws.{FieldBack, FieldOnly, LogBack, LogOnly}
 use Rattle.log.proofs.Fields.{differ, FrameIs, made-whole, whole-is, framed-fits, fits-framed}
 use Rattle.log.proofs.Numbers.{number-lt}
 use Rattle.log.proofs.Readings.{has-reading, one-reading}
@@ -144,8 +145,7 @@ said-if false e tag value pre rest p h =
     (omega (arith, n, event-right e p .1), (rw (n, h .0) (event-right e p .0), ap (λ (t : ℕ). eventOf (pre ++ (fieldOf tag value ++ rest)) t (length pre + 3)) (h .0) ∙ event-back _ (length pre + 3) e p held))
 
 -- what is written is read
-pub field-back : (e : Event) (tag : ℕ) (value pre rest : List ℕ) (begun : Bool) → Says e tag value → inTurn e begun ≡ true
-    → fieldAt (pre ++ (fieldOf tag value ++ rest)) (length pre) begun ≡ Whole e (length pre + length (fieldOf tag value))
+pub field-back : FieldBack
 field-back e tag value pre rest begun h t =
     let said = said-if (isPassed e) e tag value pre rest refl h in
     let ends : length pre + length (fieldOf tag value) ≡ length pre + 3 + length value = omega (arith, field-length tag value) in
@@ -162,7 +162,7 @@ row-back (x ∷ xs) pre begun h t =
     row-back xs (pre ++ fieldOf (x .tag) (x .value)) true (h .1) (t .1) in
     (refl, (field-back (x .event) (x .tag) (x .value) pre (logOf xs) begun (h .0) (t .0), rw (← append-assoc, ← on) later))
 
-pub log-back : (xs : List Spelt) → AllSay xs → AllInTurn false xs → length (logOf xs) ≤ 32768 → readLog (logOf xs) ≡ record { fields = withOffsets 0 xs; ends = whole }
+pub log-back : LogBack
 unfolding isLong
 log-back xs h t l = sym (one-reading (logOf xs) (record { fields = withOffsets 0 xs; ends = whole }) (record {
   over = λ o. absurd (omega (arith, ltb-true 32768 (length (logOf xs)) o));
@@ -216,10 +216,6 @@ told s at (suc (suc (suc (suc (suc zero))))) n a b e = record { taken = refl; ta
 told s at (suc (suc (suc (suc (suc (suc zero)))))) n a b e = record { taken = refl; tagged = refl; sized = e; held = (refl, tt) }
 told s at (suc (suc (suc (suc (suc (suc (suc tag))))))) n a b e = absurd (omega arith)
 
--- the value's bytes in the log
-abbrev pub valueAt : List ℕ → ℕ → List ℕ
-valueAt s at = take (lengthAt s at) (drop (at + 3) s)
-
 value-at-length : (s : List ℕ) (at : ℕ) → at + 3 + lengthAt s at ≤ length s → length (valueAt s at) ≡ lengthAt s at
 value-at-length s at l = length-take-le (lengthAt s at) (drop (at + 3) s) (omega (arith, length-drop (at + 3) s))
 
@@ -250,8 +246,7 @@ field-splits s at next b l e =
     (sym (append-assoc (bytesOf 2 (length (valueAt s at))) (valueAt s at) (drop next s) ∙ ap₂ (λ (d r : List ℕ). d ++ r) two after ∙ take-append-drop 2 (drop (suc at) s)))
 
 -- a whole field is one that was written
-pub field-only : (s : List ℕ) (at : ℕ) (begun : Bool) (e : Event) (next : ℕ) → AllBytes s → fieldAt s at begun ≡ Whole e next
-    → (Says e (tagAt s at) (valueAt s at) × (inTurn e begun ≡ true)) × (drop at s ≡ fieldOf (tagAt s at) (valueAt s at) ++ drop next s)
+pub field-only : FieldOnly
 field-only s at begun e next b h =
     let w = whole-is s at begun e next h in
     let l = framed-fits s at (w .framed) in
@@ -270,7 +265,7 @@ row-only s at begun (f ∷ fs) e b r q =
     let w = row-only s (f .next) true fs e b (r .1 .1) q in
     (record { event = f .event; tag = tagAt s at; value = valueAt s at } ∷ w .0, ((o .0 .0, w .1 .0), ((o .0 .1, w .1 .1 .0), o .1 ∙ ap (λ (d : List ℕ). fieldOf (tagAt s at) (valueAt s at) ++ d) (w .1 .1 .1))))
 
-pub log-only : (s : List ℕ) → AllBytes s → readLog s .ends ≡ whole → (xs : List Spelt) × (AllSay xs × (AllInTurn false xs × (s ≡ logOf xs)))
+pub log-only : LogOnly
 unfolding readLog
 log-only s b h = go (isLong (length s)) refl h
   where

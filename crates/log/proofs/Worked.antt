@@ -1,51 +1,12 @@
--- The worked log, 110 bytes written out, and its reading. Assumes nothing.
-use mathlib.Core.Path.{_≡_, refl}
-use mathlib.Core.List.{List, [], _∷_}
-use Prim.Native.Nat.{ℕ}
-use lib.ListN.{length}
-use Rattle.log.specs.declared.Event.the-variants.{Largest, Open, Arrive, Serve}
+-- The worked log and its reading are computed. Assumes nothing.
+use mathlib.Core.Path.{refl}
 use Rattle.log.specs.Format.{numberAt, isFramed, lengthOf, rightLength, eventOf, inTurn, isWhole, fieldAt, isLong}
-use Rattle.log.specs.Rows.{whole, WholeField, atEnd, readUpTo, readFrom, readLog}
+use Rattle.log.specs.Rows.{atEnd, readUpTo, readFrom, readLog}
+use Rattle.log.specs.Worked.{WorkedLength, WorkedReading}
 
-abbrev pub workedLog : List ℕ
-workedLog =
-    6 ∷ 0 ∷ 2 ∷ 0 ∷ 100 ∷
-    1 ∷ 0 ∷ 8 ∷ 0 ∷ 0 ∷ 0 ∷ 11 ∷ 0 ∷ 0 ∷ 128 ∷ 0 ∷
-    1 ∷ 0 ∷ 8 ∷ 0 ∷ 0 ∷ 0 ∷ 12 ∷ 0 ∷ 0 ∷ 96 ∷ 0 ∷
-    4 ∷ 0 ∷ 10 ∷ 0 ∷ 0 ∷ 0 ∷ 11 ∷ 0 ∷ 0 ∷ 0 ∷ 1 ∷ 0 ∷ 100 ∷
-    4 ∷ 0 ∷ 10 ∷ 0 ∷ 0 ∷ 0 ∷ 11 ∷ 0 ∷ 0 ∷ 0 ∷ 2 ∷ 0 ∷ 60 ∷
-    4 ∷ 0 ∷ 10 ∷ 0 ∷ 0 ∷ 0 ∷ 12 ∷ 0 ∷ 0 ∷ 0 ∷ 3 ∷ 0 ∷ 100 ∷
-    4 ∷ 0 ∷ 10 ∷ 0 ∷ 0 ∷ 0 ∷ 12 ∷ 0 ∷ 0 ∷ 0 ∷ 4 ∷ 0 ∷ 100 ∷
-    4 ∷ 0 ∷ 10 ∷ 0 ∷ 0 ∷ 0 ∷ 12 ∷ 0 ∷ 0 ∷ 0 ∷ 5 ∷ 0 ∷ 100 ∷
-    5 ∷ 0 ∷ 0 ∷
-    5 ∷ 0 ∷ 0 ∷
-    5 ∷ 0 ∷ 0 ∷
-    5 ∷ 0 ∷ 0 ∷
-    5 ∷ 0 ∷ 0 ∷
-    5 ∷ 0 ∷ 0 ∷
-    []
-
-abbrev pub workedFields : List WholeField
-workedFields =
-    record { offset = 0; event = Largest 100; next = 5 } ∷
-    record { offset = 5; event = Open 11 32768; next = 16 } ∷
-    record { offset = 16; event = Open 12 24576; next = 27 } ∷
-    record { offset = 27; event = Arrive 11 1 100; next = 40 } ∷
-    record { offset = 40; event = Arrive 11 2 60; next = 53 } ∷
-    record { offset = 53; event = Arrive 12 3 100; next = 66 } ∷
-    record { offset = 66; event = Arrive 12 4 100; next = 79 } ∷
-    record { offset = 79; event = Arrive 12 5 100; next = 92 } ∷
-    record { offset = 92; event = Serve; next = 95 } ∷
-    record { offset = 95; event = Serve; next = 98 } ∷
-    record { offset = 98; event = Serve; next = 101 } ∷
-    record { offset = 101; event = Serve; next = 104 } ∷
-    record { offset = 104; event = Serve; next = 107 } ∷
-    record { offset = 107; event = Serve; next = 110 } ∷
-    []
-
-pub worked-length : length workedLog ≡ 110
+pub worked-length : WorkedLength
 worked-length = refl
 
-pub worked-reading : readLog workedLog ≡ record { fields = workedFields; ends = whole }
+pub worked-reading : WorkedReading
 unfolding readLog readFrom readUpTo isLong atEnd fieldAt isWhole isFramed numberAt lengthOf rightLength eventOf inTurn
 worked-reading = refl

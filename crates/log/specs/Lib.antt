@@ -1,3 +1,5 @@
 pub mod Format
 pub mod Rows
 pub mod Spelling
+pub mod Laws
+pub mod Worked

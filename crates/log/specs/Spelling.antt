@@ -3,8 +3,8 @@ use mathlib.Core.Path.{_≡_}
 use mathlib.Core.Bool.{Bool, true, false}
 use mathlib.Core.List.{List, [], _∷_, _++_}
 use Prim.Native.Nat.{ℕ, zero, suc, _+_, _/_, _%_, _^_, _≤_, _<_}
-use lib.ListN.{length}
-use Rattle.log.specs.Format.{tagOf, isPassed, inTurn}
+use lib.ListN.{length, take, drop}
+use Rattle.log.specs.Format.{lengthAt, tagOf, isPassed, inTurn}
 use Rattle.log.specs.Rows.{WholeField}
 use Rattle.log.specs.declared.Event.{Event}
 use Rattle.log.specs.declared.Event.the-variants.{Largest, Open, Close, Rename, Arrive, Serve, Passed}
@@ -50,6 +50,10 @@ Fit (o ∷ os) = (o .number < 256 ^ o .width) × Fit os
 -- One tag byte, two length bytes, the value.
 unfoldable pub fieldOf : ℕ → List ℕ → List ℕ
 fieldOf tag value = tag ∷ (bytesOf 2 (length value) ++ value)
+
+-- The value of the field at an offset of a log.
+abbrev pub valueAt : List ℕ → ℕ → List ℕ
+valueAt s at = take (lengthAt s at) (drop (at + 3) s)
 
 abbrev pub SaysIf : Bool → Event → ℕ → List ℕ → Type 0
 SaysIf true e tag value = ((128 ≤ tag) × (tag < 256)) × (length value < 65536)

@@ -40,6 +40,7 @@ use Rattle.player.specs.declared.State.{State}
 use Rattle.player.specs.declared.Piece.{Piece}
 use Rattle.player.specs.Fields.{Memory, memory, reads, KnownMemory, FieldPlayed}
 use Rattle.player.specs.Pieces.{beforeFirst, readTo, restOf, restAfter, unfit, pieceCode, CanGoOn, refusedPiece, endedPiece, PieceDone, PieceOf, Pieces, last, more, howMany, Roomy}
+use Rattle.player.specs.Pieces.{PiecesListing, PiecesFew}
 
 -- ---- The code, test by test
 module _ (len : ℕ) (s : State) (ids lens : List ℕ) (a : length ids ≡ 2048) (d : length lens ≡ 2048) where
@@ -341,7 +342,7 @@ before-first-left : (log ids lens : List ℕ) → restOf log beforeFirst ids len
 unfolding restOf
 before-first-left log ids lens = refl
 
-pub pieces-listing : (log ids lens written : List ℕ) → length ids ≡ 2048 → length lens ≡ 2048 → Pieces log beforeFirst ids lens written → written ≡ listingOf log
+pub pieces-listing : PiecesListing
 pieces-listing log ids lens written a d p = pieces-left log beforeFirst ids lens written p (before-first-ready log ids lens a d) ∙ before-first-left log ids lens
 
 -- and they come to an end: with room for a line in each there are no more of them than the log has bytes, and one
@@ -353,5 +354,5 @@ pieces-within log s ids lens written (more {written = w} out r ids′ lens′ ou
     let n = d .moves e (m .0) in
     omega (arith, pieces-within log (r .state) ids′ lens′ w rest (m .1) (d .goesOn e) (n .1), n .0)
 
-pub pieces-few : (log ids lens written : List ℕ) → length ids ≡ 2048 → length lens ≡ 2048 → (p : Pieces log beforeFirst ids lens written) → Roomy p → howMany p ≤ length log + 1
+pub pieces-few : PiecesFew
 pieces-few log ids lens written a d p m = omega (arith, pieces-within log beforeFirst ids lens written p m (before-first-ready log ids lens a d) (omega arith))

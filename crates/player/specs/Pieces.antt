@@ -3,7 +3,7 @@ use mathlib.Core.Path.{_≡_}
 use mathlib.Core.Bool.{Bool, true, false, cond, not, _||_}
 use mathlib.Core.Logic.{_≢_}
 use mathlib.Core.List.{List, [], _++_}
-use Prim.Native.Nat.{ℕ, suc, _/_, _≤_, _<_}
+use Prim.Native.Nat.{ℕ, suc, _+_, _/_, _≤_, _<_}
 use lib.Dec.{ltb}
 use lib.ListN.{length, take, drop}
 use Rattle.rules.specs.Board.{fresh}
@@ -85,3 +85,13 @@ howMany (more out r ids′ lens′ out′ p e rest) = suc (howMany rest)
 unfoldable pub Roomy : {log : List ℕ} {s : State} {ids lens written : List ℕ} → Pieces log s ids lens written → Type 0
 Roomy (last out r ids′ lens′ out′ p e) = Unit {0}
 Roomy (more out r ids′ lens′ out′ p e rest) = (64 ≤ length out) × Roomy rest
+
+-- What they wrote, joined, is the listing of the log.
+abbrev pub PiecesListing : Type 0
+PiecesListing = (log ids lens written : List ℕ) → length ids ≡ 2048 → length lens ≡ 2048
+    → Pieces log beforeFirst ids lens written → written ≡ listingOf log
+
+-- They come to an end: with room for a line in each there are no more of them than the log has bytes, and one.
+abbrev pub PiecesFew : Type 0
+PiecesFew = (log ids lens written : List ℕ) → length ids ≡ 2048 → length lens ≡ 2048
+    → (p : Pieces log beforeFirst ids lens written) → Roomy p → howMany p ≤ length log + 1

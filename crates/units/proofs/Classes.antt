@@ -11,6 +11,7 @@ use Rattle.base.specs.Tests.{least}
 use Rattle.base.proofs.Numbers.{split, true-le, false-lt}
 use Rattle.base.proofs.Tests.{least-le, least-true, least-false}
 use Rattle.units.specs.Classes.{IsClass, classOf}
+use Rattle.units.specs.Laws.{ClassIs, ClassOnly}
 
 abbrev pub reaches : ℕ → ℕ → Bool
 reaches s k = leb (2 ^ (16 - k)) s
@@ -36,7 +37,7 @@ class-high s h = go (least (reaches s) 16) refl
     go (suc k) e = let down : 17 - suc k ≡ 16 - k = omega arith in rw down (false-lt (2 ^ (16 - k)) s (least-false (reaches s) 16 k (omega arith)))
 
 -- the class of a share in range is the class of the rules, and no other number is
-pub class-is : (s : ℕ) → 1 ≤ s → s ≤ 65536 → IsClass (classOf s) s
+pub class-is : ClassIs
 class-is s l h = record { within = class-le s; low = class-low s l; high = class-high s h }
 
 class-below : (s k m : ℕ) → IsClass k s → IsClass m s → k ≤ m
@@ -49,7 +50,7 @@ class-below s k m a b = go (split k m)
         apart : m < k → 17 - k ≤ 16 - m
         apart g = omega arith
 
-pub class-only : (s k m : ℕ) → IsClass k s → IsClass m s → k ≡ m
+pub class-only : ClassOnly
 class-only s k m a b = le-antisymm (class-below s k m a b) (class-below s m k b a)
 
 -- ---- the same rule multiplied out: 65,536 <= s x 2^k < 131,072

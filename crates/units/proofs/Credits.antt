@@ -4,14 +4,15 @@ use native.Mathlib.Nat.{mul-le-mul-right, mul-lt-mul-of-pos-right, lt-of-le-of-l
 use native.Mathlib.Omega.{arith}
 use lib.Dec.{lit<}
 use Rattle.units.specs.Credit.{framing, charged, largestCharge, creditOf}
+use Rattle.units.specs.Laws.{CreditLeast, CreditUnder}
 use Rattle.units.proofs.Classes.{class-lo, class-hi}
 
 -- the credit of a slot is at least the largest charge, and less than twice that
-pub credit-least : (L s : ℕ) → 1 ≤ s → largestCharge L * 65536 ≤ creditOf L s
+pub credit-least : CreditLeast
 unfolding creditOf
 credit-least L s h = omega (arith, mul-le-mul-right (largestCharge L) (class-lo s h))
 
-pub credit-under : (L s : ℕ) → s ≤ 65536 → 1 ≤ largestCharge L → creditOf L s < 2 * largestCharge L * 65536
+pub credit-under : CreditUnder
 unfolding creditOf
 credit-under L s h p = omega (arith, mul-lt-mul-of-pos-right (class-hi s h) p)
 

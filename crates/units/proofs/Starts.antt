@@ -6,7 +6,8 @@ use native.Mathlib.Nat.{lt-div-mul-add, div-mul-le-self, mul-le-mul-right, lt-of
 use native.Mathlib.Omega.{arith}
 use lib.Pow.{pow-pos, pow-mono, pow-add}
 use Rattle.base.proofs.Numbers.{split}
-use Rattle.units.specs.Classes.{Start, IsNextStart, nextStart}
+use Rattle.units.specs.Classes.{Start, nextStart}
+use Rattle.units.specs.Laws.{NextStartIs, NextStartOnly, StartDown, NextAlign}
 
 -- ---- the next start is a start, above the clock, at most one interval away
 
@@ -45,10 +46,10 @@ next-least k t m s h = go (split (nextStart k t) m)
     go (inr l) = omega (arith, start-gap k m (nextStart k t) s (next-start k t) l, next-le k t)
 
 -- so it is the next start of the rules, and no other number is
-pub next-start-is : (k t : ℕ) → IsNextStart k t (nextStart k t)
+pub next-start-is : NextStartIs
 next-start-is k t = record { start = next-start k t; above = next-gt k t; first = next-least k t }
 
-pub next-start-only : (k t m : ℕ) → IsNextStart k t m → m ≡ nextStart k t
+pub next-start-only : NextStartOnly
 next-start-only k t m n = le-antisymm (n .first (nextStart k t) (next-start k t) (next-gt k t)) (next-least k t m (n .start) (n .above))
 
 -- ---- the next start as the clock goes on
@@ -70,14 +71,14 @@ next-suc k c s = le-antisymm (next-least k c (suc c) s (omega arith)) (next-gt k
 
 -- ---- alignment: a start of a class is a start of every lower class
 
-pub start-down : (j k m : ℕ) → j ≤ k → Start k m → Start j m
+pub start-down : StartDown
 unfolding Start
 start-down j k m h (q, e) = go (le-dest h)
   where
     go : (d : ℕ) × (j + d ≡ k) → (r : ℕ) × (m ≡ r * 2 ^ j)
     go (d, f) = (q * 2 ^ d, e ∙ rw (← f, add-comm j d, pow-add 2 d j) (sym (mul-assoc q (2 ^ d) (2 ^ j))))
 
-pub next-align : (j k c : ℕ) → j ≤ k → nextStart j c ≤ nextStart k c
+pub next-align : NextAlign
 next-align j k c h = next-least j c (nextStart k c) (start-down j k (nextStart k c) h (next-start k c)) (next-gt k c)
 
 -- ---- the numbers of the code

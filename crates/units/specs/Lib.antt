@@ -1,2 +1,4 @@
 pub mod Classes
 pub mod Credit
+pub mod Laws
+pub mod Examples
