@@ -140,7 +140,7 @@ pub record Sound (b : struct.Board) (ids lens : List ℕ) : Type 0 where
   pub spells : encode (view b ids lens) ≡ b
   pub keeps : unspoilt (view b ids lens) ≡ true
 
--- The same as a test, field by field. (The test that the box computes is another one; `sound-decides` ties it to `Sound`.)
+-- The same as a test, field by field. (The box computes another test, which a theorem ties to `Sound`.)
 abbrev pub alikeInEach : struct.Board → struct.Board → List Bool
 alikeInEach a b =
     sameList (a .numbers) (b .numbers)

@@ -6,7 +6,7 @@ use lib.ListN.{length, drop}
 use Rattle.rules.specs.Board
 use Rattle.rules.specs.Choice.{serve}
 use Rattle.rules.specs.Burst.{Burst, burst}
-use Rattle.rules.specs.Calls.{serve!, Call, one, burst!, Answer, gives, takes, sends, bursts, told, Outcome, call}
+use Rattle.rules.specs.Calls.{serve!, one, burst!, Answer, gives, takes, sends, bursts, told, call}
 use Rattle.board.specs.declared.Board as struct
 use Rattle.board.specs.Reading.{encode, view}
 use Rattle.calls.specs.Promises.{Returned, returned, idsAfter, lensAfter, lent, spelt}
@@ -38,13 +38,18 @@ pub record BurstOutcome : Type 0 where
 abbrev pub burstNow : Bursted → List ℕ → BurstOutcome
 burstNow answer list = record { answer = answer; list = list }
 
+abbrev pub burstReply : (count total code : ℕ) → struct.Board → Bursted
+burstReply count total code b = record { count = count; bytes = record { 0 = total }; code = code; board = b }
+
 abbrev pub burstBy : Burst → List ℕ → BurstOutcome
-burstBy r list = burstNow (record { count = r .count; bytes = record { 0 = r .total }; code = r .code; board = encode (r .next) }) (r .numbers ++ drop (length (r .numbers)) list)
+burstBy r list =
+    burstNow (burstReply (r .count) (r .total) (r .code) (encode (r .next)))
+    (r .numbers ++ drop (length (r .numbers)) list)
 
 unfoldable pub goodBurst : struct.Board → List ℕ → List ℕ → ℕ → List ℕ → BurstOutcome
 goodBurst b ids lens bytes list = burstBy (burst (view b ids lens) bytes (length list)) list
 
--- ---- The same on any value: 3, then 2, then what the rules say; and both tables, by what the rules say of their entries
+-- ---- The same on any value: 3, then 2, then what the rules say, of the tables' entries too
 
 -- the board that an outcome leaves; where it leaves none, the one that was read
 abbrev pub boardOr : Board.Board → Option Board.Board → Board.Board
@@ -59,10 +64,10 @@ calledServe b ids lens =
 
 -- A burst that is given 3 or 2 sends nothing and leaves board and list.
 abbrev pub burstedBy : struct.Board → Answer → Option Board.Board → List ℕ → BurstOutcome
-burstedBy b (gives code) next list = burstNow (record { count = 0; bytes = record { 0 = 0 }; code = code; board = b }) list
-burstedBy b (takes a) next list = burstNow (record { count = 0; bytes = record { 0 = 0 }; code = 0; board = b }) list
-burstedBy b (sends s) next list = burstNow (record { count = 0; bytes = record { 0 = 0 }; code = 0; board = b }) list
-burstedBy b (bursts r) next list = burstNow (record { count = r .count; bytes = record { 0 = r .total }; code = r .code; board = spelt b next }) list
+burstedBy b (gives code) next list = burstNow (burstReply 0 0 code b) list
+burstedBy b (takes a) next list = burstNow (burstReply 0 0 0 b) list
+burstedBy b (sends s) next list = burstNow (burstReply 0 0 0 b) list
+burstedBy b (bursts r) next list = burstNow (burstReply (r .count) (r .total) (r .code) (spelt b next)) list
 
 unfoldable pub calledBurst : struct.Board → List ℕ → List ℕ → ℕ → List ℕ → Returned BurstOutcome
 calledBurst b ids lens bytes list =

@@ -73,7 +73,7 @@ ruled b ids lens x = written b ids lens (done! (view b ids lens) (one x))
 
 -- ---- A call on any value: 3, then 2, then what the rules say
 
--- what a value and its tables are lent as: the tables' lengths, and the board that the value spells, or none where it spells none
+-- what is lent: the tables' lengths, and the board that the value spells, or none where it spells none
 abbrev pub lent : struct.Board → List ℕ → List ℕ → Lent
 lent b ids lens =
     let board = cond (isSpelt b ids lens) (some (view b ids lens)) none in

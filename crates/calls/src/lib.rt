@@ -45,7 +45,9 @@ fn take_record(
     b: Board,
 ) -> Reply
     requires { ⌜ Known b (now ids) (now lens) ⌝ }
-    ensures { λ r. ⌜ returned r (now (ids .exit)) (now (lens .exit)) ≡ ruled b (now (ids .entry)) (now (lens .entry)) (record! block (record { number = id; bytes = length })) ⌝ }
+    ensures { λ r. ⌜
+        returned r (now (ids .exit)) (now (lens .exit))
+        ≡ ruled b (now (ids .entry)) (now (lens .entry)) (record! block (record { number = id; bytes = length })) ⌝ }
 {
     let numbers = b.numbers;
     let shares = b.shares;
@@ -89,7 +91,9 @@ fn take_record(
 // The block with the old number takes the new one.
 fn rename_block(ids: &[u32], lens: &[u16], old: u32, new: u32, b: Board) -> Reply
     requires { ⌜ Known b (now ids) (now lens) ⌝ }
-    ensures { λ r. ⌜ returned r (now (ids .exit)) (now (lens .exit)) ≡ ruled b (now (ids .entry)) (now (lens .entry)) (rename! old new) ⌝ }
+    ensures { λ r. ⌜
+        returned r (now (ids .exit)) (now (lens .exit))
+        ≡ ruled b (now (ids .entry)) (now (lens .entry)) (rename! old new) ⌝ }
 {
     let mut numbers = b.numbers;
     let code = engine::rename_in(old, new, &mut numbers);
@@ -104,7 +108,9 @@ fn rename_block(ids: &[u32], lens: &[u16], old: u32, new: u32, b: Board) -> Repl
 // A block opens with this number and share.
 fn open_block(ids: &[u32], lens: &[u16], block: u32, share: u32, b: Board) -> Reply
     requires { ⌜ Known b (now ids) (now lens) ⌝ }
-    ensures { λ r. ⌜ returned r (now (ids .exit)) (now (lens .exit)) ≡ ruled b (now (ids .entry)) (now (lens .entry)) (open! block share) ⌝ }
+    ensures { λ r. ⌜
+        returned r (now (ids .exit)) (now (lens .exit))
+        ≡ ruled b (now (ids .entry)) (now (lens .entry)) (open! block share) ⌝ }
 {
     let held = b.held;
     let mut numbers = b.numbers;
@@ -122,7 +128,9 @@ fn open_block(ids: &[u32], lens: &[u16], block: u32, share: u32, b: Board) -> Re
 // The block with this number closes.
 fn close_block(ids: &[u32], lens: &[u16], block: u32, b: Board) -> Reply
     requires { ⌜ Known b (now ids) (now lens) ⌝ }
-    ensures { λ r. ⌜ returned r (now (ids .exit)) (now (lens .exit)) ≡ ruled b (now (ids .entry)) (now (lens .entry)) (close! block) ⌝ }
+    ensures { λ r. ⌜
+        returned r (now (ids .exit)) (now (lens .exit))
+        ≡ ruled b (now (ids .entry)) (now (lens .entry)) (close! block) ⌝ }
 {
     let counts = b.counts;
     let mut numbers = b.numbers;
@@ -254,7 +262,9 @@ fn serve_board(ids: &[u32], lens: &[u16], b: Board) -> Served
 // Serves as long as the next record is no longer than what remains of the bytes and the list has room.
 fn burst_board(bytes: Bytes, list: &mut [u32], ids: &[u32], lens: &[u16], b: Board) -> Bursted
     requires { ⌜ Known b (now ids) (now lens) ⌝ }
-    ensures { λ r. ⌜ burstNow r (now (list .exit)) ≡ goodBurst b (now (ids .entry)) (now (lens .entry)) (bytes .0) (now (list .entry)) ⌝ }
+    ensures { λ r. ⌜
+        burstNow r (now (list .exit))
+        ≡ goodBurst b (now (ids .entry)) (now (lens .entry)) (bytes .0) (now (list .entry)) ⌝ }
 {
     let shares = b.shares;
     let mut starts = b.starts;
@@ -332,7 +342,9 @@ fn burst_board(bytes: Bytes, list: &mut [u32], ids: &[u32], lens: &[u16], b: Boa
 
 // The code that comes before all others: 3, 2, or 0 where the board is known to be good.
 pub fn early(ids: &[u32], lens: &[u16], b: Board) -> u8
-    ensures { λ r. ⌜ (r ≡ earlyCode b (now (ids .entry)) (now (lens .entry))) × (r ≡ 0 → Known b (now (ids .entry)) (now (lens .entry))) ⌝ }
+    ensures { λ r. ⌜
+        (r ≡ earlyCode b (now (ids .entry)) (now (lens .entry)))
+        × (r ≡ 0 → Known b (now (ids .entry)) (now (lens .entry))) ⌝ }
 {
     if ids.len() != 2048 {
         return 3;
@@ -348,7 +360,9 @@ pub fn early(ids: &[u32], lens: &[u16], b: Board) -> u8
 
 // A block opens with this number and share.
 pub fn open(ids: &[u32], lens: &[u16], block: u32, share: u32, b: Board) -> Reply
-    ensures { λ r. ⌜ returned r (now (ids .exit)) (now (lens .exit)) ≡ called b (now (ids .entry)) (now (lens .entry)) (open! block share) ⌝ }
+    ensures { λ r. ⌜
+        returned r (now (ids .exit)) (now (lens .exit))
+        ≡ called b (now (ids .entry)) (now (lens .entry)) (open! block share) ⌝ }
 {
     let code = early(ids, lens, b);
     if code != 0 {
@@ -362,7 +376,9 @@ pub fn open(ids: &[u32], lens: &[u16], block: u32, share: u32, b: Board) -> Repl
 
 // The block with the old number takes the new one.
 pub fn rename(ids: &[u32], lens: &[u16], old: u32, new: u32, b: Board) -> Reply
-    ensures { λ r. ⌜ returned r (now (ids .exit)) (now (lens .exit)) ≡ called b (now (ids .entry)) (now (lens .entry)) (rename! old new) ⌝ }
+    ensures { λ r. ⌜
+        returned r (now (ids .exit)) (now (lens .exit))
+        ≡ called b (now (ids .entry)) (now (lens .entry)) (rename! old new) ⌝ }
 {
     let code = early(ids, lens, b);
     if code != 0 {
@@ -376,7 +392,9 @@ pub fn rename(ids: &[u32], lens: &[u16], old: u32, new: u32, b: Board) -> Reply
 
 // The block with this number closes.
 pub fn close(ids: &[u32], lens: &[u16], block: u32, b: Board) -> Reply
-    ensures { λ r. ⌜ returned r (now (ids .exit)) (now (lens .exit)) ≡ called b (now (ids .entry)) (now (lens .entry)) (close! block) ⌝ }
+    ensures { λ r. ⌜
+        returned r (now (ids .exit)) (now (lens .exit))
+        ≡ called b (now (ids .entry)) (now (lens .entry)) (close! block) ⌝ }
 {
     let code = early(ids, lens, b);
     if code != 0 {
@@ -397,7 +415,9 @@ pub fn record(
     length: u16,
     b: Board,
 ) -> Reply
-    ensures { λ r. ⌜ returned r (now (ids .exit)) (now (lens .exit)) ≡ called b (now (ids .entry)) (now (lens .entry)) (record! block (record { number = id; bytes = length })) ⌝ }
+    ensures { λ r. ⌜
+        returned r (now (ids .exit)) (now (lens .exit))
+        ≡ called b (now (ids .entry)) (now (lens .entry)) (record! block (record { number = id; bytes = length })) ⌝ }
 {
     let code = early(&ids[..], &lens[..], b);
     if code != 0 {
@@ -432,7 +452,9 @@ fn clear_lens(lens: &mut [u16])
 
 // A board is made, and both tables are cleared.
 pub fn make(ids: &mut [u32], lens: &mut [u16], largest: u32) -> Reply
-    ensures { λ r. ⌜ returned r (now (ids .exit)) (now (lens .exit)) ≡ made (now (ids .entry)) (now (lens .entry)) largest ⌝ }
+    ensures { λ r. ⌜
+        returned r (now (ids .exit)) (now (lens .exit))
+        ≡ made (now (ids .entry)) (now (lens .entry)) largest ⌝ }
 {
     if ids.len() != 2048 {
         return Reply {
@@ -468,7 +490,9 @@ pub fn make(ids: &mut [u32], lens: &mut [u16], largest: u32) -> Reply
 
 // The next record is sent.
 pub fn serve(ids: &[u32], lens: &[u16], b: Board) -> Served
-    ensures { λ r. ⌜ returned r (now (ids .exit)) (now (lens .exit)) ≡ calledServe b (now (ids .entry)) (now (lens .entry)) ⌝ }
+    ensures { λ r. ⌜
+        returned r (now (ids .exit)) (now (lens .exit))
+        ≡ calledServe b (now (ids .entry)) (now (lens .entry)) ⌝ }
 {
     let code = early(ids, lens, b);
     if code != 0 {
@@ -486,7 +510,9 @@ pub fn serve(ids: &[u32], lens: &[u16], b: Board) -> Served
 
 // Records are sent as long as the next one is no longer than what remains of the bytes and the list has room.
 pub fn burst(ids: &[u32], lens: &[u16], bytes: Bytes, list: &mut [u32], b: Board) -> Bursted
-    ensures { λ r. ⌜ returned (burstNow r (now (list .exit))) (now (ids .exit)) (now (lens .exit)) ≡ calledBurst b (now (ids .entry)) (now (lens .entry)) (bytes .0) (now (list .entry)) ⌝ }
+    ensures { λ r. ⌜
+        returned (burstNow r (now (list .exit))) (now (ids .exit)) (now (lens .exit))
+        ≡ calledBurst b (now (ids .entry)) (now (lens .entry)) (bytes .0) (now (list .entry)) ⌝ }
 {
     let code = early(ids, lens, b);
     if code != 0 {

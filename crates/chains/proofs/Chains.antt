@@ -1,22 +1,19 @@
 -- A chain of public calls from a done making is a run of the rules: its boards are the run's, and so are its answers.
 use mathlib.Core.Path.{_≡_, refl, sym, ap, ap₂, subst, _∙_}
-use mathlib.Core.Bool.{false, cond, not, _&&_, true≢false}
+use mathlib.Core.Bool.{false, cond, _&&_, true≢false}
 use mathlib.Core.Logic.{_⊎_, inl, inr}
 use mathlib.Core.List.{List, [], _∷_}
 use Prim.Native.Nat.{ℕ, _≤_}
 use native.Mathlib.Omega.{arith}
 use lib.Dec.{eqb}
-use lib.ListN.{length, length-map}
+use lib.ListN.{length}
 use Rattle.base.proofs.Numbers.{eqb-no}
 use Rattle.rules.specs.Board
-use Rattle.rules.specs.Board.{Place, at, blockClass, fresh}
-use Rattle.rules.specs.Spoilt.{readyNum}
+use Rattle.rules.specs.Board.{fresh}
 use Rattle.rules.specs.Calls.{Single, Call, one, burst!, Answer, told, done! }
 use Rattle.rules.specs.Runs.{isServe, leaves, runs}
 use Rattle.board.specs.declared.Board as struct
-use Rattle.board.specs.Reading.{tab, firstLink, lastLink, behind, encode, placeOf, view, Sized, Sound}
-use Rattle.board.proofs.Lists.{length-tab}
-use Rattle.sound.proofs.Decided.{sound-decides}
+use Rattle.board.specs.Reading.{view}
 use Rattle.rules.specs.Choice.{Out, refused, done, taken, sent, Turn, send, serve}
 use Rattle.rules.specs.Burst.{burst}
 use Rattle.rules.specs.Calls.{open!, rename!, close!, record!, serve!, step, gives, takes, codeOf}
@@ -24,16 +21,16 @@ use Rattle.rules.proofs.Tidy.{Tidy}
 use Rattle.rules.proofs.Cases.{refusal-not0, call-cases}
 use Rattle.rules.proofs.Refusals.{ServeOut, serve-codes}
 use Rattle.rules.specs.Runs.{row}
-use Rattle.rules.specs.Promises.{InRange, OfRun}
+use Rattle.rules.specs.Promises.{InRange}
 use Rattle.rules.proofs.Shape.{Shape}
 use Rattle.rules.proofs.Promises.{run-is-row}
 use Rattle.board.proofs.Sound.{fit-view}
 use Rattle.calls.specs.declared.Reply.{Reply}
 use Rattle.calls.specs.declared.Served.{Served}
-use Rattle.calls.specs.Promises.{Known, earlyCode, Returned, returned, ruled, made}
+use Rattle.calls.specs.Promises.{Known, Returned, returned, ruled, made}
 use Rattle.calls.specs.Contract.{servedBy, goodServe, BurstOutcome, burstNow, goodBurst}
-use Rattle.chains.specs.Chains.{Holding, isRecord, replyTells, servedTells, burstTells, Did, byReply, byServe, byBurst, Chain, stops, goes, Made, answersOf}
-use Rattle.chains.specs.Demands.{reads, KnownHolding, Agrees, CallAgrees, IsRun, ChainIsRun, ChainOfRun}
+use Rattle.chains.specs.Chains.{Holding, isRecord, replyTells, servedTells, burstTells, byReply, byServe, byBurst, Chain, stops, goes, Made, answersOf}
+use Rattle.chains.specs.Demands.{reads, KnownHolding, CallAgrees, IsRun, ChainIsRun, ChainOfRun}
 use Rattle.calls.proofs.Next.{Follows, call-follows}
 use Rattle.calls.proofs.Making.{Starts, made-starts}
 use Rattle.calls.proofs.Calling

@@ -1,21 +1,20 @@
 -- What a call leaves that is refused, of whatever value and tables: by what the rules say of a refusal, and by how an outcome is written.
 use mathlib.Core.Path.{_≡_, refl, sym, ap, subst, _∙_}
-use mathlib.Core.Bool.{Bool, true, false, cond, _&&_, not, true≢false, false≢true}
+use mathlib.Core.Bool.{Bool, true, false, cond, _&&_, not}
 use mathlib.Core.Logic.{_⊎_, inl, inr, _≢_}
-use mathlib.Core.Option.{Option, none, some, Option·some-injective, Option·some-ne-none}
-use mathlib.Core.List.{List, [], _∷_, _++_, map}
+use mathlib.Core.Option.{none, some, Option·some-injective, Option·some-ne-none}
+use mathlib.Core.List.{List, [], _++_, map}
 use Prim.Native.Nat.{ℕ}
-use native.Mathlib.Omega.{arith}
 use lib.Dec.{eqb, leb}
 use lib.ListN.{length, drop}
 use Rattle.base.proofs.Numbers.{eqb-true, eqb-no}
 use Rattle.rules.specs.Board
 use Rattle.rules.specs.Board.{Record, fresh}
-use Rattle.rules.specs.Burst.{Burst, burst}
-use Rattle.rules.specs.Calls.{Single, serve!, Call, one, burst!, Answer, gives, takes, sends, bursts, codeOf, Entries, kept, Outcome, refusedBy, wrongTables, makeBy, done!, call, make}
+use Rattle.rules.specs.Burst.{burst}
+use Rattle.rules.specs.Calls.{Single, serve!, one, burst!, Answer, gives, takes, sends, bursts, codeOf, Entries, kept, Outcome, wrongTables, makeBy, done!, call, make}
 use Rattle.rules.specs.Runs
 use Rattle.rules.specs.Runs.{play, recordsIn}
-use Rattle.rules.specs.Promises.{KeepsAll, IsServes, serves}
+use Rattle.rules.specs.Promises.{KeepsAll, serves}
 use Rattle.rules.proofs.Refusals.{call-by, stop-else, burst-codes}
 use Rattle.rules.proofs.Promises
 use Rattle.board.specs.declared.Board as struct

@@ -14,10 +14,11 @@ use Rattle.units.specs.Credit.{charged, largestCharge}
 use Rattle.rules.specs.Board
 use Rattle.rules.specs.Board.{fresh}
 use Rattle.rules.specs.Calls
-use Rattle.rules.specs.Calls.{Single, open!, record!, serve!, step, Call, one, burst!, Sent, Answer, gives, takes, sends, bursts, codeOf, done! }
+use Rattle.rules.specs.Calls.{Single, open!, record!, serve!, step, Call, one, burst!, done! }
+use Rattle.rules.specs.Calls.{Sent, Answer, gives, takes, sends, bursts, codeOf}
 use Rattle.rules.specs.Runs
-use Rattle.rules.specs.Runs.{answer, leaves, runs, laneOf, isFor, recordOf, numberAfter, closes, clockOf, isDone, bytesAt}
-use Rattle.rules.specs.Runs.{servesIn, Story, begins, goesOn, tells}
+use Rattle.rules.specs.Runs.{answer, leaves, runs, laneOf, isFor, recordOf, numberAfter, closes, clockOf, isDone}
+use Rattle.rules.specs.Runs.{bytesAt, servesIn, Story, begins, goesOn, tells}
 use Rattle.rules.specs.Promises.{OfRun, Accounted, InRange, bound, serves}
 use Rattle.board.specs.Reading.{encode, view, Sound}
 use Rattle.calls.specs.declared.Bursted.{Bursted}
@@ -121,7 +122,8 @@ SameBytes = (s e : Holding) (cs : List Call) (told : List Answer) (xs : List Sin
 -- entries are their records' numbers, and the others are as they were.
 pub record BurstIs (m : Holding) (list : List ℕ) (r : Bursted) (list′ ids lens : List ℕ) : Type 0 where
   pub sent : List Sent
-  pub serving : Chain m (map one (serves (length sent))) (map sends sent) (record { board = r .board; ids = ids; lens = lens })
+  pub serving :
+      Chain m (map one (serves (length sent))) (map sends sent) (record { board = r .board; ids = ids; lens = lens })
   pub count : length sent ≡ r .count
   pub bytes : sum (λ (s : Sent). charged (s .bytes)) sent ≡ r .bytes .0
   pub numbers : list′ ≡ map (λ (s : Sent). s .number) sent ++ drop (length sent) list
@@ -129,7 +131,8 @@ pub record BurstIs (m : Holding) (list : List ℕ) (r : Bursted) (list′ ids le
 abbrev pub BurstIsServes : Type 0
 BurstIsServes = (L : ℕ) (s m : Holding) (before : List Call) (told₁ : List Answer) → Made L s → Chain s before told₁ m
     → (bytes : ℕ) (list : List ℕ) (r : Bursted) (list′ ids lens : List ℕ)
-    → returned (burstNow r list′) ids lens ≡ calledBurst (m .board) (m .ids) (m .lens) bytes list → BurstIs m list r list′ ids lens
+    → returned (burstNow r list′) ids lens ≡ calledBurst (m .board) (m .ids) (m .lens) bytes list
+    → BurstIs m list r list′ ids lens
 
 -- ---- Demand 1: a refusal changes neither board nor tables, whatever value and tables are lent
 

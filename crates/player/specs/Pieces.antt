@@ -25,7 +25,9 @@ readTo s = cond (s .begun) (s .at) 0
 
 -- what of the listing is still to be written
 unfoldable pub restOf : List ℕ → State → List ℕ → List ℕ → List ℕ
-restOf log s ids lens = cond (s .begun) (listingFrom (reads (memory (s .board) ids lens (s .sent .0))) log (s .at) true) (listingOf log)
+restOf log s ids lens =
+    let m = memory (s .board) ids lens (s .sent .0) in
+    cond (s .begun) (listingFrom (reads m) log (s .at) true) (listingOf log)
 
 -- the same after a piece; after the last one nothing
 unfoldable pub restAfter : List ℕ → Piece → List ℕ → List ℕ → List ℕ

@@ -71,7 +71,8 @@ soundRules b ids lens =
 unfoldable pub soundTest : Board → List ℕ → List ℕ → Bool
 soundTest b ids lens = every (soundRules b ids lens)
 
--- ---- THE LAW: with tables of 2,048 entries it is passed exactly by the values that are not spoilt. (A value's arrays have their lengths by type.)
+-- ---- THE LAW: with tables of 2,048 entries it is passed exactly by the values that are not spoilt.
+-- (A value's arrays have their lengths by type.)
 
 abbrev pub SoundDecides : Type 0
 SoundDecides =
