@@ -21,11 +21,12 @@ use Rattle.rules.specs.Choice.{upd, done, leastReady, isNone, goOn, more
 use Rattle.rules.specs.Blocks.{opened, freeAt, quiet, closed, renamed}
 use Rattle.rules.proofs.Potential.{ahead-join}
 use Rattle.rules.proofs.Orders.{pl, ready}
-use Rattle.rules.proofs.Shape.{names-kept, names-set, named-num, PlaceOk, StandOk, All, all-snoc, LeastIs, least-is, Fit, most-pos}
-use Rattle.rules.proofs.Good.{seatOf, Fine, fine-same, fine-join, fine-open, fine-close, fine-close-quiet, sum-seats}
+use Rattle.rules.proofs.Shape.{Shape, Distinct, names-kept, names-set, named-num, PlaceOk, StandOk, All, all-snoc, LeastIs, least-is, Fit, most-pos}
+use Rattle.rules.proofs.Good.{seatOf, Fine, fine-same, fine-join, fine-open, fine-close, fine-close-quiet}
 use Rattle.rules.proofs.Slot.{serving-ok}
-use Rattle.rules.proofs.Turns.{Good, busy, inLine, slotLeft, most, phi, phi-queued, limit, Keeps, lit, Goes, goes-same, handBy, hand, Bars, bars-same, barBy, barOf, dueTime}
-use Rattle.rules.proofs.Cases.{CanOpen, CanRename, CanClose, CanTake, has-at}
+use Rattle.rules.proofs.Turns.{Good, busy, inLine, slotLeft, most, phi, phi-queued, limit, Keeps, lit, Goes, goes-same, handBy, hand, Bars, bars-same}
+use Rattle.rules.proofs.Turns.{barBy, barOf, dueTime}
+use Rattle.rules.proofs.Cases.{Nobody, CanOpen, CanRename, CanClose, CanTake, has-at}
 
 -- a stand and a share decide what is ahead
 seat-same : (x y : Place) → x .share ≡ y .share → x .stand ≡ y .stand → seatOf x ≡ seatOf y
@@ -151,11 +152,12 @@ keeps-join L c l o s H o′ p x h was is g0 g = record { good = g; stays = stays
         go (no f) = absurd (true≢false (sym (rw (getD-set-other l p q x freePlace f) at w) ∙ e))
 
 -- A RECORD COMES
-pub more-ok : (L share : ℕ) (lane : List Record) (x : Record) (s : Stand) → 1 ≤ length lane → StandOk L share lane s → StandOk L share (lane ++ (x ∷ [])) s
+stand-more : (L share : ℕ) (lane : List Record) (x : Record) (s : Stand) → 1 ≤ length lane → StandOk L share lane s → StandOk L share (lane ++ (x ∷ [])) s
 unfolding StandOk
-more-ok L share lane x out h k = absurd (omega arith)
-more-ok L share lane x (queued r) h k = (rw (length-append lane (x ∷ [])) (omega arith), k .1)
-more-ok L share lane x (serving n) h k = (rw (length-append lane (x ∷ [])) (omega arith), k .1, rw (List·getD-append lane (x ∷ []) noRecord 0 h) (k .2), k .3)
+stand-more L share lane x out h k = absurd (omega arith)
+stand-more L share lane x (queued r) h k = (rw (length-append lane (x ∷ [])) (omega arith), k .1)
+stand-more L share lane x (serving n) h k =
+    (rw (length-append lane (x ∷ [])) (omega arith), k .1, rw (List·getD-append lane (x ∷ []) noRecord 0 h) (k .2), k .3)
 
 -- what a change at p leaves as it was
 pub set-field : {A : Type 0} (f : Place → A) (l : List Place) (p : ℕ) (x : Place) → p < length l → f x ≡ f (pl l p) → (q : ℕ) → f (pl (set l p x) q) ≡ f (pl l q)
@@ -165,55 +167,127 @@ set-field f l p x h e q = go (ℕ-discrete q p)
     go (yes w) = rw (w, getD-set-same l p x freePlace h) e
     go (no w) = rw (getD-set-other l p q x freePlace w)
 
+-- ---- What a done call finds and leaves at its place
+
+module _ (b : Board) (sh : Shape (b .largest) (b .clock) (b .places) (b .orders) (b .held)) where
+  abbrev L : ℕ
+  L = b .largest
+
+  pub in-places : (p : ℕ) → p < 64 → p < length (b .places)
+  in-places p h = omega (arith, sh .all64)
+
+  -- no other open block has the number that the place has now
+  pub names-new : (p : ℕ) (x : Place) → p < 64 → Nobody b (x .number) → Distinct (set (b .places) p x)
+  names-new p x h nobody = names-set (b .places) p x (in-places p h) (λ q ne a _ f. nobody q (has-at b q (x .number) (sh .all64) a f)) (sh .names)
+
+  pub free-out : (n s : ℕ) → CanOpen b n s → at b (freeAt b) .stand ≡ out
+  free-out n s can = let x = at b (freeAt b) in share-out L (x .share) (x .lane) (x .stand) (can .free) (sh .placeOk (freeAt b) .standOk)
+
+  pub opened-ok : (n s : ℕ) → CanOpen b n s → PlaceOk L (opened n s)
+  unfolding All StandOk
+  opened-ok n s can = record {
+    items = tt;
+    owed = omega (arith, most-pos (b .largest) (sh .least));
+    most = omega (arith, can .room);
+    standOk = refl;
+    brief = omega arith;
+    ring = omega arith;
+    clear = λ _. refl;
+    named = inr (can .number, can .share);
+  }
+
+  pub renamed-ok : (p old new : ℕ) → CanRename b p old new → PlaceOk L (renamed new (at b p))
+  renamed-ok p old new can =
+      let k = sh .placeOk p in
+      record {
+        items = k .items;
+        owed = k .owed;
+        most = k .most;
+        standOk = k .standOk;
+        brief = k .brief;
+        ring = k .ring;
+        clear = k .clear;
+        named = inr (can .number, can .has .bought);
+      }
+
+  pub empty-out : (p : ℕ) → length (at b p .lane) ≤ 0 → at b p .stand ≡ out
+  empty-out p h = lane-out L (at b p .share) (at b p .lane) (at b p .stand) h (sh .placeOk p .standOk)
+
+  module _ (p n : ℕ) (r : Record) (can : CanTake b p n r) where
+    isNamed : {y : Place} → (y ≡ freePlace) ⊎ ((1 ≤ at b p .number) × (1 ≤ at b p .share))
+    isNamed = inr (named-num (at b p) (can .has .bought) (sh .placeOk p .named), can .has .bought)
+
+    pub joins-ok : PlaceOk L (joins (b .clock) (at b p) r)
+    unfolding All StandOk
+    joins-ok =
+        let k = sh .placeOk p in
+        record {
+          items = ((can .least, can .most), tt);
+          owed = k .owed;
+          most = k .most;
+          standOk = (omega arith, can .has .bought);
+          brief = omega arith;
+          ring = k .ring;
+          clear = λ f. absurd (true≢false f);
+          named = isNamed;
+        }
+
+    pub more-ok : 1 ≤ length (at b p .lane) → PlaceOk L (more (at b p) r)
+    more-ok h =
+        let k = sh .placeOk p in
+        record {
+          items = all-snoc (Fit L) (at b p .lane) r (k .items) (can .least, can .most);
+          owed = k .owed;
+          most = k .most;
+          standOk = stand-more L (at b p .share) (at b p .lane) r (at b p .stand) h (k .standOk);
+          brief = rw (length-append (at b p .lane) (r ∷ [])) (omega (arith, can .room));
+          ring = k .ring;
+          clear = k .clear;
+          named = isNamed;
+        }
+
+-- a place that keeps its stand, share and deficit
+keeps-kept : (b : Board) (p : ℕ) (z : Place) → Good b → p < length (b .places)
+    → z .stand ≡ at b p .stand → z .share ≡ at b p .share → z .deficit ≡ at b p .deficit
+    → Distinct (set (b .places) p z) → PlaceOk (b .largest) z → Keeps b (record { out = done; next = goOn b p z })
+keeps-kept b p z g in-p stand share deficit names zok =
+    keeps-quiet (b .largest) (b .clock) (b .places) (b .orders) (b .slot) (b .held) (set (b .places) p z) (b .orders) (b .held)
+    (set-field (λ w. w .stand) (b .places) p z in-p stand)
+    (λ q _. (set-field (λ w. w .share) (b .places) p z in-p share q, set-field (λ w. w .deficit) (b .places) p z in-p deficit q))
+    (record {
+      fine = fine-same p z in-p (seat-same z (at b p) share stand) names zok (g .fine);
+      one = λ q. set-field (λ w. isServing (w .stand)) (b .places) p z in-p (ap isServing stand) q ∙ g .one q;
+    })
+
 module _ (b : Board) (p n : ℕ) (x : Record) (can : CanTake b p n x) (g : Good b) where
   in-l : p < length (b .places)
-  in-l = omega (arith, can .has .inside, g .fine .shape .all64)
-
-  bought : 1 ≤ at b p .share
-  bought = can .has .bought
-
-  small : Fit (b .largest) x
-  small = (can .least, can .most)
+  in-l = in-places b (g .fine .shape) p (can .has .inside)
 
   keeps-taken : Keeps b (record { out = done; next = takenIn b p x })
-  unfolding takenIn All StandOk
+  unfolding takenIn
   keeps-taken = go (leb (length (at b p .lane)) 0) refl
     where
-      pok : PlaceOk (b .largest) (at b p)
-      pok = g .fine .shape .placeOk p
-
-      isNamed : {y : Place} → (y ≡ freePlace) ⊎ ((1 ≤ at b p .number) × (1 ≤ at b p .share))
-      isNamed = inr (named-num (at b p) bought (pok .named), bought)
-
       go : (t : Bool) → leb (length (at b p .lane)) 0 ≡ t → Keeps b (record { out = done; next = cond t (joining b p (joins (b .clock) (at b p) x)) (goOn b p (more (at b p) x)) })
-      go true e = keeps-join (b .largest) (b .clock) (b .places) (b .orders) (b .slot) (b .held) (joining b p y .orders) p y in-l was refl g
-          (record { fine = fine-join p (at b p .start) (x ∷ []) (at b p .deficit) in-l (busy-le (b .slot)) (ap isQueued was) bought yok (g .fine); one = λ q. set-field (λ z. isServing (z .stand)) (b .places) p y in-l (sym (ap isServing was)) q ∙ g .one q })
+      go true e =
+          keeps-join (b .largest) (b .clock) (b .places) (b .orders) (b .slot) (b .held) (joining b p y .orders) p y in-l was refl g
+          (record { fine = fine; one = λ q. set-field (λ z. isServing (z .stand)) (b .places) p y in-l (sym (ap isServing was)) q ∙ g .one q })
         where
           y : Place
           y = joins (b .clock) (at b p) x
 
           was : at b p .stand ≡ out
-          was = lane-out (b .largest) (at b p .share) (at b p .lane) (at b p .stand) (true-le (length (at b p .lane)) 0 e) (pok .standOk)
+          was = empty-out b (g .fine .shape) p (true-le (length (at b p .lane)) 0 e)
 
-          yok : PlaceOk (b .largest) y
-          yok = record { items = (small, tt); owed = pok .owed; most = pok .most; standOk = (omega arith, bought); brief = omega arith; ring = pok .ring; clear = λ f. absurd (true≢false f); named = isNamed }
-      go false e = keeps-quiet (b .largest) (b .clock) (b .places) (b .orders) (b .slot) (b .held) (set (b .places) p z) (b .orders) (b .held)
-          (set-field (λ w. w .stand) (b .places) p z in-l refl) (λ q _. (set-field (λ w. w .share) (b .places) p z in-l refl q, set-field (λ w. w .deficit) (b .places) p z in-l refl q))
-          (record { fine = fine-same p z in-l refl (names-kept (b .places) p z in-l refl refl (g .fine .shape .names)) zok (g .fine); one = λ q. set-field (λ w. isServing (w .stand)) (b .places) p z in-l refl q ∙ g .one q })
+          fine : Fine (b .largest) (b .clock) (busy (b .slot)) (set (b .places) p y) (joining b p y .orders) (b .held)
+          fine =
+              let bought = can .has .bought in
+              let yok = joins-ok b (g .fine .shape) p n x can in
+              fine-join p (at b p .start) (x ∷ []) (at b p .deficit) in-l (busy-le (b .slot)) (ap isQueued was) bought yok (g .fine)
+      go false e = keeps-kept b p z g in-l refl refl refl (names-kept (b .places) p z in-l refl refl (g .fine .shape .names))
+          (more-ok b (g .fine .shape) p n x can (false-lt (length (at b p .lane)) 0 e))
         where
           z : Place
           z = more (at b p) x
-
-          zok : PlaceOk (b .largest) z
-          zok = record { items = all-snoc (Fit (b .largest)) (at b p .lane) x (pok .items) small; owed = pok .owed; most = pok .most; standOk = more-ok (b .largest) (at b p .share) (at b p .lane) x (at b p .stand) (false-lt (length (at b p .lane)) 0 e) (pok .standOk); brief = rw (length-append (at b p .lane) (x ∷ [])) (omega (arith, can .room)); ring = pok .ring; clear = pok .clear; named = isNamed }
-
--- a block that is renamed, and one that is opened, is well
-pub renamed-ok : (L new : ℕ) (x : Place) → 1 ≤ new → 1 ≤ x .share → PlaceOk L x → PlaceOk L (renamed new x)
-renamed-ok L new x number bought k = record { items = k .items; owed = k .owed; most = k .most; standOk = k .standOk; brief = k .brief; ring = k .ring; clear = k .clear; named = inr (number, bought) }
-
-pub opened-ok : (b : Board) (n s : ℕ) → CanOpen b n s → 64 ≤ b .largest → PlaceOk (b .largest) (opened n s)
-unfolding All StandOk
-opened-ok b n s can least = record { items = tt; owed = omega (arith, most-pos (b .largest) least); most = omega (arith, can .room); standOk = refl; brief = omega arith; ring = omega arith; clear = λ _. refl; named = inr (can .number, can .share) }
 
 -- a record that was taken is no send
 keeps-as : (b nb : Board) (a : Taken) → Keeps b (record { out = done; next = nb }) → Keeps b (record { out = taken a; next = nb })
@@ -232,18 +306,10 @@ keeps-record b p n x can g = keeps-as b _ _ (keeps-taken b p n x can g)
 
 pub keeps-rename : (b : Board) (p old new : ℕ) → CanRename b p old new → Good b → Keeps b (record { out = done; next = goOn b p (renamed new (at b p)) })
 keeps-rename b p old new can g =
-    keeps-quiet (b .largest) (b .clock) (b .places) (b .orders) (b .slot) (b .held) (set (b .places) p z) (b .orders) (b .held)
-    (set-field (λ w. w .stand) (b .places) p z in-p refl) (λ q _. (set-field (λ w. w .share) (b .places) p z in-p refl q, set-field (λ w. w .deficit) (b .places) p z in-p refl q))
-    (record { fine = fine-same p z in-p refl (names-set (b .places) p z in-p (λ q ne a _ f. can .nobody q (has-at b q new (g .fine .shape .all64) a f)) (g .fine .shape .names)) zok (g .fine); one = λ q. set-field (λ w. isServing (w .stand)) (b .places) p z in-p refl q ∙ g .one q })
-  where
-    z : Place
-    z = renamed new (at b p)
-
-    in-p : p < length (b .places)
-    in-p = omega (arith, g .fine .shape .all64, can .has .inside)
-
-    zok : PlaceOk (b .largest) z
-    zok = renamed-ok (b .largest) new (at b p) (can .number) (can .has .bought) (g .fine .shape .placeOk p)
+    let sh = g .fine .shape in
+    let x = renamed new (at b p) in
+    let names = names-new b sh p x (can .has .inside) (can .nobody) in
+    keeps-kept b p x g (in-places b sh p (can .has .inside)) refl refl refl names (renamed-ok b sh p old new can)
 
 -- a place that is out may change its share
 share-else : (l : List Place) (p : ℕ) (x : Place) → pl l p .stand ≡ out → (q : ℕ) → inLine (pl l q .stand) ≡ true → (pl (set l p x) q .share ≡ pl l q .share) × (pl (set l p x) q .deficit ≡ pl l q .deficit)
@@ -259,7 +325,7 @@ keeps-open b n s can g =
     keeps-quiet (b .largest) (b .clock) (b .places) (b .orders) (b .slot) (b .held) (set (b .places) p z) (b .orders) (b .held)
     (set-field (λ w. w .stand) (b .places) p z in-p (sym was)) (share-else (b .places) p z was)
     (record {
-      fine = fine-open p n s in-p (seat-same (at b p) freePlace (can .free) was) (names-set (b .places) p z in-p (λ q ne a _ f. can .nobody q (has-at b q n (g .fine .shape .all64) a f)) (g .fine .shape .names)) (opened-ok b n s can (g .fine .shape .least)) (omega (arith, can .room, sum-seats (b .places))) (g .fine);
+      fine = fine-open p n s in-p seat names (opened-ok b (g .fine .shape) n s can) (omega (arith, can .room)) (g .fine);
       one = λ q. set-field (λ w. isServing (w .stand)) (b .places) p z in-p (sym (ap isServing was)) q ∙ g .one q;
     })
   where
@@ -270,10 +336,16 @@ keeps-open b n s can g =
     z = opened n s
 
     in-p : freeAt b < length (b .places)
-    in-p = omega (arith, g .fine .shape .all64, can .inside)
+    in-p = in-places b (g .fine .shape) (freeAt b) (can .inside)
 
-    was : at b p .stand ≡ out
-    was = share-out (b .largest) (at b p .share) (at b p .lane) (at b p .stand) (can .free) (g .fine .shape .placeOk p .standOk)
+    was : at b (freeAt b) .stand ≡ out
+    was = free-out b (g .fine .shape) n s can
+
+    seat : seatOf (at b (freeAt b)) ≡ seatOf freePlace
+    seat = seat-same (at b (freeAt b)) freePlace (can .free) was
+
+    names : Distinct (set (b .places) (freeAt b) (opened n s))
+    names = names-new b (g .fine .shape) (freeAt b) (opened n s) (can .inside) (can .nobody)
 
 -- CLOSE
 pub keeps-close : (b : Board) (p n : ℕ) → CanClose b p n → Good b → Keeps b (record { out = done; next = closed b p })
@@ -290,15 +362,17 @@ keeps-close b p n can g =
     H′ = cond (quiet b) (b .held) held
 
     in-p : p < length (b .places)
-    in-p = omega (arith, g .fine .shape .all64, can .has .inside)
+    in-p = in-places b (g .fine .shape) p (can .has .inside)
 
     was : at b p .stand ≡ out
-    was = lane-out (b .largest) (at b p .share) (at b p .lane) (at b p .stand) (omega (arith, can .empty)) (g .fine .shape .placeOk p .standOk)
+    was = empty-out b (g .fine .shape) p (omega (arith, can .empty))
 
     nobody : (m : Option ℕ) → LeastIs (b .places) m → isNone m ≡ true → (i : ℕ) → isQueued (at b i .stand) ≡ false
     nobody none l e = l
     nobody (some r) l e = absurd (false≢true e)
 
     fine : (t : Bool) → quiet b ≡ t → Fine (b .largest) (b .clock) (busy (b .slot)) (set (b .places) p freePlace) (b .orders) (cond t (b .held) held)
-    fine true q = fine-close-quiet p in-p (nobody (leastReady (b .places)) (least-is (b .places)) (and-right (isNone (b .slot)) (isNone (leastReady (b .places))) q)) (g .fine)
+    fine true q =
+        let none-ready = and-right (isNone (b .slot)) (isNone (leastReady (b .places))) q in
+        fine-close-quiet p in-p (nobody (leastReady (b .places)) (least-is (b .places)) none-ready) (g .fine)
     fine false q = fine-close p in-p (ap isQueued was) (g .fine)

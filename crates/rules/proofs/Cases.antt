@@ -13,7 +13,8 @@ use Rattle.base.specs.Tests.{least}
 use Rattle.base.proofs.Tests.{least-true, least-false, and-left, and-right}
 use Rattle.base.proofs.Numbers.{split, leb-yes, true-le, false-lt, eqb-true, eqb-yes}
 use Rattle.rules.specs.Board.{Record, Place, freePlace, Board, at, isOpen, Has, freeShare, spent, charge, front}
-use Rattle.rules.specs.Choice.{done, Turn, refuse, Check, guarded, whereIs, numberOutside, lengthOutside, recordChecks, takeRecord, tookAt, goOn, leastReady, lowest, chosen, begin, beginChecks, send, serve, serveBy, leftOf}
+use Rattle.rules.specs.Choice.{done, Turn, refuse, Check, guarded, whereIs, numberOutside, lengthOutside, recordChecks, takeRecord, tookAt, goOn}
+use Rattle.rules.specs.Choice.{leastReady, lowest, chosen, begin, beginChecks, send, serve, serveBy, leftOf}
 use Rattle.rules.specs.Blocks.{opened, freeAt, shareOutside, openChecks, openBlock, renamed, renameChecks, renameBlock, closed, closeChecks, closeBlock}
 use Rattle.rules.specs.Spoilt.{isServing, isAt}
 use Rattle.rules.specs.Calls.{Single, open!, rename!, close!, record!, serve!, step}
@@ -78,7 +79,11 @@ in-range n most e = (not-zero n (or-left (eqb n 0) (ltb most n) e), omega (arith
 -- the block that is found has that number
 pub where-has : (b : Board) (n : ℕ) → whereIs b n < 64 → Has b (whereIs b n) n
 unfolding whereIs
-where-has b n h = record { inside = h; bought = true-le 1 (at b p .share) (and-left (isOpen (at b p)) (eqb n (at b p .number)) t); named = sym (eqb-true n (at b p .number) (and-right (isOpen (at b p)) (eqb n (at b p .number)) t)) }
+where-has b n h = record {
+  inside = h;
+  bought = true-le 1 (at b p .share) (and-left (isOpen (at b p)) (eqb n (at b p .number)) t);
+  named = sym (eqb-true n (at b p .number) (and-right (isOpen (at b p)) (eqb n (at b p .number)) t));
+}
   where
     p : ℕ
     p = whereIs b n
@@ -152,13 +157,25 @@ can-open b n share (e4, (e5, (e7, (e8, _)))) = record {
     range = in-range share 65536 (or-right (numberOutside n) (shareOutside share) e4)
 
 can-rename : (b : Board) (old new : ℕ) → Fail (renameChecks b old new) → CanRename b (whereIs b old) old new
-can-rename b old new (e4, (e6, (e5, _))) = record { has = where-has b old (false-lt 64 (whereIs b old) e6); number = not-zero new e4; nobody = where-none b new e5 }
+can-rename b old new (e4, (e6, (e5, _))) = record {
+  number = not-zero new e4;
+  has = where-has b old (false-lt 64 (whereIs b old) e6);
+  nobody = where-none b new e5;
+}
 
 can-close : (b : Board) (n : ℕ) → Fail (closeChecks b n) → CanClose b (whereIs b n) n
-can-close b n (e6, (e10, _)) = record { has = where-has b n (false-lt 64 (whereIs b n) e6); empty = omega (arith, false-lt 1 (length (at b (whereIs b n) .lane)) e10) }
+can-close b n (e6, (e10, _)) = record {
+  has = where-has b n (false-lt 64 (whereIs b n) e6);
+  empty = omega (arith, false-lt 1 (length (at b (whereIs b n) .lane)) e10);
+}
 
 can-take : (b : Board) (n : ℕ) (r : Record) → Fail (recordChecks b n r) → CanTake b (whereIs b n) n r
-can-take b n r (e4, (e6, (e9, _))) = record { has = where-has b n (false-lt 64 (whereIs b n) e6); least = range .0; most = range .1; room = false-lt 32 (length (at b (whereIs b n) .lane)) e9 }
+can-take b n r (e4, (e6, (e9, _))) = record {
+  least = range .0;
+  most = range .1;
+  has = where-has b n (false-lt 64 (whereIs b n) e6);
+  room = false-lt 32 (length (at b (whereIs b n) .lane)) e9;
+}
   where
     range : (1 ≤ r .bytes) × (r .bytes ≤ b .largest)
     range = in-range (r .bytes) (b .largest) (or-right (numberOutside n) (lengthOutside b (r .bytes)) e4)
@@ -169,7 +186,8 @@ can-take b n r (e4, (e6, (e9, _))) = record { has = where-has b n (false-lt 64 (
 pub record OtherCases (b : Board) (P : Single → Turn → Type 0) : Type 0 where
   pub refused : (x : Single) (code : ℕ) → Refusal code → P x (refuse b code)
   pub opens : (n s : ℕ) → CanOpen b n s → P (open! n s) (record { out = done; next = goOn b (freeAt b) (opened n s) })
-  pub renames : (old new : ℕ) → let p = whereIs b old in CanRename b p old new → P (rename! old new) (record { out = done; next = goOn b p (renamed new (at b p)) })
+  pub renames : (old new : ℕ) → let p = whereIs b old in
+      CanRename b p old new → P (rename! old new) (record { out = done; next = goOn b p (renamed new (at b p)) })
   pub closes : (n : ℕ) → let p = whereIs b n in CanClose b p n → P (close! n) (record { out = done; next = closed b p })
   pub takes : (n : ℕ) (r : Record) → let p = whereIs b n in CanTake b p n r → P (record! n r) (tookAt b p r)
 
@@ -210,7 +228,8 @@ serve-turns b P unserved goesOn begins = go (b .slot) refl (leastReady (b .place
     go : (s : Option ℕ) → b .slot ≡ s → (m : Option ℕ) → leastReady (b .places) ≡ m → P (serveBy b s m)
     go (some p) e m l = goesOn p e
     go none e none l = unserved 1 (nobody e l)
-    go none e (some r) l = guarded-cases b (beginChecks (max (b .clock) r)) _ P stop (λ f. begins r (record { slot = e; least = l; soon = false-lt (2 ^ 62) (max (b .clock) r) (f .0) }))
+    go none e (some r) l = guarded-cases b (beginChecks (max (b .clock) r)) _ P stop
+        (λ f. begins r (record { slot = e; least = l; soon = false-lt (2 ^ 62) (max (b .clock) r) (f .0) }))
       where
         stop : (code : ℕ) → First (beginChecks (max (b .clock) r)) code → P (refuse b code)
         stop code (inl (h, c)) = rw c (unserved 11 (late r e l (true-le (2 ^ 62) (max (b .clock) r) h)))
@@ -248,7 +267,10 @@ pub record ServeCases (b : Board) (P : Turn → Type 0) : Type 0 where
 
 pub serve-cases : (b : Board) → Tidy b → (P : Turn → Type 0) → ServeCases b P → P (serve b)
 unfolding lowest
-serve-cases b g P cs = serve-turns b P (λ code u. cs .unserved code u (unserved-refuses b code u)) (λ p e. cs .goesOn p (on p e)) (λ r m. cs .begins r (max (b .clock) r) (chosen b (max (b .clock) r)) (starts r m) refl)
+serve-cases b g P cs = serve-turns b P
+    (λ code u. cs .unserved code u (unserved-refuses b code u))
+    (λ p e. cs .goesOn p (on p e))
+    (λ r m. cs .begins r (max (b .clock) r) (chosen b (max (b .clock) r)) (starts r m) refl)
   where
     sh : Shape (b .largest) (b .clock) (b .places) (b .orders) (b .held)
     sh = g .shape
@@ -263,7 +285,16 @@ serve-cases b g P cs = serve-turns b P (λ code u. cs .unserved code u (unserved
         ok = serving-ok (b .largest) (at b p .share) (at b p .lane) (at b p .stand) isS (sh .placeOk p .standOk)
 
     starts : (r : ℕ) → MayBegin b r → Begins b r (max (b .clock) r) (chosen b (max (b .clock) r))
-    starts r m = record { slot = m .slot; least = m .least; time = refl; soon = m .soon; choice = ch; inside = omega (arith, queued-in (b .places) p (ch .isQ), sh .all64); bought = ok .1; lane = ok .0 }
+    starts r m = record {
+      slot = m .slot;
+      least = m .least;
+      time = refl;
+      soon = m .soon;
+      choice = ch;
+      inside = omega (arith, queued-in (b .places) p (ch .isQ), sh .all64);
+      bought = ok .1;
+      lane = ok .0;
+    }
       where
         p : ℕ
         p = chosen b (max (b .clock) r)
@@ -286,5 +317,11 @@ pub record CallCases (b : Board) (P : Single → Turn → Type 0) : Type 0 where
 
 pub call-cases : (b : Board) → Tidy b → (P : Single → Turn → Type 0) → CallCases b P → (x : Single) → P x (step b x)
 call-cases b g P cs = other-cases b P
-    (record { refused = cs .refused; opens = cs .opens; renames = λ old new. cs .renames (whereIs b old) old new; closes = λ n. cs .closes (whereIs b n) n; takes = λ n. cs .takes (whereIs b n) n })
+    (record {
+      refused = cs .refused;
+      opens = cs .opens;
+      renames = λ old new. cs .renames (whereIs b old) old new;
+      closes = λ n. cs .closes (whereIs b n) n;
+      takes = λ n. cs .takes (whereIs b n) n;
+    })
     (serve-cases b g (P serve!) (record { unserved = λ code u r. cs .refused serve! code r; goesOn = cs .goesOn; begins = cs .begins }))

@@ -17,10 +17,12 @@ abbrev pub First : List Check → (code : ℕ) → Type 0
 First [] code = ⊥
 First (c ∷ cs) code = ((c .holds ≡ true) × (code ≡ c .code)) ⊎ ((c .holds ≡ false) × First cs code)
 
-pub guarded-cases : (b : Board) (cs : List Check) (u : Turn) (P : Turn → Type 0) → ((code : ℕ) → First cs code → P (refuse b code)) → (Fail cs → P u) → P (guarded b cs u)
+pub guarded-cases : (b : Board) (cs : List Check) (u : Turn) (P : Turn → Type 0)
+    → ((code : ℕ) → First cs code → P (refuse b code)) → (Fail cs → P u) → P (guarded b cs u)
 guarded-cases b [] u P stop go = go tt
 guarded-cases b (c ∷ cs) u P stop go = by (c .holds) refl (guarded-cases b cs u P)
   where
-    by : (t : Bool) → c .holds ≡ t → (((code : ℕ) → First cs code → P (refuse b code)) → (Fail cs → P u) → P (guarded b cs u)) → P (cond t (refuse b (c .code)) (guarded b cs u))
+    by : (t : Bool) → c .holds ≡ t → (((code : ℕ) → First cs code → P (refuse b code)) → (Fail cs → P u) → P (guarded b cs u))
+        → P (cond t (refuse b (c .code)) (guarded b cs u))
     by true e rest = stop (c .code) (inl (e, refl))
     by false e rest = rest (λ code f. stop code (inr (e, f))) (λ f. go (e, f))

@@ -14,12 +14,13 @@ use Rattle.base.proofs.Numbers.{true-le, eqb-yes, eqb-no}
 use Rattle.rules.specs.Calls.{Single, open!, close!, rename!, record!, serve!, step}
 use Rattle.rules.specs.Spoilt.{isServing, isAt}
 use Rattle.rules.specs.Board.{Record, noRecord, charge, Stand, out, queued, serving, Place, freePlace, blockClass, front, Board, at}
-use Rattle.rules.specs.Choice.{taken, upd, leftOf, Out, refused, done, sent, Turn, refuse, emptied, short, going, started, ended, goOn, sendFrom, send, begin, lowest, whereIs, joins, more, joining, takenIn, tookAt}
+use Rattle.rules.specs.Choice.{taken, upd, leftOf, Out, refused, done, sent, Turn, emptied, short, going, started, ended, goOn, sendFrom, send}
+use Rattle.rules.specs.Choice.{begin, lowest, whereIs, joins, more, joining, takenIn, tookAt}
 use Rattle.rules.specs.Blocks.{opened, freeAt, closed, renamed}
 use Rattle.rules.proofs.Orders.{pl}
 use Rattle.rules.proofs.Slot.{serving-ok, serving-in}
 use Rattle.rules.proofs.Shape.{StandOk, PlaceOk, LeastIs, queued-in}
-use Rattle.rules.proofs.Calls.{set-field}
+use Rattle.rules.proofs.Calls.{set-field, in-places}
 use Rattle.rules.proofs.Tidy.{Tidy, tidy-begin}
 use Rattle.rules.proofs.Tidy as tidy
 use Rattle.rules.proofs.Cases.{least-of, other-cases, serve-turns}
@@ -141,22 +142,27 @@ module _ (b : Board) (g : Tidy b) (p : ℕ) where
           by (yes f) = rw (f, eqb-yes q q refl, getD-set-same (b .places) q y freePlace (omega (arith, h, g .shape .all64))) (sym e)
           by (no f) = rw (eqb-no p q f, getD-set-other (b .places) q p y freePlace f) (append-nil (at b p .lane))
 
-      go : (t : Bool) → leb (length (at b q .lane)) 0 ≡ t → at b p .lane ++ cond (eqb p q) (x ∷ []) [] ≡ at (cond t (joining b q (joins (b .clock) (at b q) x)) (goOn b q (more (at b q) x))) p .lane
+      go : (t : Bool) → leb (length (at b q .lane)) 0 ≡ t
+          → at b p .lane ++ cond (eqb p q) (x ∷ []) [] ≡ at (cond t (joining b q (joins (b .clock) (at b q) x)) (goOn b q (more (at b q) x))) p .lane
       go true e = put (joins (b .clock) (at b q) x) (ap (λ (l : List Record). l ++ (x ∷ [])) (sym (empty (at b q .lane) (true-le (length (at b q .lane)) 0 e))))
       go false e = put (more (at b q) x) refl
 
-  flow-refused : (c : Single) (code : ℕ) → Flow p b (tookOne p b c (refused code)) (refuse b code)
-  flow-refused c code = rw (took-refused p b code c) (append-nil (at b p .lane))
-
-  inside : (q : ℕ) → q < 64 → q < length (b .places)
-  inside q h = omega (arith, g .shape .all64)
+  -- a place whose lane is empty and stays so
+  flow-empty : (q : ℕ) (y : Place) → q < 64 → at b q .lane ≡ [] → y .lane ≡ [] → at b p .lane ++ [] ≡ pl (set (b .places) q y) p .lane
+  flow-empty q y h was is = flow-kept b q y p (in-places b (g .shape) q h) (is ∙ sym was)
 
 pub flow-step : (b : Board) (c : Single) → Tidy b → (p : ℕ) → Flow p b (tookOne p b c (step b c .out)) (step b c)
 unfolding closed
 flow-step b c g p = other-cases b (λ x u. Flow p b (tookOne p b x (u .out)) u) (record {
-  refused = λ x code r. flow-refused b g p x code;
-  opens = λ n s can. flow-kept b (freeAt b) (opened n s) p (inside b g p (freeAt b) (can .inside)) (sym (no-share (b .largest) (at b (freeAt b)) (g .shape .placeOk (freeAt b)) (can .free)));
-  renames = λ old new can. flow-kept b (whereIs b old) (renamed new (at b (whereIs b old))) p (inside b g p (whereIs b old) (can .has .inside)) refl;
-  closes = λ n can. flow-kept b (whereIs b n) freePlace p (inside b g p (whereIs b n) (can .has .inside)) (sym (empty (at b (whereIs b n) .lane) (omega (arith, can .empty))));
+  refused = λ x code r. rw (took-refused p b code x) (append-nil (at b p .lane));
+  opens = λ n s can.
+      let x = at b (freeAt b) in
+      flow-empty b g p (freeAt b) (opened n s) (can .inside) (no-share (b .largest) x (g .shape .placeOk (freeAt b)) (can .free)) refl;
+  renames = λ old new can. flow-kept b (whereIs b old) (renamed new (at b (whereIs b old))) p (in-places b (g .shape) (whereIs b old) (can .has .inside)) refl;
+  closes = λ n can. flow-empty b g p (whereIs b n) freePlace (can .has .inside) (empty (at b (whereIs b n) .lane) (omega (arith, can .empty))) refl;
   takes = λ n x can. flow-take b g p n x (can .has .inside);
-}) (serve-turns b (Flow p b []) (λ code u. append-nil (at b p .lane)) (λ q e. flow-send b q e g p) (λ r m. begun-flow b g r (m .slot) (least-of b r (m .least)) (m .soon) p)) c
+})
+    (serve-turns b (Flow p b [])
+    (λ code u. append-nil (at b p .lane))
+    (λ q e. flow-send b q e g p)
+    (λ r m. begun-flow b g r (m .slot) (least-of b r (m .least)) (m .soon) p)) c

@@ -10,7 +10,8 @@ use lib.ListN.{length, getD, set, drop}
 use Rattle.units.specs.Classes.{nextStart}
 use Rattle.units.proofs.Classes.{class-le}
 use Rattle.rules.specs.Board.{Record, noRecord, charge, Place, blockClass, Board, at, Seventeen, fresh}
-use Rattle.rules.specs.Choice.{leftAfter, emptied, short, going, upd, isNone, leastReady, release, settle, ended, goOn, sendFrom, send, begin, lowest, chosen, whereIs, joins, more, joining, takenIn}
+use Rattle.rules.specs.Choice.{leftAfter, emptied, short, going, upd, isNone, leastReady, release, settle, ended, goOn, sendFrom, send, begin, lowest}
+use Rattle.rules.specs.Choice.{chosen, whereIs, joins, more, joining, takenIn}
 use Rattle.rules.specs.Calls.{Single, step}
 use Rattle.rules.specs.Runs.{play}
 use Rattle.rules.specs.Blocks.{opened, freeAt, quiet, closed, renamed}

@@ -22,7 +22,9 @@ unfolding LeastIs send
 serve-live b p g w = serve-turns b (λ u. (u .out ≡ refused 11) ⊎ (isSent (u .out) ≡ true)) stop (λ q e. inr refl) (λ r m. inr refl)
   where
     stop : (code : ℕ) → Unserved b code → (refused code ≡ refused 11) ⊎ (false ≡ true)
-    stop code (nobody e l) = absurd (false≢true (sym (subst (LeastIs (b .places)) l (least-is (b .places)) p) ∙ waits-not-serving (at b p .stand) w (g .one p ∙ ap (isAt p) e)))
+    stop code (nobody e l) =
+        let unqueued = subst (LeastIs (b .places)) l (least-is (b .places)) p in
+        absurd (false≢true (sym unqueued ∙ waits-not-serving (at b p .stand) w (g .one p ∙ ap (isAt p) e)))
     stop code (late r e l h) = inl refl
 
 -- while a block waits, a serve that isn't given 11 sends at least a byte

@@ -13,7 +13,8 @@ use Rattle.base.specs.Tests.{least}
 use Rattle.base.proofs.Tests.{least-false}
 use Rattle.base.proofs.Numbers.{split, leb-yes, eqb-yes, eqb-no, eqb-true, true-le}
 use Rattle.rules.specs.Board.{Record, Place, freePlace, Board, at, isOpen, charge, noRecord, blockClass, Has}
-use Rattle.rules.specs.Choice.{done, sent, Turn, refuse, Found, openAt, unknown, foundAt, find, byFound, whereIs, goOn, more, joins, joining, takenIn, emptied, short, going, started, ended, sendFrom, send, begin, chosen, upd, leftAfter, refused, tookAt}
+use Rattle.rules.specs.Choice.{done, sent, Turn, refuse, Found, openAt, unknown, foundAt, find, byFound, whereIs, goOn, more, joins, joining, takenIn}
+use Rattle.rules.specs.Choice.{emptied, short, going, started, ended, sendFrom, send, begin, chosen, upd, leftAfter, refused, tookAt}
 use Rattle.rules.specs.Blocks.{opened, freeAt, renamed, closed}
 use Rattle.rules.specs.Calls.{Single, open!, rename!, close!, record!, serve!, step, gives, takes, told}
 use Rattle.rules.specs.Runs.{numberAfter, closes, takenFor, isFor, laneOf, shareOf}
@@ -37,7 +38,10 @@ has-where b p n g h = go (split (least t 64) p)
     here = rw (leb-yes 1 (at b p .share) (h .bought), eqb-yes n (at b p .number) (sym (h .named)))
 
     go : (least t 64 ≤ p) ⊎ (p < least t 64) → least t 64 ≡ p
-    go (inl l) = let q = least t 64 in let i : q < 64 = omega (arith, h .inside) in let w = where-has b n i in g .shape .names q p (w .bought) (h .bought) (w .named ∙ sym (h .named))
+    go (inl l) =
+        let q = least t 64 in
+        let w = where-has b n (omega (arith, h .inside)) in
+        g .shape .names q p (w .bought) (h .bought) (w .named ∙ sym (h .named))
     go (inr l) = absurd (true≢false (sym here ∙ least-false t 64 p l))
 
 pub has-find : (b : Board) (p n : ℕ) → Tidy b → Has b p n → find b n ≡ openAt p

@@ -17,7 +17,8 @@ use Rattle.units.proofs.Starts.{next-gt, next-least, start-gap}
 use Rattle.rules.specs.Calls.{Single, step}
 use Rattle.rules.specs.Spoilt.{isQueued, isServing, isAt}
 use Rattle.rules.specs.Board.{Record, noRecord, charge, out, blockClass, front, Board, at}
-use Rattle.rules.specs.Choice.{upd, leftOf, Turn, isNone, emptied, short, going, ended, goOn, sendFrom, send, begin, lowest, chosen, whereIs, joins, more, joining, takenIn}
+use Rattle.rules.specs.Choice.{upd, leftOf, Turn, isNone, emptied, short, going, ended, goOn, sendFrom, send, begin, lowest, chosen, whereIs, joins, more}
+use Rattle.rules.specs.Choice.{joining, takenIn}
 use Rattle.rules.specs.Blocks.{closed}
 use Rattle.rules.specs.Runs.{play}
 use Rattle.rules.proofs.Shape.{LeastIs, Chosen, choose}
@@ -56,7 +57,11 @@ clock-up b = other-cases b (λ x u. b .clock ≤ u .next .clock) (record {
   renames = λ old new c. le-refl (b .clock);
   closes = λ n c. le-refl (b .clock);
   takes = λ n x c. up-taken b (whereIs b n) x;
-}) (serve-turns b (λ u. b .clock ≤ u .next .clock) (λ code u. le-refl (b .clock)) (λ p e. up-send b p) (λ r m. up-begin b (max (b .clock) r) (chosen b (max (b .clock) r)) (omega arith)))
+})
+    (serve-turns b (λ u. b .clock ≤ u .next .clock)
+    (λ code u. le-refl (b .clock))
+    (λ p e. up-send b p)
+    (λ r m. up-begin b (max (b .clock) r) (chosen b (max (b .clock) r)) (omega arith)))
 
 -- A SEND FROM p: its slot was open, or it begins now, not before the clock and before the end of its interval
 abbrev Sends : Board → Turn → ℕ → Type 0
@@ -85,10 +90,16 @@ sends b c p g = other-cases b (λ x u. fromPlace p (u .out) ≡ true → Sends b
   renames = λ old new c f. absurd (false≢true f);
   closes = λ n c f. absurd (false≢true f);
   takes = λ n x c f. absurd (false≢true f);
-}) (serve-turns b (λ u. fromPlace p (u .out) ≡ true → Sends b u p) (λ code u f. absurd (false≢true f)) (λ q e f. inl (ap isNone e, g .one p ∙ ap (isAt p) e ∙ f)) begins) c
+})
+    (serve-turns b (λ u. fromPlace p (u .out) ≡ true → Sends b u p)
+    (λ code u f. absurd (false≢true f))
+    (λ q e f. inl (ap isNone e, g .one p ∙ ap (isAt p) e ∙ f))
+    begins) c
   where
     begins : (r : ℕ) → MayBegin b r → eqb p (chosen b (max (b .clock) r)) ≡ true → Sends b (send (begin b (max (b .clock) r)) (chosen b (max (b .clock) r))) p
-    begins r m f = let w = begin-clock b r p g (m .slot) (least-of b r (m .least)) (eqb-true p (chosen b (max (b .clock) r)) f) in inr (ap isNone (m .slot), w .0, w .1)
+    begins r m f =
+        let w = begin-clock b r p g (m .slot) (least-of b r (m .least)) (eqb-true p (chosen b (max (b .clock) r)) f) in
+        inr (ap isNone (m .slot), w .0, w .1)
 
 -- counted in the interval
 counts : (lo k t : ℕ) (c : Bool) → c ≡ true → lo ≤ t → t < lo + 2 ^ k → oneIf (c && leb lo t && leb (suc t) (lo + 2 ^ k)) ≡ 1

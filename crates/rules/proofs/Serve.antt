@@ -25,7 +25,8 @@ use Rattle.rules.proofs.Shape.{Chosen, choose, LeastIs, queued-in}
 use Rattle.rules.proofs.Good.{seatOf, Fine, fine-begin, fine-jump, seat-ok}
 use Rattle.rules.proofs.Slot.{serving-ok}
 use Rattle.rules.proofs.Cases.{least-of, serve-turns}
-use Rattle.rules.proofs.Turns.{Good, busy, slotLeft, most, still, Keeps, keeps-refuse, Sends, sends, keeps-sent, keeps-send, queued-waits, Timely, dueOf, hand, handBy, due-queued, givenIn, front-pos}
+use Rattle.rules.proofs.Turns.{Good, busy, slotLeft, most, still, Keeps, keeps-refuse, Sends, sends, keeps-sent, keeps-send, queued-waits, Timely, dueOf}
+use Rattle.rules.proofs.Turns.{hand, handBy, due-queued, givenIn, front-pos}
 
 release-now : (c : ℕ) (H : ℕ → ℕ) → release c c H ≡ H
 unfolding release
@@ -158,4 +159,7 @@ module _ (b : Board) (r : ℕ) (free : b .slot ≡ none) (least : LeastIs (b .pl
 -- SERVE
 pub keeps-serve : (b : Board) → Good b → Keeps b (serve b)
 unfolding t p
-keeps-serve b g = serve-turns b (Keeps b) (λ code u. keeps-refuse b code g) (λ q e. keeps-send b q e g) (λ r m. keeps-begin b r (m .slot) (least-of b r (m .least)) g)
+keeps-serve b g = serve-turns b (Keeps b)
+    (λ code u. keeps-refuse b code g)
+    (λ q e. keeps-send b q e g)
+    (λ r m. keeps-begin b r (m .slot) (least-of b r (m .least)) g)

@@ -14,7 +14,8 @@ use lib.Seq.{getD-set-same}
 use Rattle.base.proofs.Numbers.{split, leb-yes, leb-no, eqb-yes, eqb-no, true-le}
 use Rattle.units.specs.Credit.{largestCharge}
 use Rattle.rules.specs.Board.{Record, noRecord, charge, Place, freePlace, Board, at, front, blockClass}
-use Rattle.rules.specs.Choice.{refused, sent, Turn, isNone, leftOf, leftAfter, goOn, joins, more, takenIn, emptied, short, going, ended, sendFrom, send, begin, chosen, upd, joining, tookAt}
+use Rattle.rules.specs.Choice.{refused, sent, Turn, isNone, leftOf, leftAfter, goOn, joins, more, takenIn, emptied, short, going, ended, sendFrom, send}
+use Rattle.rules.specs.Choice.{begin, chosen, upd, joining, tookAt}
 use Rattle.rules.specs.Blocks.{opened, freeAt, renamed, closed}
 use Rattle.rules.specs.Spoilt.{isServing, isAt}
 use Rattle.rules.specs.Calls.{Single, open!, record!, serve!, step, told}

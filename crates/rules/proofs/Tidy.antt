@@ -16,7 +16,8 @@ use Rattle.rules.specs.Board.{noRecord, onward, charge, Place, freePlace
 use Rattle.rules.specs.Choice.{upd, leftOf, release, settle, started, emptied, short, going, ended, goOn, sendFrom, send, begin, lowest}
 use Rattle.rules.specs.Blocks.{quiet}
 use Rattle.rules.proofs.Orders.{pl}
-use Rattle.rules.proofs.Shape.{Shape, PlaceOk, names-kept, shape-same, shape-join, shape-clock, shape-begin, settle-le, release-le, Chosen, choose, LeastIs, queued-in}
+use Rattle.rules.proofs.Shape.{Shape, PlaceOk, names-kept, shape-same, shape-join, shape-clock, shape-begin, settle-le, release-le, Chosen, choose}
+use Rattle.rules.proofs.Shape.{LeastIs, queued-in}
 use Rattle.rules.proofs.Slot.{serving-not-queued, serving-ready}
 use Rattle.rules.proofs.Turns.{busy, lit}
 use Rattle.rules.proofs.Slot

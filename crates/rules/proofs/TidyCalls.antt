@@ -1,13 +1,13 @@
 -- The other calls keep a board from being spoilt, and so does every call.
 use mathlib.Core.Path.{_≡_, refl, sym, ap, _∙_}
 use mathlib.Core.Bool.{Bool, true, false, cond, _&&_, true≢false, false≢true}
-use mathlib.Core.Logic.{_⊎_, inr, _≢_}
+use mathlib.Core.Logic.{_≢_}
 use mathlib.Core.Option.{Option, none, some}
 use mathlib.Core.List.{List, [], _∷_}
 use Prim.Native.Nat.{ℕ, zero, suc, _+_, _-_, _≤_, _<_}
 use native.Mathlib.Omega.{arith}
 use lib.Dec.{leb}
-use lib.ListN.{length, set, length-append}
+use lib.ListN.{length, set}
 use lib.Seq.{getD-set-same}
 use Rattle.base.specs.Sums.{sum, below}
 use Rattle.base.proofs.Sums.{below-one}
@@ -21,12 +21,13 @@ use Rattle.rules.specs.Board.{Record, out, Place, freePlace, blockClass,
 use Rattle.rules.specs.Choice.{upd, leastReady, readyOf, isNone, goOn, more, joins, joining, takenIn, whereIs, serve}
 use Rattle.rules.specs.Blocks.{opened, freeAt, quiet, closed, renamed}
 use Rattle.rules.proofs.Orders.{pl, upd-same, upd-other}
-use Rattle.rules.proofs.Shape.{Shape, PlaceOk, StandOk, All, all-snoc, Fit, named-num, names-kept, names-set, free-ok, shape-same, shape-join, shape-other, LeastIs, least-is}
+use Rattle.rules.proofs.Shape.{Shape, Distinct, PlaceOk, names-kept, free-ok, shape-same, shape-join}
+use Rattle.rules.proofs.Shape.{shape-other, LeastIs, least-is}
 use Rattle.rules.proofs.Good.{names-free}
 use Rattle.rules.proofs.Turns.{lit}
-use Rattle.rules.proofs.Calls.{lane-out, share-out, set-field, more-ok, renamed-ok, opened-ok}
+use Rattle.rules.proofs.Calls.{set-field, in-places, names-new, free-out, empty-out, opened-ok, renamed-ok, joins-ok, more-ok}
 use Rattle.rules.proofs.Tidy.{Tidy, tidy-send, tidy-sent}
-use Rattle.rules.proofs.Cases.{CanOpen, CanRename, CanClose, CanTake, has-at, other-cases, serve-turns, least-of}
+use Rattle.rules.proofs.Cases.{CanOpen, CanRename, CanClose, CanTake, other-cases, serve-turns, least-of}
 
 -- the least ready time hangs on the stands alone
 least-set : (l : List Place) (p : ℕ) (x : Place) → readyOf (x .stand) ≡ readyOf (pl l p .stand) → leastReady (set l p x) ≡ leastReady l
@@ -48,40 +49,28 @@ tidy-quiet b p x H′ h e calm sh g = record {
 
 module _ (b : Board) (p n : ℕ) (x : Record) (can : CanTake b p n x) (g : Tidy b) where
   in-l : p < length (b .places)
-  in-l = omega (arith, can .has .inside, g .shape .all64)
-
-  bought : 1 ≤ at b p .share
-  bought = can .has .bought
-
-  small : Fit (b .largest) x
-  small = (can .least, can .most)
+  in-l = in-places b (g .shape) p (can .has .inside)
 
   tidy-taken : Tidy (takenIn b p x)
-  unfolding takenIn All StandOk quiet LeastIs
+  unfolding takenIn quiet LeastIs
   tidy-taken = go (leb (length (at b p .lane)) 0) refl
     where
-      pok : PlaceOk (b .largest) (at b p)
-      pok = g .shape .placeOk p
-
-      isNamed : {y : Place} → (y ≡ freePlace) ⊎ ((1 ≤ at b p .number) × (1 ≤ at b p .share))
-      isNamed = inr (named-num (at b p) bought (pok .named), bought)
-
       go : (t : Bool) → leb (length (at b p .lane)) 0 ≡ t → Tidy (cond t (joining b p (joins (b .clock) (at b p) x)) (goOn b p (more (at b p) x)))
       go true e = record {
-        shape = shape-join p (at b p .start) (x ∷ []) (at b p .deficit) in-l (ap isQueued was) yok (g .shape);
+        shape = shape-join p (at b p .start) (x ∷ []) (at b p .deficit) in-l (ap isQueued was) (joins-ok b (g .shape) p n x can) (g .shape);
         one = λ q. set-field (λ z. isServing (z .stand)) (b .places) p y in-l (sym (ap isServing was)) q ∙ g .one q;
-        calm = λ q. absurd (noisy (leastReady (set (b .places) p y)) (least-is (set (b .places) p y)) (and-right (isNone (b .slot)) (isNone (leastReady (set (b .places) p y))) q));
+        calm = λ q. absurd (noisy (leastReady l) (least-is l) (and-right (isNone (b .slot)) (isNone (leastReady l)) q));
         time = g .time;
       }
         where
           y : Place
           y = joins (b .clock) (at b p) x
 
-          was : at b p .stand ≡ out
-          was = lane-out (b .largest) (at b p .share) (at b p .lane) (at b p .stand) (true-le (length (at b p .lane)) 0 e) (pok .standOk)
+          l : List Place
+          l = set (b .places) p y
 
-          yok : PlaceOk (b .largest) y
-          yok = record { items = (small, tt); owed = pok .owed; most = pok .most; standOk = (omega arith, bought); brief = omega arith; ring = pok .ring; clear = λ f. absurd (true≢false f); named = isNamed }
+          was : at b p .stand ≡ out
+          was = empty-out b (g .shape) p (true-le (length (at b p .lane)) 0 e)
 
           noisy : (m : Option ℕ) → LeastIs (set (b .places) p y) m → isNone m ≡ true → ⊥
           noisy none l f = true≢false (rw (getD-set-same (b .places) p y freePlace in-l) at (l p))
@@ -91,43 +80,32 @@ module _ (b : Board) (p n : ℕ) (x : Record) (can : CanTake b p n x) (g : Tidy 
           z : Place
           z = more (at b p) x
 
-          zok : PlaceOk (b .largest) z
-          zok = record { items = all-snoc (Fit (b .largest)) (at b p .lane) x (pok .items) small; owed = pok .owed; most = pok .most; standOk = more-ok (b .largest) (at b p .share) (at b p .lane) x (at b p .stand) (false-lt (length (at b p .lane)) 0 e) (pok .standOk); brief = rw (length-append (at b p .lane) (x ∷ [])) (omega (arith, can .room)); ring = pok .ring; clear = pok .clear; named = isNamed }
+          zok : PlaceOk (b .largest) (more (at b p) x)
+          zok = more-ok b (g .shape) p n x can (false-lt (length (at b p .lane)) 0 e)
 
 tidy-rename : (b : Board) (p old new : ℕ) → CanRename b p old new → Tidy b → Tidy (goOn b p (renamed new (at b p)))
 tidy-rename b p old new can g =
+    let z = renamed new (at b p) in
+    let in-p = in-places b (g .shape) p (can .has .inside) in
     tidy-quiet b p z (b .held) in-p refl (g .calm)
-    (shape-same p z in-p refl refl refl (names-set (b .places) p z in-p (λ q ne a _ f. can .nobody q (has-at b q new (g .shape .all64) a f)) (g .shape .names)) (renamed-ok (b .largest) new (at b p) (can .number) (can .has .bought) (g .shape .placeOk p)) (g .shape)) g
-  where
-    z : Place
-    z = renamed new (at b p)
-
-    in-p : p < length (b .places)
-    in-p = omega (arith, g .shape .all64, can .has .inside)
+    (shape-same p z in-p refl refl refl (names-new b (g .shape) p z (can .has .inside) (can .nobody)) (renamed-ok b (g .shape) p old new can) (g .shape)) g
 
 tidy-open : (b : Board) (n s : ℕ) → CanOpen b n s → Tidy b → Tidy (goOn b (freeAt b) (opened n s))
 unfolding spent
 tidy-open b n s can g =
+    let p = freeAt b in
+    let z = opened n s in
+    let in-p = in-places b (g .shape) p (can .inside) in
+    let was = free-out b (g .shape) n s can in
+    let names = names-new b (g .shape) p z (can .inside) (can .nobody) in
     tidy-quiet b p z (b .held) in-p (sym was) (g .calm)
-    (shape-other p z (b .held) in-p (ap isQueued was) refl (names-set (b .places) p z in-p (λ q ne a _ f. can .nobody q (has-at b q n (g .shape .all64) a f)) (g .shape .names)) (opened-ok b n s can (g .shape .least)) (omega (arith, can .room)) (g .shape)) g
-  where
-    p : ℕ
-    p = freeAt b
-
-    z : Place
-    z = opened n s
-
-    in-p : freeAt b < length (b .places)
-    in-p = omega (arith, g .shape .all64, can .inside)
-
-    was : at b p .stand ≡ out
-    was = share-out (b .largest) (at b p .share) (at b p .lane) (at b p .stand) (can .free) (g .shape .placeOk p .standOk)
+    (shape-other p z (b .held) in-p (ap isQueued was) refl names (opened-ok b (g .shape) n s can) (omega (arith, can .room)) (g .shape)) g
 
 tidy-close : (b : Board) (p n : ℕ) → CanClose b p n → Tidy b → Tidy (closed b p)
 unfolding closed
 tidy-close b p n can g =
     tidy-quiet b p freePlace H′ in-p (sym was) (λ q j. rw q (g .calm q j))
-    (shape-other p freePlace H′ in-p (ap isQueued was) refl (names-free (b .places) p in-p (g .shape .names)) (free-ok (b .largest) (g .shape .least)) (room (quiet b)) (g .shape)) g
+    (shape-other p freePlace H′ in-p (ap isQueued was) refl names (free-ok (b .largest) (g .shape .least)) (room (quiet b)) (g .shape)) g
   where
     k : ℕ
     k = blockClass (at b p)
@@ -139,17 +117,23 @@ tidy-close b p n can g =
     H′ = cond (quiet b) (b .held) held
 
     in-p : p < length (b .places)
-    in-p = omega (arith, g .shape .all64, can .has .inside)
+    in-p = in-places b (g .shape) p (can .has .inside)
 
     was : at b p .stand ≡ out
-    was = lane-out (b .largest) (at b p .share) (at b p .lane) (at b p .stand) (omega (arith, can .empty)) (g .shape .placeOk p .standOk)
+    was = empty-out b (g .shape) p (omega (arith, can .empty))
+
+    names : Distinct (set (b .places) p freePlace)
+    names = names-free (b .places) p in-p (g .shape .names)
 
     room : (t : Bool) → sum (λ y. y .share) (b .places) + below (cond t (b .held) held) 17 + 0 ≤ 65536 + at b p .share
     room true = omega (arith, g .shape .spent)
     room false = omega (arith, g .shape .spent, below-one held (b .held) 17 k (omega (arith, class-le (at b p .share))) (λ j e. upd-other (b .held) k (b .held k + at b p .share) j e), upd-same (b .held) k (b .held k + at b p .share))
 
 pub tidy-serve : (b : Board) → Tidy b → Tidy (serve b .next)
-tidy-serve b g = serve-turns b (λ u. Tidy (u .next)) (λ code u. g) (λ p e. tidy-send b p e g) (λ r m. tidy-sent b r (m .slot) (least-of b r (m .least)) (m .soon) g)
+tidy-serve b g = serve-turns b (λ u. Tidy (u .next))
+    (λ code u. g)
+    (λ p e. tidy-send b p e g)
+    (λ r m. tidy-sent b r (m .slot) (least-of b r (m .least)) (m .soon) g)
 
 -- EVERY CALL
 pub tidy-step : (b : Board) (x : Single) → Tidy b → Tidy (step b x .next)

@@ -17,7 +17,8 @@ use Rattle.units.proofs.Starts.{next-gt, next-mono}
 use Rattle.units.specs.Credit.{creditOf, largestCharge}
 use Rattle.rules.specs.Spoilt.{isQueued, isServing, readyNum, isAt}
 use Rattle.rules.specs.Board.{Record, noRecord, onward, charge, Stand, out, queued, serving, Place, freePlace, blockClass, front, Board, at}
-use Rattle.rules.specs.Choice.{upd, leftOf, Out, refused, done, taken, sent, Turn, isNone, emptied, short, going, more, ended, goOn, sendFrom, send, refuse}
+use Rattle.rules.specs.Choice.{upd, leftOf, Out, refused, done, taken, sent, Turn, isNone, emptied, short, going, more, ended, goOn, sendFrom, send}
+use Rattle.rules.specs.Choice.{refuse}
 use Rattle.rules.proofs.Line.{Seat}
 use Rattle.rules.proofs.Potential.{ahead, ahead-tick, ahead-join}
 use Rattle.rules.proofs.Orders.{pl, ready}

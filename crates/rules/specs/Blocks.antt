@@ -6,7 +6,8 @@ use lib.Dec.{leb, ltb, eqb}
 use lib.ListN.{set}
 use Rattle.base.specs.Tests.{least}
 use Rattle.rules.specs.Board.{Place, freePlace, out, Board, at, waits, blockClass, freeShare}
-use Rattle.rules.specs.Choice.{done, Turn, Check, check, guarded, whereIs, numberOutside, noneHas, someHas, upd, goOn, isNone, leastReady}
+use Rattle.rules.specs.Choice.{done, Turn, Check, check, guarded, whereIs, numberOutside, noneHas, someHas, upd}
+use Rattle.rules.specs.Choice.{goOn, isNone, leastReady}
 
 -- Open takes the lowest free place and the share, with deficit 0, start 0 and an empty lane.
 abbrev pub opened : ℕ → ℕ → Place
