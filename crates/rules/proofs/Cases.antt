@@ -73,7 +73,7 @@ not-zero n e = go (ℕ-discrete n 0)
     go (no f) = omega arith
 
 -- a number that is tested against 0 and against a most
-in-range : (n most : ℕ) → eqb n 0 || ltb most n ≡ false → (1 ≤ n) × (n ≤ most)
+pub in-range : (n most : ℕ) → eqb n 0 || ltb most n ≡ false → (1 ≤ n) × (n ≤ most)
 in-range n most e = (not-zero n (or-left (eqb n 0) (ltb most n) e), omega (arith, false-lt (suc most) n (or-right (eqb n 0) (ltb most n) e)))
 
 -- the block that is found has that number
@@ -114,7 +114,7 @@ has-at b q n len h e = record { inside = go (split 64 q); bought = h; named = e 
     go (inr k) = k
     go (inl k) = absurd (omega (arith, ap (λ (x : Place). x .share) (List·getD-eq-default (b .places) freePlace {n = q} (omega arith))))
 
-free-found : (b : Board) → freeAt b < 64 → at b (freeAt b) .share ≡ 0
+pub free-found : (b : Board) → freeAt b < 64 → at b (freeAt b) .share ≡ 0
 unfolding freeAt
 free-found b h = eqb-true (at b (freeAt b) .share) 0 (least-true (λ p. eqb (at b p .share) 0) 64 h)
 
@@ -163,7 +163,7 @@ can-rename b old new (e4, (e6, (e5, _))) = record {
   nobody = where-none b new e5;
 }
 
-can-close : (b : Board) (n : ℕ) → Fail (closeChecks b n) → CanClose b (whereIs b n) n
+pub can-close : (b : Board) (n : ℕ) → Fail (closeChecks b n) → CanClose b (whereIs b n) n
 can-close b n (e6, (e10, _)) = record {
   has = where-has b n (false-lt 64 (whereIs b n) e6);
   empty = omega (arith, false-lt 1 (length (at b (whereIs b n) .lane)) e10);
