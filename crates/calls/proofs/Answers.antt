@@ -95,6 +95,10 @@ module _ (m : Board.Board) (f : Fit m) where
   inside : (p : ℕ) → leb 64 p ≡ false → p < length (m .places)
   inside p e = omega (arith, false-lt 64 p e, g .shape .all64)
 
+-- the count of the place that the engine finds
+count-at : (m : Board.Board) (p i : ℕ) → i ≡ p → getD (encode m .counts) i 0 ≡ length (at m p .lane)
+count-at m p i e = ap (λ (j : ℕ). getD (encode m .counts) j 0) e ∙ count-is m p
+
 -- a test of the engine and a check of the rules that agree: both refuse, or both go on
 agrees : {A : Type 0} (left : A → Returned Reply) (came : Turn → Returned Reply) (m : Board.Board) (t holds : Bool) (code : ℕ) (stop rest : A) (u : Turn)
     → t ≡ holds → left stop ≡ came (refuse m code) → (holds ≡ false → left rest ≡ came u) → left (cond t stop rest) ≡ came (cond holds (refuse m code) u)
@@ -133,7 +137,7 @@ module _ (m : Board.Board) (f : Fit m) (ids lens : List ℕ) (n id len : ℕ) wh
   record-is =
       agrees recorded by-record m _ (numberOutside n || lengthOutside m len) 4 _ _ _ refl refl λ e4.
       agrees recorded by-record m _ (noneHas m n) 6 _ _ _ (ap (λ (i : ℕ). eqb i 64) (found e4) ∙ none-is (whereIs m n) (where-le m f n)) refl λ e6.
-      agrees recorded by-record m _ (laneFull (at m (whereIs m n))) 9 _ _ _ (ap (leb 32) (ap (λ (i : ℕ). getD (encode m .counts) i 0) (found e4) ∙ count-is m (whereIs m n))) refl λ e9.
+      agrees recorded by-record m _ (laneFull (at m (whereIs m n))) 9 _ _ _ (ap (leb 32) (count-at m (whereIs m n) _ (found e4))) refl λ e9.
       ap (λ (i : ℕ). recorded (took i)) (found e4) ∙ took-is (false-lt 64 (whereIs m n) e6)
     where
       found : numberOutside n || lengthOutside m len ≡ false → foundIn (encode m .numbers) n ≡ whereIs m n
@@ -203,7 +207,9 @@ module _ (m : Board.Board) (f : Fit m) (ids lens : List ℕ) (n : ℕ) where
   by-close = turned (encode m) ids lens m (close! n)
 
   closed-at : CanClose m (whereIs m n) n → withClosing (encode m) (closedAt (whereIs m n) (at m (whereIs m n) .share)) ≡ encode (closed m (whereIs m n))
-  closed-at can = close-is m (f .tidy) p (in-places m (f .tidy .shape) p (can .has .inside)) was (can .empty) (f .tidy .shape .placeOk p .clear (ap (λ s. isQueued s) was)) (quiet-active m (f .tidy))
+  closed-at can =
+      let owed = f .tidy .shape .placeOk p .clear (ap (λ s. isQueued s) was) in
+      close-is m (f .tidy) p (in-places m (f .tidy .shape) p (can .has .inside)) was (can .empty) owed (quiet-active m (f .tidy))
     where
       p : ℕ
       p = whereIs m n
@@ -215,7 +221,7 @@ module _ (m : Board.Board) (f : Fit m) (ids lens : List ℕ) (n : ℕ) where
   unfolding closedIn step closeBlock
   closed-is =
       agrees closedTo by-close m _ (noneHas m n) 6 _ _ _ (unknown-is m f n) refl λ e6.
-      agrees closedTo by-close m _ (waits (at m (whereIs m n))) 10 _ _ _ (ap (ltb 0) (ap (λ (i : ℕ). getD (encode m .counts) i 0) (found-is m f n e6) ∙ count-is m (whereIs m n))) refl λ e10.
+      agrees closedTo by-close m _ (waits (at m (whereIs m n))) 10 _ _ _ (ap (ltb 0) (count-at m (whereIs m n) _ (found-is m f n e6))) refl λ e10.
       ap (λ (i : ℕ). closedTo (closedAt i (getD (encode m .shares) i 0))) (found-is m f n e6)
       ∙ ap (λ (s : ℕ). closedTo (closedAt (whereIs m n) s)) (share-is m (whereIs m n))
       ∙ ap (λ (c : struct.Board). returned (replied 0 c) ids lens) (closed-at (can-close m n (e6, (e10, tt))))
