@@ -9,17 +9,16 @@ use native.Mathlib.Omega.{arith}
 use lib.Dec.{eqb, leb, ltb}
 use lib.ListN.{length, getD, set}
 use borrow.Author.Tests.{eq-eqb}
-use Rattle.base.proofs.Tests.{least-le, least-true}
+use Rattle.base.proofs.Tests.{least-le}
 use Rattle.base.proofs.Numbers.{split, leb-yes, leb-no, false-lt, eqb-true}
 use Rattle.rules.specs.Board
-use Rattle.rules.specs.Board.{Record, Place, freePlace, at, entry, firstEntry, out, spent, freeShare}
-use Rattle.rules.specs.Choice.{Turn, check, whereIs, goOn, done}
-use Rattle.rules.specs.Blocks.{opened, freeAt, renamed, closed}
+use Rattle.rules.specs.Board.{Record, Place, freePlace, at, waits, entry, firstEntry, out, spent}
+use Rattle.rules.specs.Choice.{Turn, refuse, whereIs, numberOutside, noneHas, someHas, lengthOutside, laneFull, tookAt, takeRecord, goOn}
+use Rattle.rules.specs.Blocks.{opened, freeAt, shareOutside, allTaken, overFree, openBlock, renameBlock, closed, closeBlock}
 use Rattle.rules.specs.Calls.{Single, open!, rename!, close!, record!, step, one, told, writes, done! }
-use Rattle.rules.proofs.Checks.{tookAt, take-checks, open-checks, rename-checks, close-checks}
-use Rattle.rules.proofs.Calls.{or-left, or-right, not-zero, where-share, lane-out}
-use Rattle.rules.proofs.Cases.{where-number}
-use Rattle.rules.proofs.Shape.{PlaceOk, named-num}
+use Rattle.rules.proofs.Cases.{or-right, in-range, where-has, free-found, CanClose, can-close}
+use Rattle.rules.proofs.Calls.{in-places, empty-out}
+use Rattle.rules.proofs.Shape.{named-num}
 use Rattle.rules.proofs.Tidy.{Tidy}
 use Rattle.board.specs.declared.Board as struct
 use Rattle.board.specs.Reading.{encode}
@@ -52,15 +51,13 @@ module _ (m : Board.Board) (f : Fit m) where
   unfolding freeAt
   free-le = least-le _ 64
 
-  free-share : freeAt m < 64 → at m (freeAt m) .share ≡ 0
-  unfolding freeAt
-  free-share h = eqb-true (at m (freeAt m) .share) 0 (least-true (λ i. eqb (at m i .share) 0) 64 h)
-
   -- no open block has the number 0
   open-named : (n : ℕ) → whereIs m n < 64 → n ≢ 0
-  open-named n h e = omega (arith, named-num (at m (whereIs m n)) (where-share m n h) (g .shape .placeOk (whereIs m n) .named), where-number m n h, e)
+  open-named n h e =
+      let w = where-has m n h in
+      omega (arith, named-num (at m (whereIs m n)) (w .bought) (g .shape .placeOk (whereIs m n) .named), w .named, e)
 
-  unknown-is : (n : ℕ) → isUnknown (encode m .numbers) n ≡ leb 64 (whereIs m n)
+  unknown-is : (n : ℕ) → isUnknown (encode m .numbers) n ≡ noneHas m n
   unknown-is n = go (eqb n 0) refl
     where
       nowhere : n ≡ 0 → (64 ≤ whereIs m n) ⊎ (whereIs m n < 64) → 64 ≤ whereIs m n
@@ -74,10 +71,10 @@ module _ (m : Board.Board) (f : Fit m) where
       go true e = sym (leb-yes 64 (whereIs m n) (nowhere (eqb-true n 0 e) (split 64 (whereIs m n))))
       go false e = ap (λ (i : ℕ). eqb i 64) (where-is m g n (ne e)) ∙ none-is (whereIs m n) (where-le n)
 
-  found-is : (n : ℕ) → leb 64 (whereIs m n) ≡ false → foundIn (encode m .numbers) n ≡ whereIs m n
+  found-is : (n : ℕ) → noneHas m n ≡ false → foundIn (encode m .numbers) n ≡ whereIs m n
   found-is n e = where-is m g n (open-named n (false-lt 64 (whereIs m n) e))
 
-  taken-number : (n : ℕ) → n ≢ 0 → not (eqb (foundIn (encode m .numbers) n) 64) ≡ ltb (whereIs m n) 64
+  taken-number : (n : ℕ) → n ≢ 0 → not (eqb (foundIn (encode m .numbers) n) 64) ≡ someHas m n
   taken-number n ne = ap (λ (i : ℕ). not (eqb i 64)) (where-is m g n ne) ∙ ap not (none-is (whereIs m n) (where-le n)) ∙ go (split 64 (whereIs m n))
     where
       go : (64 ≤ whereIs m n) ⊎ (whereIs m n < 64) → not (leb 64 (whereIs m n)) ≡ leb (suc (whereIs m n)) 64
@@ -88,7 +85,7 @@ module _ (m : Board.Board) (f : Fit m) where
   unfolding encode spent
   spent-is = ap₂ (λ (a c : ℕ). a + c) (total-map (λ (y : Place). y .share) (m .places)) (total-tab 17 (m .held))
 
-  room-is : (s : ℕ) → 1 ≤ s → ltb 65536 (totalOf (encode m .shares) + totalOf (encode m .held) + s) ≡ ltb (freeShare m) s
+  room-is : (s : ℕ) → 1 ≤ s → ltb 65536 (totalOf (encode m .shares) + totalOf (encode m .held) + s) ≡ overFree m s
   room-is s pos = ap (λ (n : ℕ). ltb 65536 (n + s)) spent-is ∙ go (split (65537 - spent m) s)
     where
       go : (65537 - spent m ≤ s) ⊎ (s < 65537 - spent m) → leb 65537 (spent m + s) ≡ leb (suc (65536 - spent m)) s
@@ -98,8 +95,18 @@ module _ (m : Board.Board) (f : Fit m) where
   inside : (p : ℕ) → leb 64 p ≡ false → p < length (m .places)
   inside p e = omega (arith, false-lt 64 p e, g .shape .all64)
 
-  ok : (p : ℕ) → PlaceOk (m .largest) (at m p)
-  ok p = g .shape .placeOk p
+-- the count of the place that the engine finds
+count-at : (m : Board.Board) (p i : ℕ) → i ≡ p → getD (encode m .counts) i 0 ≡ length (at m p .lane)
+count-at m p i e = ap (λ (j : ℕ). getD (encode m .counts) j 0) e ∙ count-is m p
+
+-- a test of the engine and a check of the rules that agree: both refuse, or both go on
+agrees : {A : Type 0} (left : A → Returned Reply) (came : Turn → Returned Reply) (m : Board.Board) (t holds : Bool) (code : ℕ) (stop rest : A) (u : Turn)
+    → t ≡ holds → left stop ≡ came (refuse m code) → (holds ≡ false → left rest ≡ came u) → left (cond t stop rest) ≡ came (cond holds (refuse m code) u)
+agrees left came m t holds code stop rest u e stopped later = ap (λ (c : Bool). left (cond c stop rest)) e ∙ go holds refl
+  where
+    go : (c : Bool) → holds ≡ c → left (cond c stop rest) ≡ came (cond c (refuse m code) u)
+    go true h = stopped
+    go false h = later h
 
 -- ---- A RECORD COMES
 module _ (m : Board.Board) (f : Fit m) (ids lens : List ℕ) (n id len : ℕ) where
@@ -112,37 +119,29 @@ module _ (m : Board.Board) (f : Fit m) (ids lens : List ℕ) (n id len : ℕ) wh
   abbrev took : ℕ → Recording
   took i = recording 0 (takenAt (encode m .shares) (encode m .clock) i (takingOf (encode m))) (set ids (entryAt (encode m .starts) (encode m .counts) i) id) (set lens (entryAt (encode m .starts) (encode m .counts) i) len)
 
-  abbrev refused : ℕ → Recording
-  refused code = recording code (takingOf (encode m)) ids lens
+  abbrev by-record : Turn → Returned Reply
+  by-record = turned (encode m) ids lens m (record! n r)
 
   entry-is : (i : ℕ) → entryAt (encode m .starts) (encode m .counts) i ≡ entry i (at m i) (length (at m i .lane))
   unfolding entryAt entry firstEntry
   entry-is i = rw (start-is m i, count-is m i)
 
-  took-is : leb 64 (whereIs m n) ≡ false → recorded (took (whereIs m n)) ≡ turned (encode m) ids lens m (record! n r) (tookAt m (whereIs m n) r)
-  took-is e = λ j. returned (replied 0 (take-is m (f .tidy) p r (false-lt 64 p e) (where-share m n (false-lt 64 p e)) j)) (set ids (entry-is p j) id) (set lens (entry-is p j) len)
+  took-is : whereIs m n < 64 → recorded (took (whereIs m n)) ≡ by-record (tookAt m (whereIs m n) r)
+  took-is h = λ j. returned (replied 0 (take-is m (f .tidy) p r h (where-has m n h .bought) j)) (set ids (entry-is p j) id) (set lens (entry-is p j) len)
     where
       p : ℕ
       p = whereIs m n
 
-  record-later : (t6 t9 : Bool) → leb 64 (whereIs m n) ≡ t6
-      → recorded (cond t6 (refused 6) (cond t9 (refused 9) (took (whereIs m n)))) ≡ turned (encode m) ids lens m (record! n r) (check m t6 6 (check m t9 9 (tookAt m (whereIs m n) r)))
-  record-later true t9 e = refl
-  record-later false true e = refl
-  record-later false false e = took-is e
-
-  record-first : (t4 : Bool) → (eqb n 0 || (eqb len 0 || ltb (m .largest) len)) ≡ t4
-      → recorded (cond t4 (refused 4) (cond (eqb (foundIn (encode m .numbers) n) 64) (refused 6) (cond (leb 32 (getD (encode m .counts) (foundIn (encode m .numbers) n) 0)) (refused 9) (took (foundIn (encode m .numbers) n)))))
-      ≡ turned (encode m) ids lens m (record! n r) (check m t4 4 (check m (leb 64 (whereIs m n)) 6 (check m (leb 32 (length (at m (whereIs m n) .lane))) 9 (tookAt m (whereIs m n) r))))
-  record-first true e = refl
-  record-first false e =
-      ap (λ (i : ℕ). recorded (cond (eqb i 64) (refused 6) (cond (leb 32 (getD (encode m .counts) i 0)) (refused 9) (took i)))) (where-is m (f .tidy) n (not-zeroth n _ e))
-      ∙ ap₂ (λ (t : Bool) (c : ℕ). recorded (cond t (refused 6) (cond (leb 32 c) (refused 9) (took (whereIs m n))))) (none-is (whereIs m n) (where-le m f n)) (count-is m (whereIs m n))
-      ∙ record-later (leb 64 (whereIs m n)) (leb 32 (length (at m (whereIs m n) .lane))) refl
-
   pub record-is : recorded (recordedIn (blocksOf (encode m)) (encode m .largest) (encode m .clock) n id len (takingOf (encode m)) ids lens) ≡ written (encode m) ids lens (done! m (one (record! n r)))
-  unfolding recordedIn step encode
-  record-is = rw (take-checks m n r) (record-first (eqb n 0 || (eqb len 0 || ltb (m .largest) len)) refl)
+  unfolding recordedIn step takeRecord encode
+  record-is =
+      agrees recorded by-record m _ (numberOutside n || lengthOutside m len) 4 _ _ _ refl refl λ e4.
+      agrees recorded by-record m _ (noneHas m n) 6 _ _ _ (ap (λ (i : ℕ). eqb i 64) (found e4) ∙ none-is (whereIs m n) (where-le m f n)) refl λ e6.
+      agrees recorded by-record m _ (laneFull (at m (whereIs m n))) 9 _ _ _ (ap (leb 32) (count-at m (whereIs m n) _ (found e4))) refl λ e9.
+      ap (λ (i : ℕ). recorded (took i)) (found e4) ∙ took-is (false-lt 64 (whereIs m n) e6)
+    where
+      found : numberOutside n || lengthOutside m len ≡ false → foundIn (encode m .numbers) n ≡ whereIs m n
+      found e = where-is m (f .tidy) n (not-zeroth n (lengthOutside m len) e)
 
 -- ---- RENAME
 module _ (m : Board.Board) (f : Fit m) (ids lens : List ℕ) (old new : ℕ) where
@@ -152,26 +151,17 @@ module _ (m : Board.Board) (f : Fit m) (ids lens : List ℕ) (old new : ℕ) whe
   abbrev numbers : List ℕ
   numbers = encode m .numbers
 
-  abbrev rename-turn : Turn
-  rename-turn = record { out = done; next = goOn m (whereIs m old) (renamed new (at m (whereIs m old))) }
-
-  renamed-later : (t6 t5 : Bool) → leb 64 (whereIs m old) ≡ t6
-      → renamedTo (cond t6 (renaming 6 numbers) (cond t5 (renaming 5 numbers) (renaming 0 (set numbers (foundIn numbers old) new)))) ≡ turned (encode m) ids lens m (rename! old new) (check m t6 6 (check m t5 5 rename-turn))
-  renamed-later true t5 e = refl
-  renamed-later false true e = refl
-  renamed-later false false e = ap (λ (i : ℕ). renamedTo (renaming 0 (set numbers i new))) (found-is m f old e) ∙ ap (λ (c : struct.Board). returned (replied 0 c) ids lens) (rename-is m (f .tidy) (whereIs m old) (inside m f (whereIs m old) e) new)
-
-  renamed-first : (t4 : Bool) → eqb new 0 ≡ t4
-      → renamedTo (cond t4 (renaming 4 numbers) (cond (isUnknown numbers old) (renaming 6 numbers) (cond (not (eqb (foundIn numbers new) 64)) (renaming 5 numbers) (renaming 0 (set numbers (foundIn numbers old) new)))))
-      ≡ turned (encode m) ids lens m (rename! old new) (check m t4 4 (check m (leb 64 (whereIs m old)) 6 (check m (ltb (whereIs m new) 64) 5 rename-turn)))
-  renamed-first true e = refl
-  renamed-first false e =
-      ap₂ (λ (t u : Bool). renamedTo (cond t (renaming 6 numbers) (cond u (renaming 5 numbers) (renaming 0 (set numbers (foundIn numbers old) new))))) (unknown-is m f old) (taken-number m f new (λ q. true≢false (sym (eq-eqb new 0 q) ∙ e)))
-      ∙ renamed-later (leb 64 (whereIs m old)) (ltb (whereIs m new) 64) refl
+  abbrev by-rename : Turn → Returned Reply
+  by-rename = turned (encode m) ids lens m (rename! old new)
 
   pub renamed-is : renamedTo (renamedIn (encode m .numbers) old new) ≡ written (encode m) ids lens (done! m (one (rename! old new)))
-  unfolding renamedIn step
-  renamed-is = rw (rename-checks m old new) (renamed-first (eqb new 0) refl)
+  unfolding renamedIn step renameBlock
+  renamed-is =
+      agrees renamedTo by-rename m _ (numberOutside new) 4 _ _ _ refl refl λ e4.
+      agrees renamedTo by-rename m _ (noneHas m old) 6 _ _ _ (unknown-is m f old) refl λ e6.
+      agrees renamedTo by-rename m _ (someHas m new) 5 _ _ _ (taken-number m f new (λ q. true≢false (sym (eq-eqb new 0 q) ∙ e4))) refl λ e5.
+      ap (λ (i : ℕ). renamedTo (renaming 0 (set numbers i new))) (found-is m f old e6)
+      ∙ ap (λ (c : struct.Board). returned (replied 0 c) ids lens) (rename-is m (f .tidy) (whereIs m old) (inside m f (whereIs m old) e6) new)
 
 -- ---- OPEN
 module _ (m : Board.Board) (f : Fit m) (ids lens : List ℕ) (n s : ℕ) where
@@ -181,45 +171,29 @@ module _ (m : Board.Board) (f : Fit m) (ids lens : List ℕ) (n s : ℕ) where
   abbrev openedAt : ℕ → Opening
   openedAt i = opening 0 (set (encode m .numbers) i n) (set (encode m .shares) i s)
 
-  abbrev unopened : ℕ → Opening
-  unopened code = opening code (encode m .numbers) (encode m .shares)
+  abbrev by-open : Turn → Returned Reply
+  by-open = turned (encode m) ids lens m (open! n s)
 
-  abbrev open-turn : Turn
-  open-turn = record { out = done; next = goOn m (freeAt m) (opened n s) }
-
-  opened-at : leb 64 (freeAt m) ≡ false → openedTo (openedAt (freeAt m)) ≡ turned (encode m) ids lens m (open! n s) open-turn
-  opened-at e = ap (λ (c : struct.Board). returned (replied 0 c) ids lens) (go (ok m f (freeAt m) .named))
+  opened-at : leb 64 (freeAt m) ≡ false → withOpening (encode m) (openedAt (freeAt m)) ≡ encode (goOn m (freeAt m) (opened n s))
+  opened-at e = go (f .tidy .shape .placeOk p .named)
     where
       p : ℕ
       p = freeAt m
 
-      p64 : freeAt m < 64
-      p64 = false-lt 64 (freeAt m) e
-
-      go : (at m (freeAt m) ≡ freePlace) ⊎ ((1 ≤ at m (freeAt m) .number) × (1 ≤ at m (freeAt m) .share)) → withOpening (encode m) (openedAt (freeAt m)) ≡ encode (goOn m (freeAt m) (opened n s))
-      go (inl q) = open-is m (f .tidy) (freeAt m) (inside m f (freeAt m) e) (ap (λ (y : Place). y .stand) q) (ap (λ (y : Place). length (y .lane)) q) (ap (λ (y : Place). y .deficit) q) n s (ap (λ (y : Place). y .start) q)
-      go (inr h) = absurd (omega (arith, free-share m f p64))
-
-  opened-later : (t5 t7 t8 : Bool) → leb 64 (freeAt m) ≡ t7
-      → openedTo (cond t5 (unopened 5) (cond t7 (unopened 7) (cond t8 (unopened 8) (openedAt (freeAt m))))) ≡ turned (encode m) ids lens m (open! n s) (check m t5 5 (check m t7 7 (check m t8 8 open-turn)))
-  opened-later true t7 t8 e = refl
-  opened-later false true t8 e = refl
-  opened-later false false true e = refl
-  opened-later false false false e = opened-at e
-
-  opened-first : (t4 : Bool) → (eqb n 0 || (eqb s 0 || ltb 65536 s)) ≡ t4
-      → openedTo (cond t4 (unopened 4) (cond (not (eqb (foundIn (encode m .numbers) n) 64)) (unopened 5) (cond (eqb (foundIn (encode m .numbers) 0) 64) (unopened 7) (cond (ltb 65536 (totalOf (encode m .shares) + totalOf (encode m .held) + s)) (unopened 8) (openedAt (foundIn (encode m .numbers) 0))))))
-      ≡ turned (encode m) ids lens m (open! n s) (check m t4 4 (check m (ltb (whereIs m n) 64) 5 (check m (leb 64 (freeAt m)) 7 (check m (ltb (freeShare m) s) 8 open-turn))))
-  opened-first true e = refl
-  opened-first false e =
-      ap (λ (i : ℕ). openedTo (cond (not (eqb (foundIn (encode m .numbers) n) 64)) (unopened 5) (cond (eqb i 64) (unopened 7) (cond (ltb 65536 (totalOf (encode m .shares) + totalOf (encode m .held) + s)) (unopened 8) (openedAt i))))) (free-is m (f .tidy))
-      ∙ ap₂ (λ (t u : Bool). openedTo (cond t (unopened 5) (cond u (unopened 7) (cond (ltb 65536 (totalOf (encode m .shares) + totalOf (encode m .held) + s)) (unopened 8) (openedAt (freeAt m)))))) (taken-number m f n (not-zeroth n _ e)) (none-is (freeAt m) (free-le m f))
-      ∙ ap (λ (t : Bool). openedTo (cond (ltb (whereIs m n) 64) (unopened 5) (cond (leb 64 (freeAt m)) (unopened 7) (cond t (unopened 8) (openedAt (freeAt m)))))) (room-is m f s (not-zero s (or-left (eqb s 0) (ltb 65536 s) (or-right (eqb n 0) (eqb s 0 || ltb 65536 s) e))))
-      ∙ opened-later (ltb (whereIs m n) 64) (leb 64 (freeAt m)) (ltb (freeShare m) s) refl
+      go : (at m p ≡ freePlace) ⊎ ((1 ≤ at m p .number) × (1 ≤ at m p .share)) → withOpening (encode m) (openedAt p) ≡ encode (goOn m p (opened n s))
+      go (inl q) =
+          open-is m (f .tidy) p (inside m f p e) (ap (λ (y : Place). y .stand) q) (ap (λ (y : Place). length (y .lane)) q)
+          (ap (λ (y : Place). y .deficit) q) n s (ap (λ (y : Place). y .start) q)
+      go (inr h) = absurd (omega (arith, free-found m (false-lt 64 (freeAt m) e)))
 
   pub opened-is : openedTo (openedIn (encode m .numbers) (encode m .shares) (encode m .held) n s) ≡ written (encode m) ids lens (done! m (one (open! n s)))
-  unfolding openedIn step
-  opened-is = rw (open-checks m n s) (opened-first (eqb n 0 || (eqb s 0 || ltb 65536 s)) refl)
+  unfolding openedIn step openBlock
+  opened-is =
+      agrees openedTo by-open m _ (numberOutside n || shareOutside s) 4 _ _ _ refl refl λ e4.
+      agrees openedTo by-open m _ (someHas m n) 5 _ _ _ (taken-number m f n (not-zeroth n (shareOutside s) e4)) refl λ e5.
+      agrees openedTo by-open m _ (allTaken m) 7 _ _ _ (ap (λ (i : ℕ). eqb i 64) (free-is m (f .tidy)) ∙ none-is (freeAt m) (free-le m f)) refl λ e7.
+      agrees openedTo by-open m _ (overFree m s) 8 _ _ _ (room-is m f s (in-range s 65536 (or-right (numberOutside n) (shareOutside s) e4) .0)) refl λ e8.
+      ap (λ (i : ℕ). openedTo (openedAt i)) (free-is m (f .tidy)) ∙ ap (λ (c : struct.Board). returned (replied 0 c) ids lens) (opened-at e7)
 
 -- ---- CLOSE
 module _ (m : Board.Board) (f : Fit m) (ids lens : List ℕ) (n : ℕ) where
@@ -229,36 +203,25 @@ module _ (m : Board.Board) (f : Fit m) (ids lens : List ℕ) (n : ℕ) where
   abbrev closedAt : ℕ → ℕ → Closing
   closedAt i share = closing 0 (set (encode m .numbers) i 0) (set (encode m .shares) i 0) (set (encode m .starts) i 0) (heldWith (encode m .active) share (encode m .held))
 
-  abbrev unclosed : ℕ → Closing
-  unclosed code = closing code (encode m .numbers) (encode m .shares) (encode m .starts) (encode m .held)
+  abbrev by-close : Turn → Returned Reply
+  by-close = turned (encode m) ids lens m (close! n)
 
-  abbrev close-turn : Turn
-  close-turn = record { out = done; next = closed m (whereIs m n) }
-
-  closed-at : leb 64 (whereIs m n) ≡ false → ltb 0 (length (at m (whereIs m n) .lane)) ≡ false → closedTo (closedAt (whereIs m n) (at m (whereIs m n) .share)) ≡ turned (encode m) ids lens m (close! n) close-turn
-  closed-at e h = ap (λ (c : struct.Board). returned (replied 0 c) ids lens) (close-is m (f .tidy) p (inside m f p e) was empty (ok m f p .clear (ap (λ s. isQueued s) was)) (quiet-active m (f .tidy)))
+  closed-at : CanClose m (whereIs m n) n → withClosing (encode m) (closedAt (whereIs m n) (at m (whereIs m n) .share)) ≡ encode (closed m (whereIs m n))
+  closed-at can =
+      let owed = f .tidy .shape .placeOk p .clear (ap (λ s. isQueued s) was) in
+      close-is m (f .tidy) p (in-places m (f .tidy .shape) p (can .has .inside)) was (can .empty) owed (quiet-active m (f .tidy))
     where
       p : ℕ
       p = whereIs m n
 
-      empty : length (at m (whereIs m n) .lane) ≡ 0
-      empty = omega (arith, false-lt 1 (length (at m (whereIs m n) .lane)) h)
-
       was : at m (whereIs m n) .stand ≡ out
-      was = lane-out (m .largest) (at m (whereIs m n) .share) (at m (whereIs m n) .lane) (at m (whereIs m n) .stand) (omega (arith, empty)) (ok m f (whereIs m n) .standOk)
-
-  closed-later : (t6 t10 : Bool) → leb 64 (whereIs m n) ≡ t6 → ltb 0 (length (at m (whereIs m n) .lane)) ≡ t10
-      → closedTo (cond t6 (unclosed 6) (cond (ltb 0 (getD (encode m .counts) (foundIn (encode m .numbers) n) 0)) (unclosed 10) (closedAt (foundIn (encode m .numbers) n) (getD (encode m .shares) (foundIn (encode m .numbers) n) 0)))) ≡ turned (encode m) ids lens m (close! n) (check m t6 6 (check m t10 10 close-turn))
-  closed-later true t10 e h = refl
-  closed-later false t10 e h =
-      ap (λ (i : ℕ). closedTo (cond (ltb 0 (getD (encode m .counts) i 0)) (unclosed 10) (closedAt i (getD (encode m .shares) i 0)))) (found-is m f n e)
-      ∙ ap₂ (λ (t : Bool) (s : ℕ). closedTo (cond t (unclosed 10) (closedAt (whereIs m n) s))) (ap (ltb 0) (count-is m (whereIs m n)) ∙ h) (share-is m (whereIs m n))
-      ∙ go t10 h
-    where
-      go : (t : Bool) → ltb 0 (length (at m (whereIs m n) .lane)) ≡ t → closedTo (cond t (unclosed 10) (closedAt (whereIs m n) (at m (whereIs m n) .share))) ≡ turned (encode m) ids lens m (close! n) (check m t 10 close-turn)
-      go true q = refl
-      go false q = closed-at e q
+      was = empty-out m (f .tidy .shape) (whereIs m n) (omega (arith, can .empty))
 
   pub closed-is : closedTo (closedIn (encode m .active) (encode m .numbers) (encode m .shares) (encode m .starts) (encode m .counts) (encode m .held) n) ≡ written (encode m) ids lens (done! m (one (close! n)))
-  unfolding closedIn step
-  closed-is = rw (close-checks m n, unknown-is m f n) (closed-later (leb 64 (whereIs m n)) (ltb 0 (length (at m (whereIs m n) .lane))) refl refl)
+  unfolding closedIn step closeBlock
+  closed-is =
+      agrees closedTo by-close m _ (noneHas m n) 6 _ _ _ (unknown-is m f n) refl λ e6.
+      agrees closedTo by-close m _ (waits (at m (whereIs m n))) 10 _ _ _ (ap (ltb 0) (count-at m (whereIs m n) _ (found-is m f n e6))) refl λ e10.
+      ap (λ (i : ℕ). closedTo (closedAt i (getD (encode m .shares) i 0))) (found-is m f n e6)
+      ∙ ap (λ (s : ℕ). closedTo (closedAt (whereIs m n) s)) (share-is m (whereIs m n))
+      ∙ ap (λ (c : struct.Board). returned (replied 0 c) ids lens) (closed-at (can-close m n (e6, (e10, tt))))

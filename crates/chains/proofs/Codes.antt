@@ -6,28 +6,27 @@ use mathlib.Core.Option.{none, some}
 use mathlib.Core.List.{List, []}
 use Prim.Native.Nat.{ℕ, suc, _^_, _≤_, _<_, max}
 use native.Mathlib.Omega.{arith}
-use lib.Dec.{leb, ltb, eqb}
+use lib.Dec.{leb, eqb}
 use lib.ListN.{length}
 use Rattle.base.specs.Tests.{Decides}
 use Rattle.base.proofs.Decides.{d-iff, d-leb, d-eqb, d-not, d-and, d-or}
 use Rattle.base.proofs.Numbers.{split, eqb-yes, false-lt}
 use Rattle.base.proofs.Tests.{and-left, and-right}
 use Rattle.rules.specs.Board
-use Rattle.rules.specs.Board.{tableLength, Record, Stand, out, queued, serving, at, depth, spent, freeShare, Has}
-use Rattle.rules.specs.Choice.{Out, refused, done, taken, sent, Turn, check, whereIs, isNone, leastReady, send, serve}
-use Rattle.rules.specs.Blocks.{freeAt}
+use Rattle.rules.specs.Board.{tableLength, Record, Stand, out, queued, serving, at, depth, waits, spent, Has}
+use Rattle.rules.specs.Choice.{Out, refused, done, taken, sent, Turn, refuse, whereIs, numberOutside, noneHas, someHas, lengthOutside, laneFull, takeRecord}
+use Rattle.rules.specs.Choice.{isNone, leastReady, send, serve}
+use Rattle.rules.specs.Blocks.{shareOutside, allTaken, overFree, openBlock, renameBlock, closeBlock}
 use Rattle.rules.specs.Spoilt.{isQueued, readyNum, unspoilt}
 use Rattle.rules.specs.Calls.{Single, open!, rename!, close!, record!, serve!, step, Call, one, burst!, told, codeOf}
 use Rattle.rules.specs.Calls.{Outcome, wrongTables, done!, refusedBy, unlessSpoilt, byBoard, byTables, call, makeBy, make}
 use Rattle.rules.specs.Burst.{Burst, burst}
 use Rattle.rules.specs.Runs.{answer}
 use Rattle.rules.specs.Promises.{serves, Stopped, byCall, byList, byBytes}
-use Rattle.rules.proofs.Cases.{Unserved, nobody, late, Begins, Refusal, where-number, serve-cases}
-use Rattle.rules.proofs.Calls.{where-share}
-use Rattle.rules.proofs.Checks.{take-checks, open-checks, rename-checks, close-checks}
+use Rattle.rules.proofs.Cases.{Unserved, nobody, late, Begins, Refusal, where-has, least-of, serve-cases}
 use Rattle.rules.proofs.Exact.{found-decides, unknown-decides, taken-decides, free-decides, waits-decides, none-wait}
 use Rattle.rules.proofs.Names.{has-where}
-use Rattle.rules.proofs.Shape.{LeastIs, least-is, queued-ok}
+use Rattle.rules.proofs.Shape.{LeastIs, queued-ok}
 use Rattle.rules.proofs.Promises.{burst-is-serves}
 use Rattle.rules.proofs.Refusals.{ServeOut, serve-codes, burst-codes}
 use Rattle.rules.proofs.Tidy.{Tidy}
@@ -40,7 +39,7 @@ use Rattle.calls.specs.Contract.{servedBy, boardOr, goodBurst, burstedBy, calle
 use Rattle.calls.proofs.Calling.{right-tables}
 use Rattle.calls.proofs.Promises.{burst-known}
 use Rattle.chains.specs.Codes.{Lines, last, line, ExactlyBelow, Exactly}
-use Rattle.chains.specs.Codes.{WrongTables, NoneWaits, SizeOutside, NoneHas, SomeHas, AllTaken, OverFree, BeginsLate, TooLate, ListFull, OverBytes}
+use Rattle.chains.specs.Codes.{WrongTables, NoneWaits, SizeOutside, OverFree, BeginsLate, TooLate, ListFull, OverBytes}
 use Rattle.chains.specs.Codes.{makeLines, lentLines, openLines, closeLines, renameLines, recordLines, serveLines, burstLines, Codes}
 
 -- ---- a code falls on a line: that line's condition holds, and that of no line above it
@@ -105,7 +104,7 @@ abbrev codeBy : Board.Board → Turn → ℕ
 codeBy m u = codeOf (told m (u .out))
 
 falls-check : (m : Board.Board) (t : Bool) (code : ℕ) (u : Turn) (rest : Lines) {P : Type 0} → Decides t P → (t ≡ false → Falls (codeBy m u) rest)
-    → Falls (codeBy m (check m t code u)) (line code P rest)
+    → Falls (codeBy m (cond t (refuse m code) u)) (line code P rest)
 unfolding Falls
 falls-check m true code u rest d f = inl (d .yes refl, refl)
 falls-check m false code u rest d f = inr (not-by d refl, f refl)
@@ -117,60 +116,51 @@ falls-done = refl
 -- ---- the block that has a number
 
 module _ (m : Board.Board) (g : Tidy m) where
-  some-has : (n : ℕ) → Decides (ltb (whereIs m n) 64) (SomeHas m n)
-  some-has n = found-decides m n g
-
-  none-has : (n : ℕ) → Decides (leb 64 (whereIs m n)) (NoneHas m n)
-  none-has n = unknown-decides m n g
-
   -- a test of the place that is found decides the fact of the place that has the number
-  at-found : (n : ℕ) {t : Bool} (P : ℕ → Type 0) → leb 64 (whereIs m n) ≡ false → Decides t (P (whereIs m n)) → Decides t ((p : ℕ) × Has m p n × P p)
+  at-found : (n : ℕ) {t : Bool} (P : ℕ → Type 0) → noneHas m n ≡ false → Decides t (P (whereIs m n)) → Decides t ((p : ℕ) × Has m p n × P p)
   at-found n P e d = record {
-    yes = λ h. let i = false-lt 64 (whereIs m n) e in (whereIs m n, record { inside = i; bought = where-share m n i; named = where-number m n i }, d .yes h);
+    yes = λ h. (whereIs m n, where-has m n (false-lt 64 (whereIs m n) e), d .yes h);
     no = λ w. d .no (subst P (sym (has-where m (w .0) n g (w .1))) (w .2));
   }
 
-  all-taken : Decides (leb 64 (freeAt m)) (AllTaken m)
-  all-taken = taken-decides m
-
-  over-free : (share : ℕ) → Decides (ltb (freeShare m) share) (OverFree m share)
+  over-free : (share : ℕ) → Decides (overFree m share) (OverFree m share)
   unfolding spent
   over-free share = free-decides m share (g .shape .spent)
 
   -- ---- the calls that look for a number
 
   open-falls : (n share : ℕ) → Falls (codeBy m (step m (open! n share))) (openLines m n share)
-  unfolding step
-  open-falls n share = rw (open-checks m n share) (
-      falls-check m (eqb n 0 || (eqb share 0 || ltb 65536 share)) 4 _ _ (d-or (d-eqb n 0) (d-or (d-eqb share 0) (d-leb (suc 65536) share))) λ e1.
-      falls-check m (ltb (whereIs m n) 64) 5 _ _ (some-has n) λ e2.
-      falls-check m (leb 64 (freeAt m)) 7 _ _ all-taken λ e3.
-      falls-check m (ltb (freeShare m) share) 8 _ _ (over-free share) λ e4. falls-done)
+  unfolding step openBlock
+  open-falls n share =
+      falls-check m (numberOutside n || shareOutside share) 4 _ _ (d-or (d-eqb n 0) (d-or (d-eqb share 0) (d-leb (suc 65536) share))) λ e4.
+      falls-check m (someHas m n) 5 _ _ (found-decides m n) λ e5.
+      falls-check m (allTaken m) 7 _ _ (taken-decides m) λ e7.
+      falls-check m (overFree m share) 8 _ _ (over-free share) λ e8. falls-done
 
   close-falls : (n : ℕ) → Falls (codeBy m (step m (close! n))) (closeLines m n)
-  unfolding step
-  close-falls n = rw (close-checks m n) (
-      falls-check m (leb 64 (whereIs m n)) 6 _ _ (none-has n) λ e1.
-      falls-check m (ltb 0 (length (at m (whereIs m n) .lane))) 10 _ _
-      (at-found n (λ p. at m p .lane ≢ []) e1 (waits-decides (at m (whereIs m n) .lane))) λ e2. falls-done)
+  unfolding step closeBlock
+  close-falls n =
+      falls-check m (noneHas m n) 6 _ _ (unknown-decides m n) λ e6.
+      falls-check m (waits (at m (whereIs m n))) 10 _ _
+      (at-found n (λ p. at m p .lane ≢ []) e6 (waits-decides (at m (whereIs m n) .lane))) λ e10. falls-done
 
   rename-falls : (old new : ℕ) → Falls (codeBy m (step m (rename! old new))) (renameLines m old new)
-  unfolding step
-  rename-falls old new = rw (rename-checks m old new) (
-      falls-check m (eqb new 0) 4 _ _ (d-eqb new 0) λ e1.
-      falls-check m (leb 64 (whereIs m old)) 6 _ _ (none-has old) λ e2.
-      falls-check m (ltb (whereIs m new) 64) 5 _ _ (some-has new) λ e3. falls-done)
+  unfolding step renameBlock
+  rename-falls old new =
+      falls-check m (numberOutside new) 4 _ _ (d-eqb new 0) λ e4.
+      falls-check m (noneHas m old) 6 _ _ (unknown-decides m old) λ e6.
+      falls-check m (someHas m new) 5 _ _ (found-decides m new) λ e5. falls-done
 
   record-falls : (n : ℕ) (r : Record) → Falls (codeBy m (step m (record! n r))) (recordLines m n r)
-  unfolding step
-  record-falls n r = rw (take-checks m n r) (
-      falls-check m (eqb n 0 || (eqb (r .bytes) 0 || ltb (m .largest) (r .bytes))) 4 _ _
-      (d-or (d-eqb n 0) (d-or (d-eqb (r .bytes) 0) (d-leb (suc (m .largest)) (r .bytes)))) λ e1.
-      falls-check m (leb 64 (whereIs m n)) 6 _ _ (none-has n) λ e2.
-      falls-check m (leb 32 (length (at m (whereIs m n) .lane))) 9 _ _
-      (at-found n (λ p. length (at m p .lane) ≡ depth (at m p)) e2 (full (whereIs m n))) λ e3. falls-done)
+  unfolding step takeRecord
+  record-falls n r =
+      falls-check m (numberOutside n || lengthOutside m (r .bytes)) 4 _ _
+      (d-or (d-eqb n 0) (d-or (d-eqb (r .bytes) 0) (d-leb (suc (m .largest)) (r .bytes)))) λ e4.
+      falls-check m (noneHas m n) 6 _ _ (unknown-decides m n) λ e6.
+      falls-check m (laneFull (at m (whereIs m n))) 9 _ _
+      (at-found n (λ p. length (at m p .lane) ≡ depth (at m p)) e6 (full (whereIs m n))) λ e9. falls-done
     where
-      full : (p : ℕ) → Decides (leb 32 (length (at m p .lane))) (length (at m p .lane) ≡ 32)
+      full : (p : ℕ) → Decides (laneFull (at m p)) (length (at m p .lane) ≡ 32)
       full p = d-iff (d-leb 32 (length (at m p .lane))) (λ l. omega (arith, g .shape .placeOk p .brief)) (λ e. omega arith)
 
   -- ---- a serve
@@ -191,17 +181,14 @@ module _ (m : Board.Board) (g : Tidy m) where
     begins = λ r t p c e. inr (λ n. waiting p (c .lane) (n p), inr (λ w. soon r t p c (w .late), refl));
   })
     where
-      first : (r : ℕ) → leastReady (m .places) ≡ some r → LeastIs (m .places) (some r)
-      first r e = subst (LeastIs (m .places)) e (least-is (m .places))
-
       late-by : (r : ℕ) → leastReady (m .places) ≡ some r → 2 ^ 62 ≤ max (m .clock) r → (2 ^ 62 ≤ m .clock) ⊎ (m .clock < 2 ^ 62) → BeginsLate m
       late-by r e h (inl l) = inl l
-      late-by r e h (inr l) = inr (λ p t q. omega (arith, first r e .0 p (ap isQueued q), ap readyNum q))
+      late-by r e h (inr l) = inr (λ p t q. omega (arith, least-of m r e .0 p (ap isQueued q), ap readyNum q))
 
       un : (code : ℕ) → Unserved m code → Refusal code → Falls code (serveLines m)
       un code (nobody e f) k = inl (none-wait m g e f, refl)
       un code (late r e f h) k =
-          let i = first r f .1 in
+          let i = least-of m r f .1 in
           let x = at m (i .0) in
           let w = waiting (i .0) (queued-ok (m .largest) (x .share) (x .lane) (x .stand) (i .1) (g .shape .placeOk (i .0) .standOk) .0) in
           inr (λ n. w (n (i .0)), inl (record { waits = (i .0, w); slot = e; late = late-by r f h (split (2 ^ 62) (m .clock)) }, refl))
@@ -209,7 +196,7 @@ module _ (m : Board.Board) (g : Tidy m) where
       soon : (r t p : ℕ) → Begins m r t p → BeginsLate m → ⊥
       soon r t p c (inl l) = omega (arith, c .time, c .soon)
       soon r t p c (inr f) =
-          let i = first r (c .least) .1 in
+          let i = least-of m r (c .least) .1 in
           omega (arith, c .time, c .soon, i .2, f (i .0) (readyNum (at m (i .0) .stand)) (queued-is (at m (i .0) .stand) (i .1)))
 
 -- ---- a burst: as the single serving call on the board that it left, and then by its list and its bytes

@@ -16,7 +16,7 @@ use Rattle.rules.specs.Board
 use Rattle.rules.specs.Board.{Place, freePlace, at}
 use Rattle.rules.specs.Choice.{whereIs}
 use Rattle.rules.specs.Blocks.{freeAt}
-use Rattle.rules.proofs.Calls.{not-zero, or-left}
+use Rattle.rules.proofs.Cases.{not-zero, or-left}
 use Rattle.rules.proofs.Tidy.{Tidy}
 use Rattle.board.specs.Reading.{encode}
 use Rattle.engine.specs.Steps.{foundIn}

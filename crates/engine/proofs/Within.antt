@@ -16,7 +16,7 @@ use Rattle.rules.specs.Board.{Record, at, charge}
 use Rattle.rules.specs.Choice.{Out, refused, sent, serve}
 use Rattle.rules.specs.Burst.{stopped, sentFirst, burst}
 use Rattle.rules.specs.Calls.{serve!, step}
-use Rattle.rules.proofs.Tidy.{tidy-serve}
+use Rattle.rules.proofs.TidyCalls.{tidy-serve}
 use Rattle.rules.proofs.Frame.{seventeen-step}
 use Rattle.board.specs.Reading.{encode, Holds}
 use Rattle.board.proofs.Reading.{Fit}

@@ -10,7 +10,7 @@ use lib.ListN.{length, length-append}
 use lib.Seq.{getD-set-same}
 use Rattle.base.proofs.Numbers.{eqb-true, eqb-yes}
 use Rattle.rules.specs.Board.{Record, Board, at, charge, freePlace, Has}
-use Rattle.rules.specs.Choice.{Out, refused, done, taken, sent, Turn, send, takenIn, joining, joins, goOn, more}
+use Rattle.rules.specs.Choice.{Out, refused, done, taken, sent, Turn, send, takenIn, joining, joins, goOn, more, tookAt}
 use Rattle.rules.specs.Calls.{Single, open!, rename!, close!, record!, serve!, step, told}
 use Rattle.rules.specs.Runs.{answer, isDone, numberAfter, closes, isFor, classAt, bytesOf, bytesIn, Unsent, ComesToFront, intoEmpty, nextUp, NotSpent, servesIn}
 use Rattle.rules.specs.Promises.{bound}
@@ -21,7 +21,6 @@ use Rattle.rules.proofs.Tidy.{Tidy}
 use Rattle.rules.proofs.TidyCalls.{tidy-step}
 use Rattle.rules.proofs.Cases.{Refusal, refusal-not0, CanTake, call-cases}
 use Rattle.rules.proofs.Names.{Follows, follows, has-lane, has-share}
-use Rattle.rules.proofs.Checks.{tookAt}
 
 -- what is told of a send is what was sent
 pub bytes-told : (b : Board) (o : Out) → bytesOf (told b o) ≡ bytesSent o

@@ -1,31 +1,32 @@
 -- The other calls keep the invariant.
 use mathlib.Core.Path.{_≡_, refl, sym, ap, ap₂, _∙_}
-use mathlib.Core.Bool.{Bool, true, false, cond, _&&_, _||_, true≢false, false≢true}
+use mathlib.Core.Bool.{Bool, true, false, cond, true≢false, false≢true}
 use mathlib.Core.Logic.{_⊎_, inl, inr, _≢_}
 use mathlib.Core.Option.{Option, none, some}
 use mathlib.Core.List.{List, [], _∷_, _++_}
-use Prim.Native.Nat.{ℕ, suc, _+_, _*_, _-_, _≤_, _<_}
+use Prim.Native.Nat.{ℕ, _+_, _*_, _-_, _≤_, _<_}
 use native.Mathlib.Omega.{arith}
 use native.Mathlib.Nat.{le-of-eq}
 use native.Mathlib.Decide.{ℕ-discrete}
-use lib.Dec.{leb, ltb, eqb}
-use lib.ListN.{length, set, length-append, List·getD-append, List·getD-eq-default}
+use lib.Dec.{leb}
+use lib.ListN.{length, set, length-append, List·getD-append}
 use lib.Seq.{getD-set-same, getD-set-other}
-use Rattle.base.proofs.Numbers.{split, leb-yes, true-le, false-lt, eqb-yes, eqb-true}
+use Rattle.base.proofs.Numbers.{true-le, false-lt, eqb-yes}
 use Rattle.base.specs.Tests.{least}
-use Rattle.base.proofs.Tests.{least-true, least-false, and-right, and-left}
+use Rattle.base.proofs.Tests.{and-right}
 use Rattle.units.specs.Classes.{nextStart, classOf}
 use Rattle.rules.specs.Spoilt.{isQueued, isServing, readyNum, isAt}
 use Rattle.rules.specs.Board.{Record, noRecord, Stand, out, queued, serving, Place, freePlace, blockClass, Board, at, spent}
-use Rattle.rules.specs.Choice.{upd, done, leastReady, isNone, goOn, more, joins, joining, takenIn, takeRecord, whereIs, Taken, taken}
-use Rattle.rules.specs.Blocks.{opened, freeAt, openBlock, quiet, closed, closeBlock, renamed, renameBlock}
+use Rattle.rules.specs.Choice.{upd, done, leastReady, isNone, goOn, more, joins, joining, takenIn, tookAt, Taken, taken}
+use Rattle.rules.specs.Blocks.{opened, freeAt, quiet, closed, renamed}
 use Rattle.rules.proofs.Potential.{ahead-join}
 use Rattle.rules.proofs.Orders.{pl, ready}
-use Rattle.rules.proofs.Shape.{names-kept, names-set, named-num, PlaceOk, StandOk, All, all-snoc, LeastIs, least-is, Fit, most-pos}
-use Rattle.rules.proofs.Good.{seatOf, Fine, fine-same, fine-join, fine-open, fine-close, fine-close-quiet, sum-seats}
+use Rattle.rules.proofs.Shape.{Shape, Distinct, names-kept, names-set, named-num, PlaceOk, StandOk, All, all-snoc, LeastIs, least-is, Fit, most-pos}
+use Rattle.rules.proofs.Good.{seatOf, Fine, fine-same, fine-join, fine-open, fine-close, fine-close-quiet}
 use Rattle.rules.proofs.Slot.{serving-ok}
-use Rattle.rules.proofs.Turns.{Good, busy, inLine, slotLeft, most, phi, phi-queued, limit, Keeps, keeps-check, lit, Goes, goes-same, handBy, hand, Bars, bars-same, barBy, barOf, dueTime}
-use Rattle.rules.proofs.Checks.{take-checks, rename-checks, open-checks, close-checks}
+use Rattle.rules.proofs.Turns.{Good, busy, inLine, slotLeft, most, phi, phi-queued, limit, Keeps, lit, Goes, goes-same, handBy, hand, Bars, bars-same}
+use Rattle.rules.proofs.Turns.{barBy, barOf, dueTime}
+use Rattle.rules.proofs.Cases.{Nobody, CanOpen, CanRename, CanClose, CanTake, has-at}
 
 -- a stand and a share decide what is ahead
 seat-same : (x y : Place) → x .share ≡ y .share → x .stand ≡ y .stand → seatOf x ≡ seatOf y
@@ -151,11 +152,12 @@ keeps-join L c l o s H o′ p x h was is g0 g = record { good = g; stays = stays
         go (no f) = absurd (true≢false (sym (rw (getD-set-other l p q x freePlace f) at w) ∙ e))
 
 -- A RECORD COMES
-pub more-ok : (L share : ℕ) (lane : List Record) (x : Record) (s : Stand) → 1 ≤ length lane → StandOk L share lane s → StandOk L share (lane ++ (x ∷ [])) s
+stand-more : (L share : ℕ) (lane : List Record) (x : Record) (s : Stand) → 1 ≤ length lane → StandOk L share lane s → StandOk L share (lane ++ (x ∷ [])) s
 unfolding StandOk
-more-ok L share lane x out h k = absurd (omega arith)
-more-ok L share lane x (queued r) h k = (rw (length-append lane (x ∷ [])) (omega arith), k .1)
-more-ok L share lane x (serving n) h k = (rw (length-append lane (x ∷ [])) (omega arith), k .1, rw (List·getD-append lane (x ∷ []) noRecord 0 h) (k .2), k .3)
+stand-more L share lane x out h k = absurd (omega arith)
+stand-more L share lane x (queued r) h k = (rw (length-append lane (x ∷ [])) (omega arith), k .1)
+stand-more L share lane x (serving n) h k =
+    (rw (length-append lane (x ∷ [])) (omega arith), k .1, rw (List·getD-append lane (x ∷ []) noRecord 0 h) (k .2), k .3)
 
 -- what a change at p leaves as it was
 pub set-field : {A : Type 0} (f : Place → A) (l : List Place) (p : ℕ) (x : Place) → p < length l → f x ≡ f (pl l p) → (q : ℕ) → f (pl (set l p x) q) ≡ f (pl l q)
@@ -165,75 +167,127 @@ set-field f l p x h e q = go (ℕ-discrete q p)
     go (yes w) = rw (w, getD-set-same l p x freePlace h) e
     go (no w) = rw (getD-set-other l p q x freePlace w)
 
-pub or-left : (a b : Bool) → a || b ≡ false → a ≡ false
-or-left true b e = e
-or-left false b e = refl
+-- ---- What a done call finds and leaves at its place
 
-pub or-right : (a b : Bool) → a || b ≡ false → b ≡ false
-or-right true b e = absurd (true≢false e)
-or-right false b e = e
+module _ (b : Board) (sh : Shape (b .largest) (b .clock) (b .places) (b .orders) (b .held)) where
+  abbrev L : ℕ
+  L = b .largest
 
-module _ (b : Board) (p : ℕ) (x : Record) (p64 : p < 64) (bought : 1 ≤ at b p .share) (small : Fit (b .largest) x) (depth : length (at b p .lane) < 32) (g : Good b) where
+  pub in-places : (p : ℕ) → p < 64 → p < length (b .places)
+  in-places p h = omega (arith, sh .all64)
+
+  -- no other open block has the number that the place has now
+  pub names-new : (p : ℕ) (x : Place) → p < 64 → Nobody b (x .number) → Distinct (set (b .places) p x)
+  names-new p x h nobody = names-set (b .places) p x (in-places p h) (λ q ne a _ f. nobody q (has-at b q (x .number) (sh .all64) a f)) (sh .names)
+
+  pub free-out : (n s : ℕ) → CanOpen b n s → at b (freeAt b) .stand ≡ out
+  free-out n s can = let x = at b (freeAt b) in share-out L (x .share) (x .lane) (x .stand) (can .free) (sh .placeOk (freeAt b) .standOk)
+
+  pub opened-ok : (n s : ℕ) → CanOpen b n s → PlaceOk L (opened n s)
+  unfolding All StandOk
+  opened-ok n s can = record {
+    items = tt;
+    owed = omega (arith, most-pos (b .largest) (sh .least));
+    most = omega (arith, can .room);
+    standOk = refl;
+    brief = omega arith;
+    ring = omega arith;
+    clear = λ _. refl;
+    named = inr (can .number, can .share);
+  }
+
+  pub renamed-ok : (p old new : ℕ) → CanRename b p old new → PlaceOk L (renamed new (at b p))
+  renamed-ok p old new can =
+      let k = sh .placeOk p in
+      record {
+        items = k .items;
+        owed = k .owed;
+        most = k .most;
+        standOk = k .standOk;
+        brief = k .brief;
+        ring = k .ring;
+        clear = k .clear;
+        named = inr (can .number, can .has .bought);
+      }
+
+  pub empty-out : (p : ℕ) → length (at b p .lane) ≤ 0 → at b p .stand ≡ out
+  empty-out p h = lane-out L (at b p .share) (at b p .lane) (at b p .stand) h (sh .placeOk p .standOk)
+
+  module _ (p n : ℕ) (r : Record) (can : CanTake b p n r) where
+    isNamed : {y : Place} → (y ≡ freePlace) ⊎ ((1 ≤ at b p .number) × (1 ≤ at b p .share))
+    isNamed = inr (named-num (at b p) (can .has .bought) (sh .placeOk p .named), can .has .bought)
+
+    pub joins-ok : PlaceOk L (joins (b .clock) (at b p) r)
+    unfolding All StandOk
+    joins-ok =
+        let k = sh .placeOk p in
+        record {
+          items = ((can .least, can .most), tt);
+          owed = k .owed;
+          most = k .most;
+          standOk = (omega arith, can .has .bought);
+          brief = omega arith;
+          ring = k .ring;
+          clear = λ f. absurd (true≢false f);
+          named = isNamed;
+        }
+
+    pub more-ok : 1 ≤ length (at b p .lane) → PlaceOk L (more (at b p) r)
+    more-ok h =
+        let k = sh .placeOk p in
+        record {
+          items = all-snoc (Fit L) (at b p .lane) r (k .items) (can .least, can .most);
+          owed = k .owed;
+          most = k .most;
+          standOk = stand-more L (at b p .share) (at b p .lane) r (at b p .stand) h (k .standOk);
+          brief = rw (length-append (at b p .lane) (r ∷ [])) (omega (arith, can .room));
+          ring = k .ring;
+          clear = k .clear;
+          named = isNamed;
+        }
+
+-- a place that keeps its stand, share and deficit
+keeps-kept : (b : Board) (p : ℕ) (z : Place) → Good b → p < length (b .places)
+    → z .stand ≡ at b p .stand → z .share ≡ at b p .share → z .deficit ≡ at b p .deficit
+    → Distinct (set (b .places) p z) → PlaceOk (b .largest) z → Keeps b (record { out = done; next = goOn b p z })
+keeps-kept b p z g in-p stand share deficit names zok =
+    keeps-quiet (b .largest) (b .clock) (b .places) (b .orders) (b .slot) (b .held) (set (b .places) p z) (b .orders) (b .held)
+    (set-field (λ w. w .stand) (b .places) p z in-p stand)
+    (λ q _. (set-field (λ w. w .share) (b .places) p z in-p share q, set-field (λ w. w .deficit) (b .places) p z in-p deficit q))
+    (record {
+      fine = fine-same p z in-p (seat-same z (at b p) share stand) names zok (g .fine);
+      one = λ q. set-field (λ w. isServing (w .stand)) (b .places) p z in-p (ap isServing stand) q ∙ g .one q;
+    })
+
+module _ (b : Board) (p n : ℕ) (x : Record) (can : CanTake b p n x) (g : Good b) where
   in-l : p < length (b .places)
-  in-l = omega (arith, g .fine .shape .all64)
+  in-l = in-places b (g .fine .shape) p (can .has .inside)
 
   keeps-taken : Keeps b (record { out = done; next = takenIn b p x })
-  unfolding takenIn All StandOk
+  unfolding takenIn
   keeps-taken = go (leb (length (at b p .lane)) 0) refl
     where
-      pok : PlaceOk (b .largest) (at b p)
-      pok = g .fine .shape .placeOk p
-
-      isNamed : {y : Place} → (y ≡ freePlace) ⊎ ((1 ≤ at b p .number) × (1 ≤ at b p .share))
-      isNamed = inr (named-num (at b p) bought (pok .named), bought)
-
       go : (t : Bool) → leb (length (at b p .lane)) 0 ≡ t → Keeps b (record { out = done; next = cond t (joining b p (joins (b .clock) (at b p) x)) (goOn b p (more (at b p) x)) })
-      go true e = keeps-join (b .largest) (b .clock) (b .places) (b .orders) (b .slot) (b .held) (joining b p y .orders) p y in-l was refl g
-          (record { fine = fine-join p (at b p .start) (x ∷ []) (at b p .deficit) in-l (busy-le (b .slot)) (ap isQueued was) bought yok (g .fine); one = λ q. set-field (λ z. isServing (z .stand)) (b .places) p y in-l (sym (ap isServing was)) q ∙ g .one q })
+      go true e =
+          keeps-join (b .largest) (b .clock) (b .places) (b .orders) (b .slot) (b .held) (joining b p y .orders) p y in-l was refl g
+          (record { fine = fine; one = λ q. set-field (λ z. isServing (z .stand)) (b .places) p y in-l (sym (ap isServing was)) q ∙ g .one q })
         where
           y : Place
           y = joins (b .clock) (at b p) x
 
           was : at b p .stand ≡ out
-          was = lane-out (b .largest) (at b p .share) (at b p .lane) (at b p .stand) (true-le (length (at b p .lane)) 0 e) (pok .standOk)
+          was = empty-out b (g .fine .shape) p (true-le (length (at b p .lane)) 0 e)
 
-          yok : PlaceOk (b .largest) y
-          yok = record { items = (small, tt); owed = pok .owed; most = pok .most; standOk = (omega arith, bought); brief = omega arith; ring = pok .ring; clear = λ f. absurd (true≢false f); named = isNamed }
-      go false e = keeps-quiet (b .largest) (b .clock) (b .places) (b .orders) (b .slot) (b .held) (set (b .places) p z) (b .orders) (b .held)
-          (set-field (λ w. w .stand) (b .places) p z in-l refl) (λ q _. (set-field (λ w. w .share) (b .places) p z in-l refl q, set-field (λ w. w .deficit) (b .places) p z in-l refl q))
-          (record { fine = fine-same p z in-l refl (names-kept (b .places) p z in-l refl refl (g .fine .shape .names)) zok (g .fine); one = λ q. set-field (λ w. isServing (w .stand)) (b .places) p z in-l refl q ∙ g .one q })
+          fine : Fine (b .largest) (b .clock) (busy (b .slot)) (set (b .places) p y) (joining b p y .orders) (b .held)
+          fine =
+              let bought = can .has .bought in
+              let yok = joins-ok b (g .fine .shape) p n x can in
+              fine-join p (at b p .start) (x ∷ []) (at b p .deficit) in-l (busy-le (b .slot)) (ap isQueued was) bought yok (g .fine)
+      go false e = keeps-kept b p z g in-l refl refl refl (names-kept (b .places) p z in-l refl refl (g .fine .shape .names))
+          (more-ok b (g .fine .shape) p n x can (false-lt (length (at b p .lane)) 0 e))
         where
           z : Place
           z = more (at b p) x
-
-          zok : PlaceOk (b .largest) z
-          zok = record { items = all-snoc (Fit (b .largest)) (at b p .lane) x (pok .items) small; owed = pok .owed; most = pok .most; standOk = more-ok (b .largest) (at b p .share) (at b p .lane) x (at b p .stand) (false-lt (length (at b p .lane)) 0 e) (pok .standOk); brief = rw (length-append (at b p .lane) (x ∷ [])) (omega arith); ring = pok .ring; clear = pok .clear; named = isNamed }
-
-pub where-share : (b : Board) (n : ℕ) → whereIs b n < 64 → 1 ≤ at b (whereIs b n) .share
-unfolding whereIs
-where-share b n h = true-le 1 (at b (whereIs b n) .share) (and-left (ltb 0 (at b (whereIs b n) .share)) (eqb n (at b (whereIs b n) .number)) (least-true (λ i. ltb 0 (at b i .share) && eqb n (at b i .number)) 64 h))
-
-pub not-zero : (n : ℕ) → eqb n 0 ≡ false → 1 ≤ n
-not-zero n e = go (ℕ-discrete n 0)
-  where
-    go : Dec (n ≡ 0) → 1 ≤ n
-    go (yes f) = absurd (true≢false (sym (eqb-yes n 0 f) ∙ e))
-    go (no f) = omega arith
-
--- no open block has a number that is not found
-pub where-none : (b : Board) (n : ℕ) → length (b .places) ≡ 64 → ltb (whereIs b n) 64 ≡ false → (q : ℕ) → 1 ≤ at b q .share → at b q .number ≡ n → ⊥
-unfolding whereIs
-where-none b n len e q h f = go (split 64 q)
-  where
-    t : ℕ → Bool
-    t i = ltb 0 (at b i .share) && eqb n (at b i .number)
-
-    isT : t q ≡ true
-    isT = rw (leb-yes 1 (at b q .share) h, eqb-yes n (at b q .number) (sym f))
-
-    go : (64 ≤ q) ⊎ (q < 64) → ⊥
-    go (inr k) = true≢false (sym isT ∙ least-false t 64 q (omega (arith, false-lt (suc (least t 64)) 64 e)))
-    go (inl k) = omega (arith, ap (λ (x : Place). x .share) (List·getD-eq-default (b .places) freePlace {n = q} (omega arith)))
 
 -- a record that was taken is no send
 keeps-as : (b nb : Board) (a : Taken) → Keeps b (record { out = done; next = nb }) → Keeps b (record { out = taken a; next = nb })
@@ -247,35 +301,15 @@ keeps-as b nb a k =
       comes = k .comes;
     }
 
-pub keeps-record : (b : Board) (n : ℕ) (x : Record) → Good b → Keeps b (takeRecord b n x)
-keeps-record b n x g = rw (take-checks b n x) (
-    keeps-check b (eqb n 0 || (eqb (x .bytes) 0 || ltb (b .largest) (x .bytes))) 4 _ g λ e1.
-    keeps-check b (leb 64 (whereIs b n)) 6 _ g λ e2.
-    keeps-check b (leb 32 (length (at b (whereIs b n) .lane))) 9 _ g λ e3.
-    let small = false-lt (suc (b .largest)) (x .bytes) (or-right (eqb (x .bytes) 0) (ltb (b .largest) (x .bytes)) (or-right (eqb n 0) (eqb (x .bytes) 0 || ltb (b .largest) (x .bytes)) e1)) in
-    let p64 = false-lt 64 (whereIs b n) e2 in
-    keeps-as b _ _ (keeps-taken b (whereIs b n) x p64 (where-share b n p64) (not-zero (x .bytes) (or-left (eqb (x .bytes) 0) (ltb (b .largest) (x .bytes)) (or-right (eqb n 0) (eqb (x .bytes) 0 || ltb (b .largest) (x .bytes)) e1)), omega arith) (false-lt 32 (length (at b (whereIs b n) .lane)) e3) g))
+pub keeps-record : (b : Board) (p n : ℕ) (x : Record) → CanTake b p n x → Good b → Keeps b (tookAt b p x)
+keeps-record b p n x can g = keeps-as b _ _ (keeps-taken b p n x can g)
 
-pub keeps-rename : (b : Board) (n m : ℕ) → Good b → Keeps b (renameBlock b n m)
-keeps-rename b n m g = rw (rename-checks b n m) (
-    keeps-check b (eqb m 0) 4 _ g λ e1.
-    keeps-check b (leb 64 (whereIs b n)) 6 _ g λ e2.
-    keeps-check b (ltb (whereIs b m) 64) 5 _ g λ e3.
-    keeps-quiet (b .largest) (b .clock) (b .places) (b .orders) (b .slot) (b .held) (set (b .places) p z) (b .orders) (b .held)
-    (set-field (λ w. w .stand) (b .places) p z (in-p e2) refl) (λ q _. (set-field (λ w. w .share) (b .places) p z (in-p e2) refl q, set-field (λ w. w .deficit) (b .places) p z (in-p e2) refl q))
-    (record { fine = fine-same p z (in-p e2) refl (names-set (b .places) p z (in-p e2) (λ q ne a _ f. where-none b m (g .fine .shape .all64) e3 q a f) (g .fine .shape .names)) (zok e1 e2) (g .fine); one = λ q. set-field (λ w. isServing (w .stand)) (b .places) p z (in-p e2) refl q ∙ g .one q }))
-  where
-    p : ℕ
-    p = whereIs b n
-
-    z : Place
-    z = renamed m (at b p)
-
-    in-p : leb 64 (whereIs b n) ≡ false → whereIs b n < length (b .places)
-    in-p e = omega (arith, g .fine .shape .all64, false-lt 64 (whereIs b n) e)
-
-    zok : eqb m 0 ≡ false → leb 64 (whereIs b n) ≡ false → PlaceOk (b .largest) z
-    zok e1 e2 = let k = g .fine .shape .placeOk p in record { items = k .items; owed = k .owed; most = k .most; standOk = k .standOk; brief = k .brief; ring = k .ring; clear = k .clear; named = inr (not-zero m e1, where-share b n (false-lt 64 (whereIs b n) e2)) }
+pub keeps-rename : (b : Board) (p old new : ℕ) → CanRename b p old new → Good b → Keeps b (record { out = done; next = goOn b p (renamed new (at b p)) })
+keeps-rename b p old new can g =
+    let sh = g .fine .shape in
+    let x = renamed new (at b p) in
+    let names = names-new b sh p x (can .has .inside) (can .nobody) in
+    keeps-kept b p x g (in-places b sh p (can .has .inside)) refl refl refl names (renamed-ok b sh p old new can)
 
 -- a place that is out may change its share
 share-else : (l : List Place) (p : ℕ) (x : Place) → pl l p .stand ≡ out → (q : ℕ) → inLine (pl l q .stand) ≡ true → (pl (set l p x) q .share ≡ pl l q .share) × (pl (set l p x) q .deficit ≡ pl l q .deficit)
@@ -285,19 +319,15 @@ share-else l p x was q w = rw (getD-set-other l p q x freePlace ne) (refl, refl)
     ne e = false≢true (sym (ap inLine was) ∙ rw e at w)
 
 -- OPEN
-pub keeps-open : (b : Board) (n s : ℕ) → Good b → Keeps b (openBlock b n s)
-unfolding spent freeAt All StandOk
-keeps-open b n s g = rw (open-checks b n s) (
-    keeps-check b (eqb n 0 || (eqb s 0 || ltb 65536 s)) 4 _ g λ e1.
-    keeps-check b (ltb (whereIs b n) 64) 5 _ g λ e2.
-    keeps-check b (leb 64 (freeAt b)) 7 _ g λ e3.
-    keeps-check b (ltb (65536 - spent b) s) 8 _ g λ e4.
+pub keeps-open : (b : Board) (n s : ℕ) → CanOpen b n s → Good b → Keeps b (record { out = done; next = goOn b (freeAt b) (opened n s) })
+unfolding spent
+keeps-open b n s can g =
     keeps-quiet (b .largest) (b .clock) (b .places) (b .orders) (b .slot) (b .held) (set (b .places) p z) (b .orders) (b .held)
-    (set-field (λ w. w .stand) (b .places) p z (in-p e3) (sym (was e3))) (share-else (b .places) p z (was e3))
+    (set-field (λ w. w .stand) (b .places) p z in-p (sym was)) (share-else (b .places) p z was)
     (record {
-      fine = fine-open p n s (in-p e3) (seat-same (at b p) freePlace (none e3) (was e3)) (names-set (b .places) p z (in-p e3) (λ q ne a _ f. where-none b n (g .fine .shape .all64) e2 q a f) (g .fine .shape .names)) (zok e1) (omega (arith, small e1, false-lt (suc (65536 - spent b)) s e4, g .fine .sound .bought, sum-seats (b .places))) (g .fine);
-      one = λ q. set-field (λ w. isServing (w .stand)) (b .places) p z (in-p e3) (sym (ap isServing (was e3))) q ∙ g .one q;
-    }))
+      fine = fine-open p n s in-p seat names (opened-ok b (g .fine .shape) n s can) (omega (arith, can .room)) (g .fine);
+      one = λ q. set-field (λ w. isServing (w .stand)) (b .places) p z in-p (sym (ap isServing was)) q ∙ g .one q;
+    })
   where
     p : ℕ
     p = freeAt b
@@ -305,54 +335,44 @@ keeps-open b n s g = rw (open-checks b n s) (
     z : Place
     z = opened n s
 
-    small : eqb n 0 || (eqb s 0 || ltb 65536 s) ≡ false → s ≤ 65536
-    small e = omega (arith, false-lt (suc 65536) s (or-right (eqb s 0) (ltb 65536 s) (or-right (eqb n 0) (eqb s 0 || ltb 65536 s) e)))
+    in-p : freeAt b < length (b .places)
+    in-p = in-places b (g .fine .shape) (freeAt b) (can .inside)
 
-    zok : eqb n 0 || (eqb s 0 || ltb 65536 s) ≡ false → PlaceOk (b .largest) z
-    zok e = record { items = tt; owed = omega (arith, most-pos (b .largest) (g .fine .shape .least)); most = small e; standOk = refl; brief = omega arith; ring = omega arith; clear = λ _. refl; named = inr (not-zero n (or-left (eqb n 0) (eqb s 0 || ltb 65536 s) e), not-zero s (or-left (eqb s 0) (ltb 65536 s) (or-right (eqb n 0) (eqb s 0 || ltb 65536 s) e))) }
+    was : at b (freeAt b) .stand ≡ out
+    was = free-out b (g .fine .shape) n s can
 
-    in64 : leb 64 (freeAt b) ≡ false → freeAt b < 64
-    in64 e = false-lt 64 (freeAt b) e
+    seat : seatOf (at b (freeAt b)) ≡ seatOf freePlace
+    seat = seat-same (at b (freeAt b)) freePlace (can .free) was
 
-    in-p : leb 64 (freeAt b) ≡ false → freeAt b < length (b .places)
-    in-p e = omega (arith, g .fine .shape .all64, in64 e)
-
-    none : leb 64 (freeAt b) ≡ false → at b p .share ≡ 0
-    none e = eqb-true (at b p .share) 0 (least-true (λ i. eqb (at b i .share) 0) 64 (in64 e))
-
-    was : leb 64 (freeAt b) ≡ false → at b p .stand ≡ out
-    was e = share-out (b .largest) (at b p .share) (at b p .lane) (at b p .stand) (none e) (g .fine .shape .placeOk p .standOk)
+    names : Distinct (set (b .places) (freeAt b) (opened n s))
+    names = names-new b (g .fine .shape) (freeAt b) (opened n s) (can .inside) (can .nobody)
 
 -- CLOSE
-pub keeps-close : (b : Board) (n : ℕ) → Good b → Keeps b (closeBlock b n)
+pub keeps-close : (b : Board) (p n : ℕ) → CanClose b p n → Good b → Keeps b (record { out = done; next = closed b p })
 unfolding closed quiet LeastIs
-keeps-close b n g = rw (close-checks b n) (
-    keeps-check b (leb 64 (whereIs b n)) 6 _ g λ e1.
-    keeps-check b (ltb 0 (length (at b (whereIs b n) .lane))) 10 _ g λ e2.
+keeps-close b p n can g =
     keeps-quiet (b .largest) (b .clock) (b .places) (b .orders) (b .slot) (b .held) (set (b .places) p freePlace) (b .orders) H′
-    (set-field (λ w. w .stand) (b .places) p freePlace (in-p e1) (sym (was e2))) (share-else (b .places) p freePlace (was e2))
-    (record { fine = fine e1 e2 (quiet b) refl; one = λ q. set-field (λ w. isServing (w .stand)) (b .places) p freePlace (in-p e1) (sym (ap isServing (was e2))) q ∙ g .one q }))
+    (set-field (λ w. w .stand) (b .places) p freePlace in-p (sym was)) (share-else (b .places) p freePlace was)
+    (record { fine = fine (quiet b) refl; one = λ q. set-field (λ w. isServing (w .stand)) (b .places) p freePlace in-p (sym (ap isServing was)) q ∙ g .one q })
   where
-    p : ℕ
-    p = whereIs b n
-
     held : ℕ → ℕ
     held = upd (b .held) (blockClass (at b p)) (b .held (blockClass (at b p)) + at b p .share)
 
     H′ : ℕ → ℕ
     H′ = cond (quiet b) (b .held) held
 
-    in-p : leb 64 (whereIs b n) ≡ false → whereIs b n < length (b .places)
-    in-p e = omega (arith, g .fine .shape .all64, false-lt 64 (whereIs b n) e)
+    in-p : p < length (b .places)
+    in-p = in-places b (g .fine .shape) p (can .has .inside)
 
-    was : ltb 0 (length (at b (whereIs b n) .lane)) ≡ false → at b p .stand ≡ out
-    was e = lane-out (b .largest) (at b p .share) (at b p .lane) (at b p .stand) (omega (arith, false-lt 1 (length (at b (whereIs b n) .lane)) e)) (g .fine .shape .placeOk p .standOk)
+    was : at b p .stand ≡ out
+    was = empty-out b (g .fine .shape) p (omega (arith, can .empty))
 
     nobody : (m : Option ℕ) → LeastIs (b .places) m → isNone m ≡ true → (i : ℕ) → isQueued (at b i .stand) ≡ false
     nobody none l e = l
     nobody (some r) l e = absurd (false≢true e)
 
-    fine : leb 64 (whereIs b n) ≡ false → ltb 0 (length (at b (whereIs b n) .lane)) ≡ false → (t : Bool) → quiet b ≡ t
-        → Fine (b .largest) (b .clock) (busy (b .slot)) (set (b .places) p freePlace) (b .orders) (cond t (b .held) held)
-    fine e1 e2 true q = fine-close-quiet p (in-p e1) (nobody (leastReady (b .places)) (least-is (b .places)) (and-right (isNone (b .slot)) (isNone (leastReady (b .places))) q)) (g .fine)
-    fine e1 e2 false q = fine-close p (in-p e1) (ap isQueued (was e2)) (g .fine)
+    fine : (t : Bool) → quiet b ≡ t → Fine (b .largest) (b .clock) (busy (b .slot)) (set (b .places) p freePlace) (b .orders) (cond t (b .held) held)
+    fine true q =
+        let none-ready = and-right (isNone (b .slot)) (isNone (leastReady (b .places))) q in
+        fine-close-quiet p in-p (nobody (leastReady (b .places)) (least-is (b .places)) none-ready) (g .fine)
+    fine false q = fine-close p in-p (ap isQueued was) (g .fine)

@@ -1,7 +1,7 @@
 -- What one call takes into a place's lane and what it sends from it: the lane and what is taken in are what is sent, followed by the lane after.
 use mathlib.Core.Path.{_≡_, refl, sym, ap, _∙_}
-use mathlib.Core.Bool.{Bool, true, false, cond, _&&_, _||_}
-use mathlib.Core.Option.{Option, none, some}
+use mathlib.Core.Bool.{Bool, true, false, cond, _&&_}
+use mathlib.Core.Option.{none, some}
 use mathlib.Core.List.{List, [], _∷_, _++_, append-nil}
 use Prim.Native.Nat.{ℕ, _+_, _*_, _-_, _^_, _≤_, _<_, max}
 use native.Mathlib.Omega.{arith}
@@ -10,20 +10,20 @@ use lib.Dec.{leb, ltb, eqb}
 use lib.ListN.{length, getD, set, drop}
 use lib.Seq.{getD-set-same, getD-set-other}
 use Rattle.base.specs.Tests.{least}
-use Rattle.base.proofs.Tests.{least-true}
-use Rattle.base.proofs.Numbers.{true-le, false-lt, eqb-yes, eqb-no, eqb-true}
+use Rattle.base.proofs.Numbers.{true-le, eqb-yes, eqb-no}
 use Rattle.rules.specs.Calls.{Single, open!, close!, rename!, record!, serve!, step}
 use Rattle.rules.specs.Spoilt.{isServing, isAt}
-use Rattle.rules.specs.Board.{entry, Record, noRecord, charge, Stand, out, queued, serving, Place, freePlace, blockClass, front, Board, at, spent}
-use Rattle.rules.specs.Choice.{taken, upd, leftOf, Out, refused, done, sent, Turn, refuse, check, leastReady, emptied, short, going, started, ended, goOn, sendFrom, send, begin, lowest, serve, serveBy, whereIs, joins, more, joining, takenIn, takeRecord}
+use Rattle.rules.specs.Board.{Record, noRecord, charge, Stand, out, queued, serving, Place, freePlace, blockClass, front, Board, at}
+use Rattle.rules.specs.Choice.{taken, upd, leftOf, Out, refused, done, sent, Turn, emptied, short, going, started, ended, goOn, sendFrom, send}
+use Rattle.rules.specs.Choice.{begin, lowest, whereIs, joins, more, joining, takenIn, tookAt}
 use Rattle.rules.specs.Blocks.{opened, freeAt, closed, renamed}
 use Rattle.rules.proofs.Orders.{pl}
 use Rattle.rules.proofs.Slot.{serving-ok, serving-in}
-use Rattle.rules.proofs.Shape.{StandOk, PlaceOk, LeastIs, least-is, queued-in}
-use Rattle.rules.proofs.Calls.{set-field}
+use Rattle.rules.proofs.Shape.{StandOk, PlaceOk, LeastIs, queued-in}
+use Rattle.rules.proofs.Calls.{set-field, in-places}
 use Rattle.rules.proofs.Tidy.{Tidy, tidy-begin}
 use Rattle.rules.proofs.Tidy as tidy
-use Rattle.rules.proofs.Checks.{open-checks, close-checks, rename-checks, take-checks}
+use Rattle.rules.proofs.Cases.{least-of, other-cases, serve-turns}
 
 -- what the call takes into place p's lane, and what it sends from it
 abbrev pub went : Out → Bool
@@ -49,12 +49,12 @@ sentOne p (sent q x t) = cond (eqb p q) (x ∷ []) []
 abbrev pub Flow : ℕ → Board → List Record → Turn → Type 0
 Flow p b xs t = at b p .lane ++ xs ≡ sentOne p (t .out) ++ at (t .next) p .lane
 
-flow-refuse : (p : ℕ) (b : Board) (n : ℕ) → Flow p b [] (refuse b n)
-flow-refuse p b n = append-nil (at b p .lane)
-
-flow-check : (p : ℕ) (b : Board) (t : Bool) (n : ℕ) (u : Turn) → (t ≡ false → Flow p b [] u) → Flow p b [] (check b t n u)
-flow-check p b true n u f = flow-refuse p b n
-flow-check p b false n u f = f refl
+pub took-refused : (p : ℕ) (b : Board) (code : ℕ) (x : Single) → tookOne p b x (refused code) ≡ []
+took-refused p b code (open! m s) = refl
+took-refused p b code (rename! old new) = refl
+took-refused p b code (close! m) = refl
+took-refused p b code (record! m x) = refl
+took-refused p b code serve! = refl
 
 -- a place with no share has an empty lane
 no-share : (L : ℕ) (x : Place) → PlaceOk L x → x .share ≡ 0 → x .lane ≡ []
@@ -79,10 +79,6 @@ no-rest : (l : List Record) → length l ≤ 1 → drop 1 l ≡ []
 no-rest [] h = refl
 no-rest (y ∷ []) h = refl
 no-rest (y ∷ (z ∷ zs)) h = absurd (omega arith)
-
-free-share : (b : Board) → freeAt b < 64 → at b (freeAt b) .share ≡ 0
-unfolding freeAt
-free-share b h = eqb-true (at b (least (λ i. eqb (at b i .share) 0) 64) .share) 0 (least-true (λ i. eqb (at b i .share) 0) 64 h)
 
 -- a change of one place that keeps its lane
 flow-kept : (b : Board) (q : ℕ) (y : Place) (p : ℕ) → q < length (b .places) → y .lane ≡ at b q .lane → at b p .lane ++ [] ≡ pl (set (b .places) q y) p .lane
@@ -130,60 +126,43 @@ begun-flow b g r e l soon p = ap (λ (xs : List Record). xs ++ []) (sym (set-fie
     q : ℕ
     q = getD (b .orders (lowest b (max (b .clock) r))) 0 0
 
-flow-serve : (b : Board) → Tidy b → (p : ℕ) → Flow p b [] (serve b)
-unfolding serve serveBy
-flow-serve b g p = go (b .slot) refl (leastReady (b .places)) (least-is (b .places))
-  where
-    go : (s : Option ℕ) → b .slot ≡ s → (m : Option ℕ) → LeastIs (b .places) m → Flow p b [] (serveBy b s m)
-    go (some q) e m l = flow-send b q e g p
-    go none e none l = flow-refuse p b 1
-    go none e (some r) l = flow-check p b (leb (2 ^ 62) (max (b .clock) r)) 11 (send (begin b (max (b .clock) r)) (getD (b .orders (lowest b (max (b .clock) r))) 0 0)) (λ f. begins f)
-      where
-        begins : leb (2 ^ 62) (max (b .clock) r) ≡ false → Flow p b [] (send (begin b (max (b .clock) r)) (getD (b .orders (lowest b (max (b .clock) r))) 0 0))
-        begins f = begun-flow b g r e l (false-lt (2 ^ 62) (max (b .clock) r) f) p
-
 -- a record comes
-flow-record : (b : Board) (n : ℕ) (x : Record) → Tidy b → (p : ℕ) → Flow p b (tookOne p b (record! n x) (takeRecord b n x .out)) (takeRecord b n x)
-unfolding takenIn
-flow-record b n x g p = rw (take-checks b n x) (pass (eqb n 0 || (eqb (x .bytes) 0 || ltb (b .largest) (x .bytes))) 4 _ (λ e1. pass (leb 64 q) 6 _ (λ e2. pass (leb 32 (length (at b q .lane))) 9 _ (λ e3. last (false-lt 64 q e2) (leb (length (at b q .lane)) 0) refl))))
-  where
-    q : ℕ
-    q = whereIs b n
+module _ (b : Board) (g : Tidy b) (p : ℕ) where
+  flow-take : (n : ℕ) (x : Record) → let q = whereIs b n in q < 64 → Flow p b (cond (eqb p q) (x ∷ []) []) (tookAt b q x)
+  unfolding takenIn
+  flow-take n x h = go (leb (length (at b q .lane)) 0) refl
+    where
+      q : ℕ
+      q = whereIs b n
 
-    F : Turn → Type 0
-    F t = at b p .lane ++ cond (went (t .out) && eqb p q) (x ∷ []) [] ≡ sentOne p (t .out) ++ at (t .next) p .lane
+      put : (y : Place) → y .lane ≡ at b q .lane ++ (x ∷ []) → at b p .lane ++ cond (eqb p q) (x ∷ []) [] ≡ pl (set (b .places) q y) p .lane
+      put y e = by (ℕ-discrete p q)
+        where
+          by : Dec (p ≡ q) → at b p .lane ++ cond (eqb p q) (x ∷ []) [] ≡ pl (set (b .places) q y) p .lane
+          by (yes f) = rw (f, eqb-yes q q refl, getD-set-same (b .places) q y freePlace (omega (arith, h, g .shape .all64))) (sym e)
+          by (no f) = rw (eqb-no p q f, getD-set-other (b .places) q p y freePlace f) (append-nil (at b p .lane))
 
-    pass : (t : Bool) (c : ℕ) (u : Turn) → (t ≡ false → F u) → F (check b t c u)
-    pass true c u f = append-nil (at b p .lane)
-    pass false c u f = f refl
+      go : (t : Bool) → leb (length (at b q .lane)) 0 ≡ t
+          → at b p .lane ++ cond (eqb p q) (x ∷ []) [] ≡ at (cond t (joining b q (joins (b .clock) (at b q) x)) (goOn b q (more (at b q) x))) p .lane
+      go true e = put (joins (b .clock) (at b q) x) (ap (λ (l : List Record). l ++ (x ∷ [])) (sym (empty (at b q .lane) (true-le (length (at b q .lane)) 0 e))))
+      go false e = put (more (at b q) x) refl
 
-    put : (y : Place) → q < 64 → y .lane ≡ at b q .lane ++ (x ∷ []) → at b p .lane ++ cond (eqb p q) (x ∷ []) [] ≡ pl (set (b .places) q y) p .lane
-    put y h e = go (ℕ-discrete p q)
-      where
-        go : Dec (p ≡ q) → at b p .lane ++ cond (eqb p q) (x ∷ []) [] ≡ pl (set (b .places) q y) p .lane
-        go (yes f) = rw (f, eqb-yes q q refl, getD-set-same (b .places) q y freePlace (omega (arith, g .shape .all64))) (sym e)
-        go (no f) = rw (eqb-no p q f, getD-set-other (b .places) q p y freePlace f) (append-nil (at b p .lane))
-
-    last : q < 64 → (t : Bool) → leb (length (at b q .lane)) 0 ≡ t → F (record { out = taken (record { entry = entry q (at b q) (length (at b q .lane)) }); next = cond t (joining b q (joins (b .clock) (at b q) x)) (goOn b q (more (at b q) x)) })
-    last h true e = put (joins (b .clock) (at b q) x) h (ap (λ (l : List Record). l ++ (x ∷ [])) (sym (empty (at b q .lane) (true-le (length (at b q .lane)) 0 e))))
-    last h false e = put (more (at b q) x) h refl
+  -- a place whose lane is empty and stays so
+  flow-empty : (q : ℕ) (y : Place) → q < 64 → at b q .lane ≡ [] → y .lane ≡ [] → at b p .lane ++ [] ≡ pl (set (b .places) q y) p .lane
+  flow-empty q y h was is = flow-kept b q y p (in-places b (g .shape) q h) (is ∙ sym was)
 
 pub flow-step : (b : Board) (c : Single) → Tidy b → (p : ℕ) → Flow p b (tookOne p b c (step b c .out)) (step b c)
-unfolding step closed
-flow-step b (record! n x) g p = flow-record b n x g p
-flow-step b serve! g p = flow-serve b g p
-flow-step b (open! n s) g p = rw (open-checks b n s) (
-    flow-check p b (eqb n 0 || (eqb s 0 || ltb 65536 s)) 4 _ λ e1.
-    flow-check p b (ltb (whereIs b n) 64) 5 _ λ e2.
-    flow-check p b (leb 64 (freeAt b)) 7 _ λ e3.
-    flow-check p b (ltb (65536 - spent b) s) 8 (record { out = done; next = goOn b (freeAt b) (opened n s) }) λ e4.
-    flow-kept b (freeAt b) (opened n s) p (omega (arith, g .shape .all64, false-lt 64 (freeAt b) e3)) (sym (no-share (b .largest) (at b (freeAt b)) (g .shape .placeOk (freeAt b)) (free-share b (false-lt 64 (freeAt b) e3)))))
-flow-step b (close! n) g p = rw (close-checks b n) (
-    flow-check p b (leb 64 (whereIs b n)) 6 _ λ e1.
-    flow-check p b (ltb 0 (length (at b (whereIs b n) .lane))) 10 (record { out = done; next = closed b (whereIs b n) }) λ e2.
-    flow-kept b (whereIs b n) freePlace p (omega (arith, g .shape .all64, false-lt 64 (whereIs b n) e1)) (sym (empty (at b (whereIs b n) .lane) (omega (arith, false-lt 1 (length (at b (whereIs b n) .lane)) e2)))))
-flow-step b (rename! n m) g p = rw (rename-checks b n m) (
-    flow-check p b (eqb m 0) 4 _ λ e1.
-    flow-check p b (leb 64 (whereIs b n)) 6 _ λ e2.
-    flow-check p b (ltb (whereIs b m) 64) 5 (record { out = done; next = goOn b (whereIs b n) (renamed m (at b (whereIs b n))) }) λ e3.
-    flow-kept b (whereIs b n) (renamed m (at b (whereIs b n))) p (omega (arith, g .shape .all64, false-lt 64 (whereIs b n) e2)) refl)
+unfolding closed
+flow-step b c g p = other-cases b (λ x u. Flow p b (tookOne p b x (u .out)) u) (record {
+  refused = λ x code r. rw (took-refused p b code x) (append-nil (at b p .lane));
+  opens = λ n s can.
+      let x = at b (freeAt b) in
+      flow-empty b g p (freeAt b) (opened n s) (can .inside) (no-share (b .largest) x (g .shape .placeOk (freeAt b)) (can .free)) refl;
+  renames = λ old new can. flow-kept b (whereIs b old) (renamed new (at b (whereIs b old))) p (in-places b (g .shape) (whereIs b old) (can .has .inside)) refl;
+  closes = λ n can. flow-empty b g p (whereIs b n) freePlace (can .has .inside) (empty (at b (whereIs b n) .lane) (omega (arith, can .empty))) refl;
+  takes = λ n x can. flow-take b g p n x (can .has .inside);
+})
+    (serve-turns b (Flow p b [])
+    (λ code u. append-nil (at b p .lane))
+    (λ q e. flow-send b q e g p)
+    (λ r m. begun-flow b g r (m .slot) (least-of b r (m .least)) (m .soon) p)) c

@@ -13,39 +13,35 @@ use Rattle.base.proofs.Decides.{d-iff, d-leb}
 use Rattle.base.proofs.Numbers.{split, leb-yes, true-le, eqb-no}
 use Rattle.base.proofs.Tests.{least-none, least-false}
 use Rattle.rules.specs.Board.{Record, Place, freePlace, Board, at, waits, someWait, spent, freeShare, Has}
-use Rattle.rules.specs.Choice.{whereIs, leastReady}
-use Rattle.rules.specs.Blocks.{freeAt, quiet}
-use Rattle.rules.proofs.Calls.{or-left, or-right, not-zero, where-share, where-none}
-use Rattle.rules.proofs.Cases.{where-number}
+use Rattle.rules.specs.Choice.{whereIs, noneHas, someHas, leastReady}
+use Rattle.rules.specs.Blocks.{freeAt, allTaken, overFree, quiet}
+use Rattle.rules.proofs.Cases.{or-left, or-right, not-zero, where-has, where-none}
 use Rattle.rules.proofs.Tidy.{Tidy}
 use Rattle.rules.proofs.Waiting.{some-quiet}
 
 -- ---- the block that has a number
 
 -- the search ends below 64 exactly where an open block has the number
-pub found-decides : (b : Board) (n : ℕ) → Tidy b → Decides (ltb (whereIs b n) 64) ((p : ℕ) × Has b p n)
-found-decides b n g = record { yes = λ e. (whereIs b n, has (true-le (suc (whereIs b n)) 64 e)); no = λ w. go (ltb (whereIs b n) 64) refl w }
+pub found-decides : (b : Board) (n : ℕ) → Decides (someHas b n) ((p : ℕ) × Has b p n)
+found-decides b n = record { yes = λ e. (whereIs b n, where-has b n (true-le (suc (whereIs b n)) 64 e)); no = λ w. go (someHas b n) refl w }
   where
-    has : whereIs b n < 64 → Has b (whereIs b n) n
-    has h = record { inside = h; bought = where-share b n h; named = where-number b n h }
-
-    go : (t : Bool) → ltb (whereIs b n) 64 ≡ t → (p : ℕ) × Has b p n → t ≡ true
+    go : (t : Bool) → someHas b n ≡ t → (p : ℕ) × Has b p n → t ≡ true
     go true e w = refl
-    go false e (p, h) = absurd (where-none b n (g .shape .all64) e p (h .bought) (h .named))
+    go false e (p, h) = absurd (where-none b n e p h)
 
-pub unknown-decides : (b : Board) (n : ℕ) → Tidy b → Decides (leb 64 (whereIs b n)) ((p : ℕ) → Has b p n → ⊥)
-unknown-decides b n g = record {
-  yes = λ e p h. absurd (omega (arith, true-le 64 (whereIs b n) e, true-le (suc (whereIs b n)) 64 (found-decides b n g .no (p, h))));
+pub unknown-decides : (b : Board) (n : ℕ) → Decides (noneHas b n) ((p : ℕ) → Has b p n → ⊥)
+unknown-decides b n = record {
+  yes = λ e p h. absurd (omega (arith, true-le 64 (whereIs b n) e, true-le (suc (whereIs b n)) 64 (found-decides b n .no (p, h))));
   no = λ f. go (split 64 (whereIs b n)) f;
 }
   where
     go : (64 ≤ whereIs b n) ⊎ (whereIs b n < 64) → ((p : ℕ) → Has b p n → ⊥) → leb 64 (whereIs b n) ≡ true
     go (inl h) f = leb-yes 64 (whereIs b n) h
-    go (inr h) f = let w = found-decides b n g .yes (leb-yes (suc (whereIs b n)) 64 h) in absurd (f (w .0) (w .1))
+    go (inr h) f = let w = found-decides b n .yes (leb-yes (suc (whereIs b n)) 64 h) in absurd (f (w .0) (w .1))
 
 -- ---- places and shares
 
-pub taken-decides : (b : Board) → Decides (leb 64 (freeAt b)) ((p : ℕ) → p < 64 → 1 ≤ at b p .share)
+pub taken-decides : (b : Board) → Decides (allTaken b) ((p : ℕ) → p < 64 → 1 ≤ at b p .share)
 unfolding freeAt
 taken-decides b = record {
   yes = λ e p h. not-zero (at b p .share) (least-false test 64 p (omega (arith, true-le 64 (freeAt b) e)));
@@ -58,7 +54,7 @@ taken-decides b = record {
     taken : (p : ℕ) → 1 ≤ at b p .share → test p ≡ false
     taken p h = eqb-no (at b p .share) 0 (λ e. omega arith)
 
-pub free-decides : (b : Board) (s : ℕ) → spent b ≤ 65536 → Decides (ltb (freeShare b) s) (65536 < spent b + s)
+pub free-decides : (b : Board) (s : ℕ) → spent b ≤ 65536 → Decides (overFree b s) (65536 < spent b + s)
 free-decides b s h = d-iff (d-leb (suc (freeShare b)) s) (λ l. omega arith) (λ l. omega arith)
 
 -- ---- waiting

@@ -1,31 +1,30 @@
 -- What no call changes: L, and that no order and no held share stands above class 16.
 use mathlib.Core.Path.{_≡_, refl, _∙_}
-use mathlib.Core.Bool.{Bool, true, false, cond, _||_}
-use mathlib.Core.Option.{Option, none, some}
+use mathlib.Core.Bool.{Bool, true, false, cond}
 use mathlib.Core.List.{List, [], _∷_, _++_}
-use Prim.Native.Nat.{ℕ, suc, _+_, _*_, _^_, _≤_, max}
+use Prim.Native.Nat.{ℕ, suc, _+_, _*_, _≤_, max}
 use native.Mathlib.Omega.{arith}
 use native.Mathlib.Decide.{ℕ-discrete}
-use lib.Dec.{leb, ltb, eqb}
+use lib.Dec.{leb, ltb}
 use lib.ListN.{length, getD, set, drop}
 use Rattle.units.specs.Classes.{nextStart}
 use Rattle.units.proofs.Classes.{class-le}
-use Rattle.rules.specs.Board.{Record, noRecord, charge, Place, blockClass, Board, at, Seventeen, freeShare, fresh}
-use Rattle.rules.specs.Choice.{leftAfter, emptied, short, going, done, Turn, upd, isNone, leastReady, release, settle, ended, goOn, sendFrom, send, begin, lowest, chosen, check, serve, serveBy, whereIs, joins, more, joining, takenIn}
-use Rattle.rules.specs.Calls.{Single, open!, close!, rename!, record!, serve!, step}
+use Rattle.rules.specs.Board.{Record, noRecord, charge, Place, blockClass, Board, at, Seventeen, fresh}
+use Rattle.rules.specs.Choice.{leftAfter, emptied, short, going, upd, isNone, leastReady, release, settle, ended, goOn, sendFrom, send, begin, lowest}
+use Rattle.rules.specs.Choice.{chosen, whereIs, joins, more, joining, takenIn}
+use Rattle.rules.specs.Calls.{Single, step}
 use Rattle.rules.specs.Runs.{play}
 use Rattle.rules.specs.Blocks.{opened, freeAt, quiet, closed, renamed}
 use Rattle.rules.proofs.Orders.{upd-same, upd-other}
-use Rattle.rules.proofs.Checks.{open-checks, rename-checks, close-checks, take-checks, tookAt}
+use Rattle.rules.proofs.Cases.{other-cases, serve-turns}
 
 -- from the board b to the board c
 record Framed (b c : Board) : Type 0 where
   size : c .largest ≡ b .largest
   high : Seventeen b → Seventeen c
 
-framed-check : (b : Board) (t : Bool) (n : ℕ) (u : Turn) → Framed b (u .next) → Framed b (check b t n u .next)
-framed-check b true n u f = record { size = refl; high = λ s. s }
-framed-check b false n u f = f
+framed-refl : (b : Board) → Framed b b
+framed-refl b = record { size = refl; high = λ s. s }
 
 framed-cond : (b : Board) (t : Bool) (c d : Board) → Framed b c → Framed b d → Framed b (cond t c d)
 framed-cond b true c d f g = f
@@ -112,32 +111,17 @@ framed-send b p =
 -- ---- every call
 
 framed-step : (b : Board) (x : Single) → Framed b (step b x .next)
-unfolding step serve serveBy send
-framed-step b (open! n s) = rw (open-checks b n s) (
-    framed-check b (eqb n 0 || (eqb s 0 || ltb 65536 s)) 4 _
-    (framed-check b (ltb (whereIs b n) 64) 5 _
-    (framed-check b (leb 64 (freeAt b)) 7 _
-    (framed-check b (ltb (freeShare b) s) 8 (record { out = done; next = goOn b (freeAt b) (opened n s) }) (framed-goOn b (freeAt b) (opened n s))))))
-framed-step b (rename! old new) = rw (rename-checks b old new) (
-    framed-check b (eqb new 0) 4 _
-    (framed-check b (leb 64 (whereIs b old)) 6 _
-    (framed-check b (ltb (whereIs b new) 64) 5 (record { out = done; next = goOn b (whereIs b old) (renamed new (at b (whereIs b old))) }) (framed-goOn b (whereIs b old) (renamed new (at b (whereIs b old)))))))
-framed-step b (close! n) = rw (close-checks b n) (
-    framed-check b (leb 64 (whereIs b n)) 6 _
-    (framed-check b (ltb 0 (length (at b (whereIs b n) .lane))) 10 (record { out = done; next = closed b (whereIs b n) }) (framed-closed b (whereIs b n))))
-framed-step b (record! n r) = rw (take-checks b n r) (
-    framed-check b (eqb n 0 || (eqb (r .bytes) 0 || ltb (b .largest) (r .bytes))) 4 _
-    (framed-check b (leb 64 (whereIs b n)) 6 _
-    (framed-check b (leb 32 (length (at b (whereIs b n) .lane))) 9 (tookAt b (whereIs b n) r) (framed-taken b (whereIs b n) r))))
-framed-step b serve! = go (b .slot) (leastReady (b .places))
+unfolding send
+framed-step b = other-cases b (λ x u. Framed b (u .next)) (record {
+  refused = λ x code r. framed-refl b;
+  opens = λ n s c. framed-goOn b (freeAt b) (opened n s);
+  renames = λ old new c. framed-goOn b (whereIs b old) (renamed new (at b (whereIs b old)));
+  closes = λ n c. framed-closed b (whereIs b n);
+  takes = λ n r c. framed-taken b (whereIs b n) r;
+}) (serve-turns b (λ u. Framed b (u .next)) (λ code u. framed-refl b) (λ p e. framed-send b p) (λ r m. begun (max (b .clock) r)))
   where
     begun : (t : ℕ) → Framed b (send (begin b t) (chosen b t) .next)
     begun t = let f = framed-begin b t in let g = framed-send (begin b t) (chosen b t) in record { size = g .size ∙ f .size; high = λ s. g .high (f .high s) }
-
-    go : (s r : Option ℕ) → Framed b (serveBy b s r .next)
-    go (some p) r = framed-send b p
-    go none none = record { size = refl; high = λ s. s }
-    go none (some r) = framed-check b (leb (2 ^ 62) (max (b .clock) r)) 11 (send (begin b (max (b .clock) r)) (chosen b (max (b .clock) r))) (begun (max (b .clock) r))
 
 -- L
 pub size-step : (b : Board) (x : Single) → step b x .next .largest ≡ b .largest

@@ -15,11 +15,11 @@ use Rattle.base.proofs.Numbers.{split, leb-yes, leb-no, eqb-yes, eqb-no}
 use Rattle.units.specs.Classes.{nextStart}
 use Rattle.units.proofs.Starts.{next-gt, next-stay}
 use Rattle.rules.specs.Board.{Record, noRecord, charge, Place, Board, at, blockClass, someWait, fresh}
-use Rattle.rules.specs.Choice.{refused, done, Turn, isNone, leastReady, release, settle, goOn, joins, more, joining, takenIn, emptied, short, going, leftAfter, ended, sendFrom, send, begin, chosen, upd}
+use Rattle.rules.specs.Choice.{refused, done, Turn, isNone, leastReady, release, settle, goOn, joins, more, joining, takenIn, emptied, short, going}
+use Rattle.rules.specs.Choice.{leftAfter, ended, sendFrom, send, begin, chosen, upd, tookAt}
 use Rattle.rules.specs.Blocks.{quiet, closed}
 use Rattle.rules.specs.Calls.{Single, open!, rename!, close!, record!, serve!, step, gives, told}
 use Rattle.rules.specs.Runs.{play, answer, Hold, closing, stillHeld, holds, heldOf}
-use Rattle.rules.proofs.Checks.{tookAt}
 use Rattle.rules.proofs.Orders.{upd-same, upd-other}
 use Rattle.rules.proofs.Tidy.{tidy-begin, Tidy, tidy-send}
 use Rattle.rules.proofs.TidyCalls.{tidy-step}

@@ -1,35 +1,31 @@
 -- A serve sends, unless nobody waits or the clock has run out; so a record at the front is sent within a counted number of serves.
-use mathlib.Core.Path.{_≡_, refl, sym, ap, _∙_}
-use mathlib.Core.Bool.{Bool, true, false, true≢false, false≢true}
+use mathlib.Core.Path.{_≡_, refl, sym, ap, subst, _∙_}
+use mathlib.Core.Bool.{true, false, true≢false, false≢true}
 use mathlib.Core.Logic.{_⊎_, inl, inr, _≢_}
-use mathlib.Core.Option.{Option, none, some}
 use mathlib.Core.List.{List, [], _∷_}
-use Prim.Native.Nat.{ℕ, _-_, _^_, _≤_, max}
+use Prim.Native.Nat.{ℕ, _-_, _≤_}
 use native.Mathlib.Omega.{arith}
-use lib.Dec.{leb, eqb}
-use lib.ListN.{getD}
+use lib.Dec.{eqb}
 use Rattle.base.specs.Sums.{oneIf}
 use Rattle.rules.specs.Calls.{Single, open!, close!, rename!, record!, serve!, step, codeOf, told}
 use Rattle.rules.specs.Spoilt.{isAt}
 use Rattle.rules.specs.Board.{out, blockClass, Board, at}
-use Rattle.rules.specs.Choice.{Out, refused, Turn, check, send, begin, lowest, leastReady, serve, serveBy}
+use Rattle.rules.specs.Choice.{Out, refused, send, serve}
 use Rattle.rules.proofs.Shape.{LeastIs, least-is}
+use Rattle.rules.proofs.Cases.{Unserved, nobody, late, serve-turns}
 use Rattle.rules.proofs.Turns.{Good, inLine, bytesSent, isSent, limit, Keeps, waits-not-serving}
 use Rattle.rules.proofs.Run.{keeps-step, sentBytes, UnsentAt, ToFront, bound-good, front-waits}
 use Rattle.rules.specs.Runs.{NotSpent, servesIn, answer, isServe}
 
 pub serve-live : (b : Board) (p : ℕ) → Good b → inLine (at b p .stand) ≡ true → (serve b .out ≡ refused 11) ⊎ (isSent (serve b .out) ≡ true)
-unfolding serve serveBy LeastIs send
-serve-live b p g w = go (b .slot) refl (leastReady (b .places)) (least-is (b .places))
+unfolding LeastIs send
+serve-live b p g w = serve-turns b (λ u. (u .out ≡ refused 11) ⊎ (isSent (u .out) ≡ true)) stop (λ q e. inr refl) (λ r m. inr refl)
   where
-    tried : (t : Bool) (u : Turn) → isSent (u .out) ≡ true → (check b t 11 u .out ≡ refused 11) ⊎ (isSent (check b t 11 u .out) ≡ true)
-    tried true u e = inl refl
-    tried false u e = inr e
-
-    go : (s : Option ℕ) → b .slot ≡ s → (m : Option ℕ) → LeastIs (b .places) m → (serveBy b s m .out ≡ refused 11) ⊎ (isSent (serveBy b s m .out) ≡ true)
-    go (some q) e m l = inr refl
-    go none e none l = absurd (false≢true (sym (l p) ∙ waits-not-serving (at b p .stand) w (g .one p ∙ ap (isAt p) e)))
-    go none e (some r) l = tried (leb (2 ^ 62) (max (b .clock) r)) (send (begin b (max (b .clock) r)) (getD (b .orders (lowest b (max (b .clock) r))) 0 0)) refl
+    stop : (code : ℕ) → Unserved b code → (refused code ≡ refused 11) ⊎ (false ≡ true)
+    stop code (nobody e l) =
+        let unqueued = subst (LeastIs (b .places)) l (least-is (b .places)) p in
+        absurd (false≢true (sym unqueued ∙ waits-not-serving (at b p .stand) w (g .one p ∙ ap (isAt p) e)))
+    stop code (late r e l h) = inl refl
 
 -- while a block waits, a serve that isn't given 11 sends at least a byte
 try-one : (b : Board) (x : Single) (p : ℕ) → Good b → inLine (at b p .stand) ≡ true → eqb (codeOf (answer b x)) 11 ≡ false → oneIf (isServe x) ≤ bytesSent (step b x .out)

@@ -13,17 +13,17 @@ use Rattle.base.specs.Tests.{least}
 use Rattle.base.proofs.Tests.{least-false}
 use Rattle.base.proofs.Numbers.{split, leb-yes, eqb-yes, eqb-no, eqb-true, true-le}
 use Rattle.rules.specs.Board.{Record, Place, freePlace, Board, at, isOpen, charge, noRecord, blockClass, Has}
-use Rattle.rules.specs.Choice.{done, sent, Turn, refuse, Found, openAt, unknown, foundAt, find, byFound, whereIs, goOn, more, joins, joining, takenIn, emptied, short, going, started, ended, sendFrom, send, begin, chosen, upd, leftAfter, refused}
+use Rattle.rules.specs.Choice.{done, sent, Turn, refuse, Found, openAt, unknown, foundAt, find, byFound, whereIs, goOn, more, joins, joining, takenIn}
+use Rattle.rules.specs.Choice.{emptied, short, going, started, ended, sendFrom, send, begin, chosen, upd, leftAfter, refused, tookAt}
 use Rattle.rules.specs.Blocks.{opened, freeAt, renamed, closed}
 use Rattle.rules.specs.Calls.{Single, open!, rename!, close!, record!, serve!, step, gives, takes, told}
 use Rattle.rules.specs.Runs.{numberAfter, closes, takenFor, isFor, laneOf, shareOf}
-use Rattle.rules.proofs.Checks.{tookAt}
 use Rattle.rules.proofs.Orders.{pl}
 use Rattle.rules.proofs.Turns.{fromPlace}
-use Rattle.rules.proofs.Calls.{set-field, where-share}
+use Rattle.rules.proofs.Calls.{set-field}
 use Rattle.rules.proofs.Tidy.{Tidy}
-use Rattle.rules.proofs.Conserve.{tookOne}
-use Rattle.rules.proofs.Cases.{Refusal, refusal-not0, CanOpen, CanRename, CanClose, CanTake, call-cases, where-number}
+use Rattle.rules.proofs.Conserve.{tookOne, took-refused}
+use Rattle.rules.proofs.Cases.{Refusal, refusal-not0, CanOpen, CanRename, CanClose, CanTake, where-has, call-cases}
 
 -- ---- one number, one place
 
@@ -38,7 +38,10 @@ has-where b p n g h = go (split (least t 64) p)
     here = rw (leb-yes 1 (at b p .share) (h .bought), eqb-yes n (at b p .number) (sym (h .named)))
 
     go : (least t 64 ≤ p) ⊎ (p < least t 64) → least t 64 ≡ p
-    go (inl l) = let q = least t 64 in let i : q < 64 = omega (arith, h .inside) in g .shape .names q p (where-share b n i) (h .bought) (where-number b n i ∙ sym (h .named))
+    go (inl l) =
+        let q = least t 64 in
+        let w = where-has b n (omega (arith, h .inside)) in
+        g .shape .names q p (w .bought) (h .bought) (w .named ∙ sym (h .named))
     go (inr l) = absurd (true≢false (sym here ∙ least-false t 64 p l))
 
 pub has-find : (b : Board) (p n : ℕ) → Tidy b → Has b p n → find b n ≡ openAt p
@@ -54,10 +57,7 @@ find-has b p n e = go (ltb (whereIs b n) 64) refl e
     lost f = let z : _≡_ {A = ℕ} 0 1 = cc in omega arith
 
     go : (t : Bool) → ltb (whereIs b n) 64 ≡ t → foundAt t (whereIs b n) ≡ openAt p → Has b p n
-    go true f q = subst (λ (z : ℕ). Has b z n) (found (whereIs b n) q) (record { inside = h; bought = where-share b n h; named = where-number b n h })
-      where
-        h : whereIs b n < 64
-        h = true-le (suc (whereIs b n)) 64 f
+    go true f q = subst (λ (z : ℕ). Has b z n) (found (whereIs b n) q) (where-has b n (true-le (suc (whereIs b n)) 64 f))
     go false f q = absurd (lost q)
 
 pub has-lane : (b : Board) (p n : ℕ) → Tidy b → Has b p n → laneOf b n ≡ at b p .lane
@@ -126,13 +126,6 @@ module _ (n code : ℕ) (r : eqb code 0 ≡ false) where
   taken-refused (close! m) = refl
   taken-refused (record! m x) = rw r
   taken-refused serve! = refl
-
-took-refused : (p : ℕ) (b : Board) (code : ℕ) (x : Single) → tookOne p b x (refused code) ≡ []
-took-refused p b code (open! m s) = refl
-took-refused p b code (rename! old new) = refl
-took-refused p b code (close! m) = refl
-took-refused p b code (record! m x) = refl
-took-refused p b code serve! = refl
 
 module _ (b : Board) (p n : ℕ) (g : Tidy b) (h : Has b p n) where
   inside : p < length (b .places)

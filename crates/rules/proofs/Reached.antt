@@ -1,8 +1,8 @@
 -- DEMAND 3, its third part, as it is asked: the block waits when the clock reaches the start; what it does afterwards is free.
 use mathlib.Core.Path.{_≡_, refl, sym, ap, ap₂, _∙_}
-use mathlib.Core.Bool.{Bool, true, false, cond, _&&_, _||_, true≢false, false≢true}
+use mathlib.Core.Bool.{Bool, true, false, cond, _&&_, true≢false, false≢true}
 use mathlib.Core.Logic.{_⊎_, inl, inr, _≢_}
-use mathlib.Core.Option.{Option, none, some}
+use mathlib.Core.Option.{none, some}
 use mathlib.Core.List.{List, [], _∷_, _++_}
 use Prim.Native.Nat.{ℕ, suc, _+_, _*_, _-_, _^_, _≤_, _<_, max}
 use native.Mathlib.Omega.{arith}
@@ -14,23 +14,20 @@ use Rattle.base.proofs.Numbers.{split, leb-yes, eqb-true}
 use Rattle.base.specs.Sums.{oneIf}
 use Rattle.units.specs.Classes.{Start, nextStart, classOf}
 use Rattle.units.proofs.Starts.{next-gt, next-least, start-gap}
-use Rattle.rules.specs.Calls.{Single, open!, close!, rename!, record!, serve!, step}
+use Rattle.rules.specs.Calls.{Single, step}
 use Rattle.rules.specs.Spoilt.{isQueued, isServing, isAt}
-use Rattle.rules.specs.Board.{Record, noRecord, charge, out, blockClass, front, Board, at, spent}
-use Rattle.rules.specs.Choice.{upd, leftOf, done, Turn, check, isNone, leastReady, emptied, short, going, ended, goOn, sendFrom, send, begin, lowest, serve, serveBy, whereIs, joins, more, joining, takenIn}
-use Rattle.rules.specs.Blocks.{opened, freeAt, closed, renamed}
+use Rattle.rules.specs.Board.{Record, noRecord, charge, out, blockClass, front, Board, at}
+use Rattle.rules.specs.Choice.{upd, leftOf, Turn, isNone, emptied, short, going, ended, goOn, sendFrom, send, begin, lowest, chosen, whereIs, joins, more}
+use Rattle.rules.specs.Choice.{joining, takenIn}
+use Rattle.rules.specs.Blocks.{closed}
 use Rattle.rules.specs.Runs.{play}
-use Rattle.rules.proofs.Shape.{LeastIs, least-is, Chosen, choose}
+use Rattle.rules.proofs.Shape.{LeastIs, Chosen, choose}
 use Rattle.rules.proofs.Turns.{Good, busy, inLine, fromPlace, begun, slotClock, dueOf, due-queued, due-serving, queued-waits, Keeps, Goes}
 use Rattle.rules.proofs.Run.{keeps-step}
 use Rattle.rules.proofs.Stretch.{slotsAt, due-ok, Keeping, never-two}
-use Rattle.rules.proofs.Checks.{open-checks, close-checks, rename-checks, take-checks, tookAt}
+use Rattle.rules.proofs.Cases.{MayBegin, least-of, other-cases, serve-turns}
 
 -- THE CLOCK never goes back
-up-check : (b : Board) (t : Bool) (n : ℕ) (u : Turn) → b .clock ≤ u .next .clock → b .clock ≤ check b t n u .next .clock
-up-check b true n u h = le-refl (b .clock)
-up-check b false n u h = h
-
 up-send : (b : Board) (p : ℕ) → b .clock ≤ sendFrom b p .clock
 unfolding sendFrom ended
 up-send b p = go (leb (length (at b p .lane)) 1) (ltb (leftOf (at b p .stand) - charge (front (at b p)) * 65536) (charge (getD (drop 1 (at b p .lane)) 0 noRecord) * 65536))
@@ -53,17 +50,18 @@ up-taken b p x = go (leb (length (at b p .lane)) 0)
     go false = le-refl (b .clock)
 
 pub clock-up : (b : Board) (c : Single) → b .clock ≤ step b c .next .clock
-unfolding step closed serve serveBy send
-clock-up b (open! n s) = rw (open-checks b n s) (up-check b (eqb n 0 || (eqb s 0 || ltb 65536 s)) 4 _ (up-check b (ltb (whereIs b n) 64) 5 _ (up-check b (leb 64 (freeAt b)) 7 _ (up-check b (ltb (65536 - spent b) s) 8 (record { out = done; next = goOn b (freeAt b) (opened n s) }) (le-refl (b .clock))))))
-clock-up b (close! n) = rw (close-checks b n) (up-check b (leb 64 (whereIs b n)) 6 _ (up-check b (ltb 0 (length (at b (whereIs b n) .lane))) 10 (record { out = done; next = closed b (whereIs b n) }) (le-refl (b .clock))))
-clock-up b (rename! n m) = rw (rename-checks b n m) (up-check b (eqb m 0) 4 _ (up-check b (leb 64 (whereIs b n)) 6 _ (up-check b (ltb (whereIs b m) 64) 5 (record { out = done; next = goOn b (whereIs b n) (renamed m (at b (whereIs b n))) }) (le-refl (b .clock)))))
-clock-up b (record! n x) = rw (take-checks b n x) (up-check b (eqb n 0 || (eqb (x .bytes) 0 || ltb (b .largest) (x .bytes))) 4 _ (up-check b (leb 64 (whereIs b n)) 6 _ (up-check b (leb 32 (length (at b (whereIs b n) .lane))) 9 (tookAt b (whereIs b n) x) (up-taken b (whereIs b n) x))))
-clock-up b serve! = go (b .slot) (leastReady (b .places))
-  where
-    go : (s r : Option ℕ) → b .clock ≤ serveBy b s r .next .clock
-    go (some p) r = up-send b p
-    go none none = le-refl (b .clock)
-    go none (some r) = up-check b (leb (2 ^ 62) (max (b .clock) r)) 11 (send (begin b (max (b .clock) r)) (getD (b .orders (lowest b (max (b .clock) r))) 0 0)) (up-begin b (max (b .clock) r) (getD (b .orders (lowest b (max (b .clock) r))) 0 0) (omega arith))
+unfolding closed send
+clock-up b = other-cases b (λ x u. b .clock ≤ u .next .clock) (record {
+  refused = λ x code r. le-refl (b .clock);
+  opens = λ n s c. le-refl (b .clock);
+  renames = λ old new c. le-refl (b .clock);
+  closes = λ n c. le-refl (b .clock);
+  takes = λ n x c. up-taken b (whereIs b n) x;
+})
+    (serve-turns b (λ u. b .clock ≤ u .next .clock)
+    (λ code u. le-refl (b .clock))
+    (λ p e. up-send b p)
+    (λ r m. up-begin b (max (b .clock) r) (chosen b (max (b .clock) r)) (omega arith)))
 
 -- A SEND FROM p: its slot was open, or it begins now, not before the clock and before the end of its interval
 abbrev Sends : Board → Turn → ℕ → Type 0
@@ -84,28 +82,24 @@ begin-clock b r p g e li q = (omega arith, omega (arith, li .0 p isQ, due-queued
     isQ : isQueued (at b p .stand) ≡ true
     isQ = rw q (ch .isQ)
 
-silent-check : (b : Board) (p : ℕ) (t : Bool) (n : ℕ) (u : Turn) → fromPlace p (u .out) ≡ false → fromPlace p (check b t n u .out) ≡ false
-silent-check b p true n u h = refl
-silent-check b p false n u h = h
-
 sends : (b : Board) (c : Single) (p : ℕ) → Good b → fromPlace p (step b c .out) ≡ true → Sends b (step b c) p
-unfolding step serve serveBy send LeastIs
-sends b (open! n s) p g f = absurd (true≢false (sym (rw (open-checks b n s) at f) ∙ silent-check b p (eqb n 0 || (eqb s 0 || ltb 65536 s)) 4 _ (silent-check b p (ltb (whereIs b n) 64) 5 _ (silent-check b p (leb 64 (freeAt b)) 7 _ (silent-check b p (ltb (65536 - spent b) s) 8 (record { out = done; next = goOn b (freeAt b) (opened n s) }) refl)))))
-sends b (close! n) p g f = absurd (true≢false (sym (rw (close-checks b n) at f) ∙ silent-check b p (leb 64 (whereIs b n)) 6 _ (silent-check b p (ltb 0 (length (at b (whereIs b n) .lane))) 10 (record { out = done; next = closed b (whereIs b n) }) refl)))
-sends b (rename! n m) p g f = absurd (true≢false (sym (rw (rename-checks b n m) at f) ∙ silent-check b p (eqb m 0) 4 _ (silent-check b p (leb 64 (whereIs b n)) 6 _ (silent-check b p (ltb (whereIs b m) 64) 5 (record { out = done; next = goOn b (whereIs b n) (renamed m (at b (whereIs b n))) }) refl))))
-sends b (record! n x) p g f = absurd (true≢false (sym (rw (take-checks b n x) at f) ∙ silent-check b p (eqb n 0 || (eqb (x .bytes) 0 || ltb (b .largest) (x .bytes))) 4 _ (silent-check b p (leb 64 (whereIs b n)) 6 _ (silent-check b p (leb 32 (length (at b (whereIs b n) .lane))) 9 (tookAt b (whereIs b n) x) refl))))
-sends b serve! p g f = go (b .slot) refl (leastReady (b .places)) (least-is (b .places)) f
+unfolding send
+sends b c p g = other-cases b (λ x u. fromPlace p (u .out) ≡ true → Sends b u p) (record {
+  refused = λ x code r f. absurd (false≢true f);
+  opens = λ n s c f. absurd (false≢true f);
+  renames = λ old new c f. absurd (false≢true f);
+  closes = λ n c f. absurd (false≢true f);
+  takes = λ n x c f. absurd (false≢true f);
+})
+    (serve-turns b (λ u. fromPlace p (u .out) ≡ true → Sends b u p)
+    (λ code u f. absurd (false≢true f))
+    (λ q e f. inl (ap isNone e, g .one p ∙ ap (isAt p) e ∙ f))
+    begins) c
   where
-    begins : (r : ℕ) → b .slot ≡ none → LeastIs (b .places) (some r) → (u : Bool)
-        → fromPlace p (check b u 11 (send (begin b (max (b .clock) r)) (getD (b .orders (lowest b (max (b .clock) r))) 0 0)) .out) ≡ true
-        → Sends b (check b u 11 (send (begin b (max (b .clock) r)) (getD (b .orders (lowest b (max (b .clock) r))) 0 0))) p
-    begins r e li true f = absurd (false≢true f)
-    begins r e li false f = let w = begin-clock b r p g e li (eqb-true p (getD (b .orders (lowest b (max (b .clock) r))) 0 0) f) in inr (ap isNone e, w .0, w .1)
-
-    go : (s : Option ℕ) → b .slot ≡ s → (r : Option ℕ) → LeastIs (b .places) r → fromPlace p (serveBy b s r .out) ≡ true → Sends b (serveBy b s r) p
-    go (some q) e r li f = inl (ap isNone e, g .one p ∙ ap (isAt p) e ∙ f)
-    go none e none li f = absurd (false≢true f)
-    go none e (some r) li f = begins r e li (leb (2 ^ 62) (max (b .clock) r)) f
+    begins : (r : ℕ) → MayBegin b r → eqb p (chosen b (max (b .clock) r)) ≡ true → Sends b (send (begin b (max (b .clock) r)) (chosen b (max (b .clock) r))) p
+    begins r m f =
+        let w = begin-clock b r p g (m .slot) (least-of b r (m .least)) (eqb-true p (chosen b (max (b .clock) r)) f) in
+        inr (ap isNone (m .slot), w .0, w .1)
 
 -- counted in the interval
 counts : (lo k t : ℕ) (c : Bool) → c ≡ true → lo ≤ t → t < lo + 2 ^ k → oneIf (c && leb lo t && leb (suc t) (lo + 2 ^ k)) ≡ 1

@@ -1,43 +1,34 @@
 -- Demand 1: what a refusal leaves, and that no call of a run is given 3 or 2.
 use mathlib.Core.Path.{_≡_, refl, sym, ap, _∙_}
-use mathlib.Core.Bool.{Bool, true, false, not, _&&_, _||_, cond}
+use mathlib.Core.Bool.{Bool, true, false, not, _&&_, cond}
 use mathlib.Core.Logic.{_⊎_, inl, inr, _≢_}
 use mathlib.Core.Option.{Option, none, some}
 use mathlib.Core.List.{List}
-use Prim.Native.Nat.{ℕ, zero, suc, _-_, _^_, _≤_, max}
+use Prim.Native.Nat.{ℕ, zero, suc, _-_, _≤_}
 use native.Mathlib.Omega.{arith}
-use lib.Dec.{leb, ltb, eqb}
+use lib.Dec.{leb, ltb}
 use lib.ListN.{length}
-use Rattle.rules.specs.Board.{tableLength, Record, Board, at, fresh, freeShare, charge}
-use Rattle.rules.specs.Choice.{Out, refused, done, taken, sent, Turn, refuse, check, whereIs, goOn, leastReady, chosen, begin, send, serve, serveBy}
-use Rattle.rules.specs.Blocks.{opened, freeAt, renamed, closed}
+use Rattle.rules.specs.Board.{tableLength, Record, Board, fresh, charge}
+use Rattle.rules.specs.Choice.{Out, refused, done, taken, sent, Turn, refuse, send, serve}
 use Rattle.rules.specs.Burst.{Burst, burst, noRoom, chargeNext, stopped, sentFirst, withRoom}
 use Rattle.rules.specs.Spoilt.{spoilt, unspoilt}
 use Rattle.rules.specs.Calls.{Single, open!, rename!, close!, record!, serve!, step, Call, one, burst!, gives, told, codeOf, Lent, kept, Outcome, wrongTables, writes, done!, refusedBy, unlessSpoilt, byBoard, byTables, call, make, makeBy}
 use Rattle.rules.specs.Promises.{KeepsAll}
-use Rattle.rules.proofs.Checks.{tookAt, take-checks, open-checks, rename-checks, close-checks}
+use Rattle.rules.proofs.Cases.{Unserved, nobody, late, other-cases, serve-turns}
 
 -- a turn is a refusal of the board as it was, or its answer's code is 0
 Kind : Board → Turn → Type 0
 Kind b u = ((code : ℕ) × (u ≡ refuse b code)) ⊎ (codeOf (told b (u .out)) ≡ 0)
 
-kind-check : (b : Board) (t : Bool) (code : ℕ) (u : Turn) → Kind b u → Kind b (check b t code u)
-unfolding Kind
-kind-check b true code u k = inl (code, refl)
-kind-check b false code u k = k
-
 kind-step : (b : Board) (x : Single) → Kind b (step b x)
-unfolding Kind step serve serveBy send
-kind-step b (open! n s) = rw (open-checks b n s) (kind-check b (eqb n 0 || (eqb s 0 || ltb 65536 s)) 4 _ (kind-check b (ltb (whereIs b n) 64) 5 _ (kind-check b (leb 64 (freeAt b)) 7 _ (kind-check b (ltb (freeShare b) s) 8 (record { out = done; next = goOn b (freeAt b) (opened n s) }) (inr refl)))))
-kind-step b (rename! old new) = rw (rename-checks b old new) (kind-check b (eqb new 0) 4 _ (kind-check b (leb 64 (whereIs b old)) 6 _ (kind-check b (ltb (whereIs b new) 64) 5 (record { out = done; next = goOn b (whereIs b old) (renamed new (at b (whereIs b old))) }) (inr refl))))
-kind-step b (close! n) = rw (close-checks b n) (kind-check b (leb 64 (whereIs b n)) 6 _ (kind-check b (ltb 0 (length (at b (whereIs b n) .lane))) 10 (record { out = done; next = closed b (whereIs b n) }) (inr refl)))
-kind-step b (record! n r) = rw (take-checks b n r) (kind-check b (eqb n 0 || (eqb (r .bytes) 0 || ltb (b .largest) (r .bytes))) 4 _ (kind-check b (leb 64 (whereIs b n)) 6 _ (kind-check b (leb 32 (length (at b (whereIs b n) .lane))) 9 (tookAt b (whereIs b n) r) (inr refl))))
-kind-step b serve! = go (b .slot) (leastReady (b .places))
-  where
-    go : (s m : Option ℕ) → Kind b (serveBy b s m)
-    go (some p) m = inr refl
-    go none none = inl (1, refl)
-    go none (some r) = kind-check b (leb (2 ^ 62) (max (b .clock) r)) 11 (send (begin b (max (b .clock) r)) (chosen b (max (b .clock) r))) (inr refl)
+unfolding Kind send
+kind-step b = other-cases b (λ x u. Kind b u) (record {
+  refused = λ x code r. inl (code, refl);
+  opens = λ n s c. inr refl;
+  renames = λ old new c. inr refl;
+  closes = λ n c. inr refl;
+  takes = λ n r c. inr refl;
+}) (serve-turns b (Kind b) (λ code u. inl (code, refl)) (λ p e. inr refl) (λ r m. inr refl))
 
 -- no refusal writes an entry
 writes-refused : (x : Single) (code : ℕ) → writes x (refused code) ≡ kept
@@ -88,17 +79,12 @@ ServeOut (taken a) = ⊥
 ServeOut (sent p r t) = Unit {0}
 
 pub serve-codes : (b : Board) → ServeOut (serve b .out)
-unfolding serve serveBy send
-serve-codes b = go (b .slot) (leastReady (b .places))
+unfolding send
+serve-codes b = serve-turns b (λ u. ServeOut (u .out)) stop (λ p e. tt) (λ r m. tt)
   where
-    tried : (t : Bool) (u : Turn) → ServeOut (u .out) → ServeOut (check b t 11 u .out)
-    tried true u s = inr refl
-    tried false u s = s
-
-    go : (s m : Option ℕ) → ServeOut (serveBy b s m .out)
-    go (some p) m = tt
-    go none none = inl refl
-    go none (some r) = tried (leb (2 ^ 62) (max (b .clock) r)) (send (begin b (max (b .clock) r)) (chosen b (max (b .clock) r))) tt
+    stop : (code : ℕ) → Unserved b code → (code ≡ 1) ⊎ (code ≡ 11)
+    stop code (nobody e l) = inl refl
+    stop code (late r e l h) = inr refl
 
 -- a burst's codes are 1 and those from 11 on
 abbrev isStop : ℕ → Type 0

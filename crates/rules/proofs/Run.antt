@@ -7,26 +7,29 @@ use Prim.Native.Nat.{ℕ, zero, suc, _+_, _-_, _≤_}
 use native.Mathlib.Omega.{arith}
 use lib.ListN.{length, getD, replicate, length-replicate}
 use Rattle.base.proofs.Sums.{sum-zero, below-zero}
-use Rattle.rules.specs.Calls.{Single, open!, close!, rename!, record!, serve!, step}
+use Rattle.rules.specs.Calls.{Single, step}
 use Rattle.rules.specs.Spoilt.{count}
 use Rattle.rules.specs.Board.{Record, Stand, out, queued, serving, Place, freePlace, blockClass, Board, at, fresh}
+use Rattle.rules.specs.Choice.{whereIs}
 use Rattle.rules.specs.Runs.{play}
 use Rattle.rules.proofs.Line.{Seat, free}
 use Rattle.rules.proofs.Steps.{idle-sound}
 use Rattle.rules.proofs.Orders.{Rising}
 use Rattle.rules.proofs.Shape.{free-ok, StandOk, All}
 use Rattle.rules.proofs.Good.{seatOf, seats, seat-at, Fine}
-use Rattle.rules.proofs.Turns.{Good, inLine, most, phi, bytesSent, fromPlace, limit, Keeps}
+use Rattle.rules.proofs.Turns.{Good, inLine, most, phi, bytesSent, fromPlace, limit, Keeps, keeps-refuse}
+use Rattle.rules.proofs.Cases.{other-cases}
 use Rattle.rules.proofs.Serve.{keeps-serve}
 use Rattle.rules.proofs.Calls.{keeps-record, keeps-rename, keeps-open, keeps-close}
 
 pub keeps-step : (b : Board) (x : Single) → Good b → Keeps b (step b x)
-unfolding step
-keeps-step b (open! n s) g = keeps-open b n s g
-keeps-step b (close! n) g = keeps-close b n g
-keeps-step b (rename! n m) g = keeps-rename b n m g
-keeps-step b (record! n x) g = keeps-record b n x g
-keeps-step b serve! g = keeps-serve b g
+keeps-step b x g = other-cases b (λ c u. Keeps b u) (record {
+  refused = λ c code r. keeps-refuse b code g;
+  opens = λ n s c. keeps-open b n s c g;
+  renames = λ old new c. keeps-rename b (whereIs b old) old new c g;
+  closes = λ n c. keeps-close b (whereIs b n) n c g;
+  takes = λ n r c. keeps-record b (whereIs b n) n r c g;
+}) (keeps-serve b g) x
 
 pub good-play : (b : Board) (xs : List Single) → Good b → Good (play b xs)
 unfolding play

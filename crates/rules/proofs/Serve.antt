@@ -7,7 +7,7 @@ use mathlib.Core.List.{List}
 use Prim.Native.Nat.{ℕ, _+_, _-_, _^_, _≤_, _<_, max}
 use native.Mathlib.Omega.{arith}
 use native.Mathlib.Decide.{ℕ-discrete}
-use lib.Dec.{leb, eqb}
+use lib.Dec.{eqb}
 use lib.ListN.{length, getD, set}
 use lib.Seq.{getD-set-same, getD-set-other}
 use Rattle.base.proofs.Numbers.{split, leb-no, eqb-yes, eqb-no}
@@ -17,14 +17,16 @@ use Rattle.units.proofs.Starts.{next-gt, next-is, next-start, start-add, start-
 use Rattle.units.specs.Credit.{creditOf}
 use Rattle.rules.specs.Spoilt.{isQueued, isServing, isAt}
 use Rattle.rules.specs.Board.{charge, Stand, out, queued, serving, Place, freePlace, blockClass, front, Board, at}
-use Rattle.rules.specs.Choice.{leastReady, isNone, release, started, sendFrom, send, begin, lowest, serve, serveBy}
+use Rattle.rules.specs.Choice.{isNone, release, started, sendFrom, send, begin, lowest, serve}
 use Rattle.rules.proofs.Line.{free, SeatOk}
 use Rattle.rules.proofs.Potential.{ahead, ahead-begin, ahead-jump}
 use Rattle.rules.proofs.Orders.{pl, ready}
-use Rattle.rules.proofs.Shape.{Chosen, choose, LeastIs, least-is, queued-in}
+use Rattle.rules.proofs.Shape.{Chosen, choose, LeastIs, queued-in}
 use Rattle.rules.proofs.Good.{seatOf, Fine, fine-begin, fine-jump, seat-ok}
 use Rattle.rules.proofs.Slot.{serving-ok}
-use Rattle.rules.proofs.Turns.{Good, busy, slotLeft, most, still, Keeps, keeps-refuse, keeps-check, Sends, sends, keeps-sent, keeps-send, queued-waits, Timely, dueOf, hand, handBy, due-queued, givenIn, front-pos}
+use Rattle.rules.proofs.Cases.{least-of, serve-turns}
+use Rattle.rules.proofs.Turns.{Good, busy, slotLeft, most, still, Keeps, keeps-refuse, Sends, sends, keeps-sent, keeps-send, queued-waits, Timely, dueOf}
+use Rattle.rules.proofs.Turns.{hand, handBy, due-queued, givenIn, front-pos}
 
 release-now : (c : ℕ) (H : ℕ → ℕ) → release c c H ≡ H
 unfolding release
@@ -156,10 +158,8 @@ module _ (b : Board) (r : ℕ) (free : b .slot ≡ none) (least : LeastIs (b .pl
 
 -- SERVE
 pub keeps-serve : (b : Board) → Good b → Keeps b (serve b)
-unfolding serve serveBy t p
-keeps-serve b g = go (b .slot) refl (leastReady (b .places)) (least-is (b .places))
-  where
-    go : (s : Option ℕ) → b .slot ≡ s → (m : Option ℕ) → LeastIs (b .places) m → Keeps b (serveBy b s m)
-    go (some q) e m l = keeps-send b q e g
-    go none e none l = keeps-refuse b 1 g
-    go none e (some r) l = keeps-check b (leb (2 ^ 62) (max (b .clock) r)) 11 (send (begin b (max (b .clock) r)) (getD (b .orders (lowest b (max (b .clock) r))) 0 0)) g (λ _. keeps-begin b r e l g)
+unfolding t p
+keeps-serve b g = serve-turns b (Keeps b)
+    (λ code u. keeps-refuse b code g)
+    (λ q e. keeps-send b q e g)
+    (λ r m. keeps-begin b r (m .slot) (least-of b r (m .least)) g)

@@ -13,10 +13,11 @@ use lib.Seq.{getD-set-same, getD-set-other}
 use Rattle.base.proofs.Numbers.{true-le, false-lt, eqb-yes, eqb-no}
 use Rattle.rules.specs.Spoilt.{isQueued, isServing, readyNum, isAt}
 use Rattle.rules.specs.Board.{noRecord, onward, charge, Place, freePlace, blockClass, front, Board, at}
-use Rattle.rules.specs.Choice.{upd, leftOf, Turn, leastReady, release, settle, started, emptied, short, going, ended, goOn, sendFrom, send, begin, lowest, check, serve, serveBy}
+use Rattle.rules.specs.Choice.{upd, leftOf, release, settle, started, emptied, short, going, ended, goOn, sendFrom, send, begin, lowest}
 use Rattle.rules.specs.Blocks.{quiet}
 use Rattle.rules.proofs.Orders.{pl}
-use Rattle.rules.proofs.Shape.{Shape, PlaceOk, names-kept, shape-same, shape-join, shape-clock, shape-begin, settle-le, release-le, Chosen, choose, LeastIs, least-is, queued-in}
+use Rattle.rules.proofs.Shape.{Shape, PlaceOk, names-kept, shape-same, shape-join, shape-clock, shape-begin, settle-le, release-le, Chosen, choose}
+use Rattle.rules.proofs.Shape.{LeastIs, queued-in}
 use Rattle.rules.proofs.Slot.{serving-not-queued, serving-ready}
 use Rattle.rules.proofs.Turns.{busy, lit}
 use Rattle.rules.proofs.Slot
@@ -120,21 +121,6 @@ module _ (b : Board) (r : ℕ) (free : b .slot ≡ none) (least : LeastIs (b .pl
           go (yes e) = rw (e, getD-set-same (b .places) p (started (b .largest) (at b p)) freePlace h) (sym (eqb-yes p p refl))
           go (no e) = rw (getD-set-other (b .places) p q (started (b .largest) (at b p)) freePlace e, eqb-no q p e) (g .one q ∙ ap (isAt q) free)
 
-  tidy-sent : Tidy (send (begin b t) p .next)
+  pub tidy-sent : Tidy (send (begin b t) p .next)
   unfolding begin
   tidy-sent = tidy-send (begin b t) p refl tidy-begin
-
-pub tidy-check : (b : Board) (t : Bool) (n : ℕ) (u : Turn) → Tidy b → (t ≡ false → Tidy (u .next)) → Tidy (check b t n u .next)
-tidy-check b true n u g f = g
-tidy-check b false n u g f = f refl
-
--- SERVE
-pub tidy-serve : (b : Board) → Tidy b → Tidy (serve b .next)
-unfolding serve serveBy
-tidy-serve b g = go (b .slot) refl (leastReady (b .places)) (least-is (b .places))
-  where
-    go : (s : Option ℕ) → b .slot ≡ s → (m : Option ℕ) → LeastIs (b .places) m → Tidy (serveBy b s m .next)
-    go (some q) e m l = tidy-send b q e g
-    go none e none l = g
-    go none e (some r) l = tidy-check b (leb (2 ^ 62) (max (b .clock) r)) 11 (send (begin b (max (b .clock) r)) (getD (b .orders (lowest b (max (b .clock) r))) 0 0)) g
-        (λ f. tidy-sent b r e l (false-lt (2 ^ 62) (max (b .clock) r) f) g)

@@ -1,32 +1,33 @@
 -- The other calls keep a board from being spoilt, and so does every call.
 use mathlib.Core.Path.{_≡_, refl, sym, ap, _∙_}
-use mathlib.Core.Bool.{Bool, true, false, cond, _&&_, _||_, true≢false, false≢true}
-use mathlib.Core.Logic.{_⊎_, inr, _≢_}
+use mathlib.Core.Bool.{Bool, true, false, cond, _&&_, true≢false, false≢true}
+use mathlib.Core.Logic.{_≢_}
 use mathlib.Core.Option.{Option, none, some}
 use mathlib.Core.List.{List, [], _∷_}
 use Prim.Native.Nat.{ℕ, zero, suc, _+_, _-_, _≤_, _<_}
 use native.Mathlib.Omega.{arith}
-use lib.Dec.{leb, ltb, eqb}
-use lib.ListN.{length, set, length-append}
+use lib.Dec.{leb}
+use lib.ListN.{length, set}
 use lib.Seq.{getD-set-same}
 use Rattle.base.specs.Sums.{sum, below}
 use Rattle.base.proofs.Sums.{below-one}
 use Rattle.base.specs.Tests.{least}
-use Rattle.base.proofs.Tests.{least-true, and-right}
-use Rattle.base.proofs.Numbers.{true-le, false-lt, eqb-true}
+use Rattle.base.proofs.Tests.{and-right}
+use Rattle.base.proofs.Numbers.{true-le, false-lt}
 use Rattle.units.proofs.Classes.{class-le}
-use Rattle.rules.specs.Calls.{Single, open!, close!, rename!, record!, serve!, step}
+use Rattle.rules.specs.Calls.{Single, step}
 use Rattle.rules.specs.Spoilt.{isQueued, isServing}
 use Rattle.rules.specs.Board.{Record, out, Place, freePlace, blockClass, Board, at, spent}
-use Rattle.rules.specs.Choice.{upd, leastReady, readyOf, isNone, goOn, more, joins, joining, takenIn, takeRecord, whereIs}
-use Rattle.rules.specs.Blocks.{opened, freeAt, openBlock, quiet, closed, closeBlock, renamed, renameBlock}
+use Rattle.rules.specs.Choice.{upd, leastReady, readyOf, isNone, goOn, more, joins, joining, takenIn, whereIs, serve}
+use Rattle.rules.specs.Blocks.{opened, freeAt, quiet, closed, renamed}
 use Rattle.rules.proofs.Orders.{pl, upd-same, upd-other}
-use Rattle.rules.proofs.Shape.{Shape, PlaceOk, StandOk, All, all-snoc, Fit, named-num, names-kept, names-set, free-ok, shape-same, shape-join, shape-other, LeastIs, least-is, most-pos}
+use Rattle.rules.proofs.Shape.{Shape, Distinct, PlaceOk, names-kept, free-ok, shape-same, shape-join}
+use Rattle.rules.proofs.Shape.{shape-other, LeastIs, least-is}
 use Rattle.rules.proofs.Good.{names-free}
 use Rattle.rules.proofs.Turns.{lit}
-use Rattle.rules.proofs.Calls.{lane-out, share-out, set-field, more-ok, or-left, or-right, not-zero, where-share, where-none}
-use Rattle.rules.proofs.Tidy.{Tidy, tidy-check, tidy-serve}
-use Rattle.rules.proofs.Checks.{take-checks, rename-checks, open-checks, close-checks}
+use Rattle.rules.proofs.Calls.{set-field, in-places, names-new, free-out, empty-out, opened-ok, renamed-ok, joins-ok, more-ok}
+use Rattle.rules.proofs.Tidy.{Tidy, tidy-send, tidy-sent}
+use Rattle.rules.proofs.Cases.{CanOpen, CanRename, CanClose, CanTake, other-cases, serve-turns, least-of}
 
 -- the least ready time hangs on the stands alone
 least-set : (l : List Place) (p : ℕ) (x : Place) → readyOf (x .stand) ≡ readyOf (pl l p .stand) → leastReady (set l p x) ≡ leastReady l
@@ -46,36 +47,30 @@ tidy-quiet b p x H′ h e calm sh g = record {
   time = g .time;
 }
 
-module _ (b : Board) (p : ℕ) (x : Record) (p64 : p < 64) (bought : 1 ≤ at b p .share) (small : Fit (b .largest) x) (depth : length (at b p .lane) < 32) (g : Tidy b) where
+module _ (b : Board) (p n : ℕ) (x : Record) (can : CanTake b p n x) (g : Tidy b) where
   in-l : p < length (b .places)
-  in-l = omega (arith, g .shape .all64)
+  in-l = in-places b (g .shape) p (can .has .inside)
 
   tidy-taken : Tidy (takenIn b p x)
-  unfolding takenIn All StandOk quiet LeastIs
+  unfolding takenIn quiet LeastIs
   tidy-taken = go (leb (length (at b p .lane)) 0) refl
     where
-      pok : PlaceOk (b .largest) (at b p)
-      pok = g .shape .placeOk p
-
-      isNamed : {y : Place} → (y ≡ freePlace) ⊎ ((1 ≤ at b p .number) × (1 ≤ at b p .share))
-      isNamed = inr (named-num (at b p) bought (pok .named), bought)
-
       go : (t : Bool) → leb (length (at b p .lane)) 0 ≡ t → Tidy (cond t (joining b p (joins (b .clock) (at b p) x)) (goOn b p (more (at b p) x)))
       go true e = record {
-        shape = shape-join p (at b p .start) (x ∷ []) (at b p .deficit) in-l (ap isQueued was) yok (g .shape);
+        shape = shape-join p (at b p .start) (x ∷ []) (at b p .deficit) in-l (ap isQueued was) (joins-ok b (g .shape) p n x can) (g .shape);
         one = λ q. set-field (λ z. isServing (z .stand)) (b .places) p y in-l (sym (ap isServing was)) q ∙ g .one q;
-        calm = λ q. absurd (noisy (leastReady (set (b .places) p y)) (least-is (set (b .places) p y)) (and-right (isNone (b .slot)) (isNone (leastReady (set (b .places) p y))) q));
+        calm = λ q. absurd (noisy (leastReady l) (least-is l) (and-right (isNone (b .slot)) (isNone (leastReady l)) q));
         time = g .time;
       }
         where
           y : Place
           y = joins (b .clock) (at b p) x
 
-          was : at b p .stand ≡ out
-          was = lane-out (b .largest) (at b p .share) (at b p .lane) (at b p .stand) (true-le (length (at b p .lane)) 0 e) (pok .standOk)
+          l : List Place
+          l = set (b .places) p y
 
-          yok : PlaceOk (b .largest) y
-          yok = record { items = (small, tt); owed = pok .owed; most = pok .most; standOk = (omega arith, bought); brief = omega arith; ring = pok .ring; clear = λ f. absurd (true≢false f); named = isNamed }
+          was : at b p .stand ≡ out
+          was = empty-out b (g .shape) p (true-le (length (at b p .lane)) 0 e)
 
           noisy : (m : Option ℕ) → LeastIs (set (b .places) p y) m → isNone m ≡ true → ⊥
           noisy none l f = true≢false (rw (getD-set-same (b .places) p y freePlace in-l) at (l p))
@@ -85,81 +80,33 @@ module _ (b : Board) (p : ℕ) (x : Record) (p64 : p < 64) (bought : 1 ≤ at b 
           z : Place
           z = more (at b p) x
 
-          zok : PlaceOk (b .largest) z
-          zok = record { items = all-snoc (Fit (b .largest)) (at b p .lane) x (pok .items) small; owed = pok .owed; most = pok .most; standOk = more-ok (b .largest) (at b p .share) (at b p .lane) x (at b p .stand) (false-lt (length (at b p .lane)) 0 e) (pok .standOk); brief = rw (length-append (at b p .lane) (x ∷ [])) (omega arith); ring = pok .ring; clear = pok .clear; named = isNamed }
+          zok : PlaceOk (b .largest) (more (at b p) x)
+          zok = more-ok b (g .shape) p n x can (false-lt (length (at b p .lane)) 0 e)
 
-pub tidy-record : (b : Board) (n : ℕ) (x : Record) → Tidy b → Tidy (takeRecord b n x .next)
-tidy-record b n x g = rw (take-checks b n x) (
-    tidy-check b (eqb n 0 || (eqb (x .bytes) 0 || ltb (b .largest) (x .bytes))) 4 _ g λ e1.
-    tidy-check b (leb 64 (whereIs b n)) 6 _ g λ e2.
-    tidy-check b (leb 32 (length (at b (whereIs b n) .lane))) 9 _ g λ e3.
-    let e4 = or-right (eqb n 0) (eqb (x .bytes) 0 || ltb (b .largest) (x .bytes)) e1 in
-    let small = false-lt (suc (b .largest)) (x .bytes) (or-right (eqb (x .bytes) 0) (ltb (b .largest) (x .bytes)) e4) in
-    let p64 = false-lt 64 (whereIs b n) e2 in
-    tidy-taken b (whereIs b n) x p64 (where-share b n p64) (not-zero (x .bytes) (or-left (eqb (x .bytes) 0) (ltb (b .largest) (x .bytes)) e4), omega arith) (false-lt 32 (length (at b (whereIs b n) .lane)) e3) g)
+tidy-rename : (b : Board) (p old new : ℕ) → CanRename b p old new → Tidy b → Tidy (goOn b p (renamed new (at b p)))
+tidy-rename b p old new can g =
+    let z = renamed new (at b p) in
+    let in-p = in-places b (g .shape) p (can .has .inside) in
+    tidy-quiet b p z (b .held) in-p refl (g .calm)
+    (shape-same p z in-p refl refl refl (names-new b (g .shape) p z (can .has .inside) (can .nobody)) (renamed-ok b (g .shape) p old new can) (g .shape)) g
 
-pub tidy-rename : (b : Board) (n m : ℕ) → Tidy b → Tidy (renameBlock b n m .next)
-tidy-rename b n m g = rw (rename-checks b n m) (
-    tidy-check b (eqb m 0) 4 _ g λ e1.
-    tidy-check b (leb 64 (whereIs b n)) 6 _ g λ e2.
-    tidy-check b (ltb (whereIs b m) 64) 5 _ g λ e3.
-    tidy-quiet b p z (b .held) (in-p e2) refl (g .calm)
-    (shape-same p z (in-p e2) refl refl refl (names-set (b .places) p z (in-p e2) (λ q ne a _ f. where-none b m (g .shape .all64) e3 q a f) (g .shape .names)) (zok e1 e2) (g .shape)) g)
-  where
-    p : ℕ
-    p = whereIs b n
+tidy-open : (b : Board) (n s : ℕ) → CanOpen b n s → Tidy b → Tidy (goOn b (freeAt b) (opened n s))
+unfolding spent
+tidy-open b n s can g =
+    let p = freeAt b in
+    let z = opened n s in
+    let in-p = in-places b (g .shape) p (can .inside) in
+    let was = free-out b (g .shape) n s can in
+    let names = names-new b (g .shape) p z (can .inside) (can .nobody) in
+    tidy-quiet b p z (b .held) in-p (sym was) (g .calm)
+    (shape-other p z (b .held) in-p (ap isQueued was) refl names (opened-ok b (g .shape) n s can) (omega (arith, can .room)) (g .shape)) g
 
-    z : Place
-    z = renamed m (at b p)
-
-    in-p : leb 64 (whereIs b n) ≡ false → whereIs b n < length (b .places)
-    in-p e = omega (arith, g .shape .all64, false-lt 64 (whereIs b n) e)
-
-    zok : eqb m 0 ≡ false → leb 64 (whereIs b n) ≡ false → PlaceOk (b .largest) z
-    zok e1 e2 = let k = g .shape .placeOk p in record { items = k .items; owed = k .owed; most = k .most; standOk = k .standOk; brief = k .brief; ring = k .ring; clear = k .clear; named = inr (not-zero m e1, where-share b n (false-lt 64 (whereIs b n) e2)) }
-
-pub tidy-open : (b : Board) (n s : ℕ) → Tidy b → Tidy (openBlock b n s .next)
-unfolding spent freeAt All StandOk
-tidy-open b n s g = rw (open-checks b n s) (
-    tidy-check b (eqb n 0 || (eqb s 0 || ltb 65536 s)) 4 _ g λ e1.
-    tidy-check b (ltb (whereIs b n) 64) 5 _ g λ e2.
-    tidy-check b (leb 64 (freeAt b)) 7 _ g λ e3.
-    tidy-check b (ltb (65536 - spent b) s) 8 _ g λ e4.
-    tidy-quiet b p z (b .held) (in-p e3) (sym (was e3)) (g .calm)
-    (shape-other p z (b .held) (in-p e3) (ap isQueued (was e3)) refl (names-set (b .places) p z (in-p e3) (λ q ne a _ f. where-none b n (g .shape .all64) e2 q a f) (g .shape .names)) (zok e1) (omega (arith, small e1, false-lt (suc (65536 - spent b)) s e4, g .shape .spent)) (g .shape)) g)
-  where
-    p : ℕ
-    p = freeAt b
-
-    z : Place
-    z = opened n s
-
-    small : eqb n 0 || (eqb s 0 || ltb 65536 s) ≡ false → s ≤ 65536
-    small e = omega (arith, false-lt (suc 65536) s (or-right (eqb s 0) (ltb 65536 s) (or-right (eqb n 0) (eqb s 0 || ltb 65536 s) e)))
-
-    zok : eqb n 0 || (eqb s 0 || ltb 65536 s) ≡ false → PlaceOk (b .largest) z
-    zok e = record { items = tt; owed = omega (arith, most-pos (b .largest) (g .shape .least)); most = small e; standOk = refl; brief = omega arith; ring = omega arith; clear = λ _. refl; named = inr (not-zero n (or-left (eqb n 0) (eqb s 0 || ltb 65536 s) e), not-zero s (or-left (eqb s 0) (ltb 65536 s) (or-right (eqb n 0) (eqb s 0 || ltb 65536 s) e))) }
-
-    in64 : leb 64 (freeAt b) ≡ false → freeAt b < 64
-    in64 e = false-lt 64 (freeAt b) e
-
-    in-p : leb 64 (freeAt b) ≡ false → freeAt b < length (b .places)
-    in-p e = omega (arith, g .shape .all64, in64 e)
-
-    was : leb 64 (freeAt b) ≡ false → at b p .stand ≡ out
-    was e = share-out (b .largest) (at b p .share) (at b p .lane) (at b p .stand) (eqb-true (at b p .share) 0 (least-true (λ i. eqb (at b i .share) 0) 64 (in64 e))) (g .shape .placeOk p .standOk)
-
-pub tidy-close : (b : Board) (n : ℕ) → Tidy b → Tidy (closeBlock b n .next)
+tidy-close : (b : Board) (p n : ℕ) → CanClose b p n → Tidy b → Tidy (closed b p)
 unfolding closed
-tidy-close b n g = rw (close-checks b n) (
-    tidy-check b (leb 64 (whereIs b n)) 6 _ g λ e1.
-    tidy-check b (ltb 0 (length (at b (whereIs b n) .lane))) 10 _ g λ e2.
-    tidy-quiet b p freePlace H′ (in-p e1) (sym (was e2)) (λ q j. rw q (g .calm q j))
-    (shape-other p freePlace H′ (in-p e1) (ap isQueued (was e2)) refl (names-free (b .places) p (in-p e1) (g .shape .names)) (free-ok (b .largest) (g .shape .least)) (room (quiet b)) (g .shape)) g)
+tidy-close b p n can g =
+    tidy-quiet b p freePlace H′ in-p (sym was) (λ q j. rw q (g .calm q j))
+    (shape-other p freePlace H′ in-p (ap isQueued was) refl names (free-ok (b .largest) (g .shape .least)) (room (quiet b)) (g .shape)) g
   where
-    p : ℕ
-    p = whereIs b n
-
     k : ℕ
     k = blockClass (at b p)
 
@@ -169,21 +116,31 @@ tidy-close b n g = rw (close-checks b n) (
     H′ : ℕ → ℕ
     H′ = cond (quiet b) (b .held) held
 
-    in-p : leb 64 (whereIs b n) ≡ false → whereIs b n < length (b .places)
-    in-p e = omega (arith, g .shape .all64, false-lt 64 (whereIs b n) e)
+    in-p : p < length (b .places)
+    in-p = in-places b (g .shape) p (can .has .inside)
 
-    was : ltb 0 (length (at b (whereIs b n) .lane)) ≡ false → at b p .stand ≡ out
-    was e = lane-out (b .largest) (at b p .share) (at b p .lane) (at b p .stand) (omega (arith, false-lt 1 (length (at b (whereIs b n) .lane)) e)) (g .shape .placeOk p .standOk)
+    was : at b p .stand ≡ out
+    was = empty-out b (g .shape) p (omega (arith, can .empty))
+
+    names : Distinct (set (b .places) p freePlace)
+    names = names-free (b .places) p in-p (g .shape .names)
 
     room : (t : Bool) → sum (λ y. y .share) (b .places) + below (cond t (b .held) held) 17 + 0 ≤ 65536 + at b p .share
     room true = omega (arith, g .shape .spent)
     room false = omega (arith, g .shape .spent, below-one held (b .held) 17 k (omega (arith, class-le (at b p .share))) (λ j e. upd-other (b .held) k (b .held k + at b p .share) j e), upd-same (b .held) k (b .held k + at b p .share))
 
+pub tidy-serve : (b : Board) → Tidy b → Tidy (serve b .next)
+tidy-serve b g = serve-turns b (λ u. Tidy (u .next))
+    (λ code u. g)
+    (λ p e. tidy-send b p e g)
+    (λ r m. tidy-sent b r (m .slot) (least-of b r (m .least)) (m .soon) g)
+
 -- EVERY CALL
 pub tidy-step : (b : Board) (x : Single) → Tidy b → Tidy (step b x .next)
-unfolding step
-tidy-step b (open! n s) g = tidy-open b n s g
-tidy-step b (close! n) g = tidy-close b n g
-tidy-step b (rename! n m) g = tidy-rename b n m g
-tidy-step b (record! n x) g = tidy-record b n x g
-tidy-step b serve! g = tidy-serve b g
+tidy-step b x g = other-cases b (λ c u. Tidy (u .next)) (record {
+  refused = λ c code r. g;
+  opens = λ n s c. tidy-open b n s c g;
+  renames = λ old new c. tidy-rename b (whereIs b old) old new c g;
+  closes = λ n c. tidy-close b (whereIs b n) n c g;
+  takes = λ n r c. tidy-taken b (whereIs b n) n r c g;
+}) (tidy-serve b g) x

@@ -17,7 +17,8 @@ use Rattle.units.proofs.Starts.{next-gt, next-mono}
 use Rattle.units.specs.Credit.{creditOf, largestCharge}
 use Rattle.rules.specs.Spoilt.{isQueued, isServing, readyNum, isAt}
 use Rattle.rules.specs.Board.{Record, noRecord, onward, charge, Stand, out, queued, serving, Place, freePlace, blockClass, front, Board, at}
-use Rattle.rules.specs.Choice.{upd, leftOf, Out, refused, done, taken, sent, Turn, isNone, emptied, short, going, more, ended, goOn, sendFrom, send, refuse, check}
+use Rattle.rules.specs.Choice.{upd, leftOf, Out, refused, done, taken, sent, Turn, isNone, emptied, short, going, more, ended, goOn, sendFrom, send}
+use Rattle.rules.specs.Choice.{refuse}
 use Rattle.rules.proofs.Line.{Seat}
 use Rattle.rules.proofs.Potential.{ahead, ahead-tick, ahead-join}
 use Rattle.rules.proofs.Orders.{pl, ready}
@@ -174,10 +175,6 @@ keeps-refuse b n g = record { good = g; stays = λ p w e. (w, refl, omega arith)
     comes : (p : ℕ) → inLine (at b p .stand) ≡ true → (inLine (at b p .stand) ≡ false) ⊎ (false ≡ true) → phi b p ≤ limit (b .largest) (blockClass (at b p))
     comes p w (inl e) = absurd (true≢false (sym w ∙ e))
     comes p w (inr e) = absurd (false≢true e)
-
-pub keeps-check : (b : Board) (t : Bool) (n : ℕ) (u : Turn) → Good b → (t ≡ false → Keeps b u) → Keeps b (check b t n u)
-keeps-check b true n u g f = keeps-refuse b n g
-keeps-check b false n u g f = f refl
 
 -- SEND. The slot is open at p
 pub waits-not-serving : (s : Stand) → inLine s ≡ true → isServing s ≡ false → isQueued s ≡ true

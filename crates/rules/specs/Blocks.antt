@@ -1,12 +1,13 @@
 -- OPENING, RENAMING, CLOSING (document 01, under that heading).
 use mathlib.Core.Bool.{Bool, cond, _&&_, _||_}
-use mathlib.Core.List.{[]}
+use mathlib.Core.List.{List, [], _∷_}
 use Prim.Native.Nat.{ℕ, _+_}
 use lib.Dec.{leb, ltb, eqb}
-use lib.ListN.{length, set}
+use lib.ListN.{set}
 use Rattle.base.specs.Tests.{least}
-use Rattle.rules.specs.Board.{Place, freePlace, out, Board, at, blockClass, freeShare}
-use Rattle.rules.specs.Choice.{done, Turn, refuse, check, find, byFound, upd, goOn, isNone, leastReady}
+use Rattle.rules.specs.Board.{Place, freePlace, out, Board, at, waits, blockClass, freeShare}
+use Rattle.rules.specs.Choice.{done, Turn, Check, check, guarded, whereIs, numberOutside, noneHas, someHas, upd}
+use Rattle.rules.specs.Choice.{goOn, isNone, leastReady}
 
 -- Open takes the lowest free place and the share, with deficit 0, start 0 and an empty lane.
 abbrev pub opened : ℕ → ℕ → Place
@@ -15,26 +16,40 @@ opened n s = record { number = n; share = s; start = 0; lane = []; deficit = 0; 
 unfoldable pub freeAt : Board → ℕ
 freeAt b = least (λ p. eqb (at b p .share) 0) 64
 
--- codes 4, 5, 7, 8
+-- Share: 1 to 65,536.
+abbrev pub shareOutside : (share : ℕ) → Bool
+shareOutside share = eqb share 0 || ltb 65536 share
+
+-- all 64 places are taken
+abbrev pub allTaken : Board → Bool
+allTaken b = leb 64 (freeAt b)
+
+-- the share exceeds the free share
+abbrev pub overFree : Board → (share : ℕ) → Bool
+overFree b share = ltb (freeShare b) share
+
+abbrev pub openChecks : Board → (n share : ℕ) → List Check
+openChecks b n share =
+    check 4 (numberOutside n || shareOutside share)
+    ∷ check 5 (someHas b n)
+    ∷ check 7 (allTaken b)
+    ∷ check 8 (overFree b share)
+    ∷ []
+
 unfoldable pub openBlock : Board → ℕ → ℕ → Turn
-openBlock b n s =
-    check b (eqb n 0 || (eqb s 0 || ltb 65536 s)) 4
-    (byFound (find b n) (λ p. refuse b 5)
-    (check b (leb 64 (freeAt b)) 7
-    (check b (ltb (freeShare b) s) 8
-    (record { out = done; next = goOn b (freeAt b) (opened n s) }))))
+openBlock b n s = guarded b (openChecks b n s) (record { out = done; next = goOn b (freeAt b) (opened n s) })
 
 -- Rename changes the number only. Lane, share, order, deficit and an open slot stay.
 abbrev pub renamed : ℕ → Place → Place
 renamed n x = record { number = n; share = x .share; start = x .start; lane = x .lane; deficit = x .deficit; stand = x .stand }
 
--- codes 4, 6, 5
+abbrev pub renameChecks : Board → (old new : ℕ) → List Check
+renameChecks b old new = check 4 (numberOutside new) ∷ check 6 (noneHas b old) ∷ check 5 (someHas b new) ∷ []
+
 unfoldable pub renameBlock : Board → ℕ → ℕ → Turn
 renameBlock b old new =
-    check b (eqb new 0) 4
-    (byFound (find b old)
-    (λ p. byFound (find b new) (λ q. refuse b 5) (record { out = done; next = goOn b p (renamed new (at b p)) }))
-    (refuse b 6))
+    let p = whereIs b old in
+    guarded b (renameChecks b old new) (record { out = done; next = goOn b p (renamed new (at b p)) })
 
 -- No block waits: no slot is open, and none is in an order.
 unfoldable pub quiet : Board → Bool
@@ -53,9 +68,8 @@ closed b p =
       held = cond (quiet b) (b .held) (upd (b .held) (blockClass (at b p)) (b .held (blockClass (at b p)) + at b p .share));
     }
 
--- codes 6, 10
+abbrev pub closeChecks : Board → (n : ℕ) → List Check
+closeChecks b n = check 6 (noneHas b n) ∷ check 10 (waits (at b (whereIs b n))) ∷ []
+
 unfoldable pub closeBlock : Board → ℕ → Turn
-closeBlock b n =
-    byFound (find b n)
-    (λ p. check b (ltb 0 (length (at b p .lane))) 10 (record { out = done; next = closed b p }))
-    (refuse b 6)
+closeBlock b n = guarded b (closeChecks b n) (record { out = done; next = closed b (whereIs b n) })

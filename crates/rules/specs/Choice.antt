@@ -32,10 +32,18 @@ pub record Turn : Type 0 where
 abbrev pub refuse : Board → ℕ → Turn
 refuse b code = record { out = refused code; next = b }
 
--- Checks go down the table: a test that holds gives its code.
-abbrev pub check : Board → Bool → ℕ → Turn → Turn
-check b true code t = refuse b code
-check b false code t = t
+-- A line of the table: a code, and whether its condition holds.
+pub record Check : Type 0 where
+  pub code : ℕ
+  pub holds : Bool
+
+abbrev pub check : (code : ℕ) → Bool → Check
+check code holds = record { code = code; holds = holds }
+
+-- Checks go down the table: the first that holds refuses with its code; where none holds the turn is done.
+abbrev pub guarded : Board → List Check → Turn → Turn
+guarded b [] t = t
+guarded b (c ∷ cs) t = cond (c .holds) (refuse b (c .code)) (guarded b cs t)
 
 -- ---- The open block with a number: what each caller does with an open number and with an unknown one
 
@@ -56,6 +64,20 @@ find b n = foundAt (ltb (whereIs b n) 64) (whereIs b n)
 abbrev pub byFound : {A : Type 0} → Found → (ℕ → A) → A → A
 byFound (openAt p) isOpen isUnknown = isOpen p
 byFound unknown isOpen isUnknown = isUnknown
+
+-- ---- Conditions of the table on a number
+
+-- outside its range: any 32-bit number but 0
+abbrev pub numberOutside : (n : ℕ) → Bool
+numberOutside n = eqb n 0
+
+-- no open block has that number
+abbrev pub noneHas : Board → (n : ℕ) → Bool
+noneHas b n = leb 64 (whereIs b n)
+
+-- an open block has the new number, itself included
+abbrev pub someHas : Board → (n : ℕ) → Bool
+someHas b n = ltb (whereIs b n) 64
 
 -- ---- Small steps
 
@@ -92,13 +114,27 @@ joins clock x r = record { number = x .number; share = x .share; start = x .star
 unfoldable pub takenIn : Board → ℕ → Record → Board
 takenIn b p r = cond (leb (length (at b p .lane)) 0) (joining b p (joins (b .clock) (at b p) r)) (goOn b p (more (at b p) r))
 
--- codes 4, 6, 9
+-- the record is taken at place p
+abbrev pub tookAt : Board → (p : ℕ) → Record → Turn
+tookAt b p r =
+    record { out = taken (record { entry = entry p (at b p) (length (at b p .lane)) }); next = takenIn b p r }
+
+abbrev pub lengthOutside : Board → (bytes : ℕ) → Bool
+lengthOutside b bytes = eqb bytes 0 || ltb (b .largest) bytes
+
+-- the lane holds 32 records
+abbrev pub laneFull : Place → Bool
+laneFull x = leb (depth x) (length (x .lane))
+
+abbrev pub recordChecks : Board → (n : ℕ) → Record → List Check
+recordChecks b n r =
+    check 4 (numberOutside n || lengthOutside b (r .bytes))
+    ∷ check 6 (noneHas b n)
+    ∷ check 9 (laneFull (at b (whereIs b n)))
+    ∷ []
+
 unfoldable pub takeRecord : Board → ℕ → Record → Turn
-takeRecord b n r =
-    check b (eqb n 0 || (eqb (r .bytes) 0 || ltb (b .largest) (r .bytes))) 4
-    (byFound (find b n)
-    (λ p. check b (leb (depth (at b p)) (length (at b p .lane))) 9 (record { out = taken (record { entry = entry p (at b p) (length (at b p .lane)) }); next = takenIn b p r }))
-    (refuse b 6))
+takeRecord b n r = guarded b (recordChecks b n r) (tookAt b (whereIs b n) r)
 
 -- ---- 5. A slot that began at t ends
 
@@ -202,13 +238,18 @@ begin b t =
       held = release (b .clock) t (b .held);
     }
 
+-- the slot would begin at 2^62 or later
+abbrev pub beginChecks : (t : ℕ) → List Check
+beginChecks t = check 11 (leb (2 ^ 62) t) ∷ []
+
 -- If none is pending, the clock goes to the least ready time among waiting blocks: the slot begins at the later of that and the clock.
--- Code 1 where no block waits: no slot is open, and none is in an order. Code 11 where the slot would begin at 2^62 or later.
+-- Code 1 where no block waits: no slot is open, and none is in an order.
 unfoldable pub serveBy : Board → Option ℕ → Option ℕ → Turn
 serveBy b (some p) ready = send b p
 serveBy b none none = refuse b 1
 serveBy b none (some ready) =
-    check b (leb (2 ^ 62) (max (b .clock) ready)) 11 (send (begin b (max (b .clock) ready)) (chosen b (max (b .clock) ready)))
+    guarded b (beginChecks (max (b .clock) ready))
+    (send (begin b (max (b .clock) ready)) (chosen b (max (b .clock) ready)))
 
 unfoldable pub serve : Board → Turn
 serve b = serveBy b (b .slot) (leastReady (b .places))
