@@ -1,4 +1,4 @@
--- A board with one field changed. Where a field is added to the board, only this file names all of them.
+-- WORKING DEFINITIONS: a board with one field changed. A theorem ties what is written with them to the rules.
 use mathlib.Core.List.{List}
 use Prim.Native.Nat.{ℕ}
 use Rattle.board.specs.declared.Board.{Board}
@@ -8,9 +8,6 @@ with-numbers b x = record { numbers = x; shares = b .shares; deficits = b .defic
 
 abbrev pub with-shares : Board → List ℕ → Board
 with-shares b x = record { numbers = b .numbers; shares = x; deficits = b .deficits; starts = b .starts; counts = b .counts; ready = b .ready; next = b .next; heads = b .heads; tails = b .tails; held = b .held; largest = b .largest; clock = b .clock; active = b .active; pending = b .pending; slot = b .slot; left = b .left }
-
-abbrev pub with-deficits : Board → List ℕ → Board
-with-deficits b x = record { numbers = b .numbers; shares = b .shares; deficits = x; starts = b .starts; counts = b .counts; ready = b .ready; next = b .next; heads = b .heads; tails = b .tails; held = b .held; largest = b .largest; clock = b .clock; active = b .active; pending = b .pending; slot = b .slot; left = b .left }
 
 abbrev pub with-starts : Board → List ℕ → Board
 with-starts b x = record { numbers = b .numbers; shares = b .shares; deficits = b .deficits; starts = x; counts = b .counts; ready = b .ready; next = b .next; heads = b .heads; tails = b .tails; held = b .held; largest = b .largest; clock = b .clock; active = b .active; pending = b .pending; slot = b .slot; left = b .left }
@@ -33,20 +30,5 @@ with-tails b x = record { numbers = b .numbers; shares = b .shares; deficits = b
 abbrev pub with-held : Board → List ℕ → Board
 with-held b x = record { numbers = b .numbers; shares = b .shares; deficits = b .deficits; starts = b .starts; counts = b .counts; ready = b .ready; next = b .next; heads = b .heads; tails = b .tails; held = x; largest = b .largest; clock = b .clock; active = b .active; pending = b .pending; slot = b .slot; left = b .left }
 
-abbrev pub with-largest : Board → ℕ → Board
-with-largest b x = record { numbers = b .numbers; shares = b .shares; deficits = b .deficits; starts = b .starts; counts = b .counts; ready = b .ready; next = b .next; heads = b .heads; tails = b .tails; held = b .held; largest = x; clock = b .clock; active = b .active; pending = b .pending; slot = b .slot; left = b .left }
-
-abbrev pub with-clock : Board → ℕ → Board
-with-clock b x = record { numbers = b .numbers; shares = b .shares; deficits = b .deficits; starts = b .starts; counts = b .counts; ready = b .ready; next = b .next; heads = b .heads; tails = b .tails; held = b .held; largest = b .largest; clock = x; active = b .active; pending = b .pending; slot = b .slot; left = b .left }
-
 abbrev pub with-active : Board → ℕ → Board
 with-active b x = record { numbers = b .numbers; shares = b .shares; deficits = b .deficits; starts = b .starts; counts = b .counts; ready = b .ready; next = b .next; heads = b .heads; tails = b .tails; held = b .held; largest = b .largest; clock = b .clock; active = x; pending = b .pending; slot = b .slot; left = b .left }
-
-abbrev pub with-pending : Board → ℕ → Board
-with-pending b x = record { numbers = b .numbers; shares = b .shares; deficits = b .deficits; starts = b .starts; counts = b .counts; ready = b .ready; next = b .next; heads = b .heads; tails = b .tails; held = b .held; largest = b .largest; clock = b .clock; active = b .active; pending = x; slot = b .slot; left = b .left }
-
-abbrev pub with-slot : Board → ℕ → Board
-with-slot b x = record { numbers = b .numbers; shares = b .shares; deficits = b .deficits; starts = b .starts; counts = b .counts; ready = b .ready; next = b .next; heads = b .heads; tails = b .tails; held = b .held; largest = b .largest; clock = b .clock; active = b .active; pending = b .pending; slot = x; left = b .left }
-
-abbrev pub with-left : Board → ℕ → Board
-with-left b x = record { numbers = b .numbers; shares = b .shares; deficits = b .deficits; starts = b .starts; counts = b .counts; ready = b .ready; next = b .next; heads = b .heads; tails = b .tails; held = b .held; largest = b .largest; clock = b .clock; active = b .active; pending = b .pending; slot = b .slot; left = record { 0 = x } }

@@ -22,7 +22,8 @@ use Rattle.calls.specs.declared.Served.{Served}
 use Rattle.engine.specs.Serving.{engineOf, withEngine, Within, engineAfter, servedWithin, CanServe}
 use Rattle.calls.specs.Promises.{Known}
 use Rattle.calls.specs.Contract.{notServed, goodServe, BurstOutcome, burstNow, burstBy, goodBurst}
-use Rattle.engine.proofs.Serves.{number-of, ByAnswer, serve-by, can-serve}
+use Rattle.engine.proofs.Fields.{number-is}
+use Rattle.engine.proofs.Serves.{ByAnswer, serve-by, can-serve}
 use Rattle.engine.proofs.Within.{fit-serve, Stops, Goes, within-by}
 
 -- the engine's answer on a value
@@ -92,7 +93,7 @@ module _ (b : struct.Board) (ids lens : List ℕ) (known : Known b ids lens) whe
         go (inr g) = rw (g .out) (λ j. record { code = 0; block = block j; number = g .number-is j; length = g .bytes-is j; clock = w .step .time; board = (n-is ∙ after-is w (g .next)) j })
           where
             block : getD (b .numbers) (w .step .place) 0 ≡ at m (w .step .place) .number
-            block = ap (λ (c : struct.Board). getD (c .numbers) (w .step .place) 0) (sym spells) ∙ number-of m (w .step .place)
+            block = ap (λ (c : struct.Board). getD (c .numbers) (w .step .place) 0) (sym spells) ∙ number-is m (w .step .place)
 
   pub known-next : Holds (serve m .next) ids lens → Known (encode (serve m .next)) ids lens
   known-next h = known-encode (serve m .next) ids lens (fit-serve m fit) h (known .ids-all) (known .lens-all)

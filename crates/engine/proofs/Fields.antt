@@ -22,3 +22,7 @@ module _ (m : Board.Board) (i : ℕ) where
   pub count-is : getD (encode m .counts) i 0 ≡ length (at m i .lane)
   unfolding encode
   count-is = List·getD-map (λ (y : Place). length (y .lane)) (m .places) i freePlace
+
+  pub deficit-is : getD (encode m .deficits) i 0 ≡ at m i .deficit
+  unfolding encode
+  deficit-is = List·getD-map (λ (y : Place). y .deficit) (m .places) i freePlace

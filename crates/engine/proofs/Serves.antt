@@ -38,32 +38,11 @@ use Rattle.board.proofs.Reading.{Fit, small}
 use Rattle.board.proofs.Moves.{after-first}
 use Rattle.engine.specs.declared.Choice.the-variants.{Stop, Go}
 use Rattle.engine.specs.Serving.{Engine, engineOf, withEngine, choice, choiceOf, chosenClass, slotClock, CanChoose, CanBegin, openedSlot, opened, frontEntry, startAfter, sentFrom, CanSend, enacted, CanEnact, CanServe}
+use Rattle.engine.proofs.Fields.{number-is, share-is, start-is, count-is, deficit-is}
 use Rattle.engine.proofs.Sets as sets
 use Rattle.engine.proofs.Choosing.{choice-is}
 use Rattle.engine.proofs.Beginning.{begin-is}
 use Rattle.engine.proofs.Sending.{emptyEngine, goingEngine, waitingEngine, isS, inL, some!, going-is, empty-is, short-is}
-
--- ---- What a place's entries of the arrays are
-module _ (m : Board.Board) (p : ℕ) where
-  pub number-of : getD (encode m .numbers) p 0 ≡ at m p .number
-  unfolding encode
-  number-of = List·getD-map (λ (w : Place). w .number) (m .places) p freePlace
-
-  pub start-of : getD (encode m .starts) p 0 ≡ at m p .start
-  unfolding encode
-  start-of = List·getD-map (λ (w : Place). w .start) (m .places) p freePlace
-
-  count-of : getD (encode m .counts) p 0 ≡ length (at m p .lane)
-  unfolding encode
-  count-of = List·getD-map (λ (w : Place). length (w .lane)) (m .places) p freePlace
-
-  share-of : getD (encode m .shares) p 0 ≡ at m p .share
-  unfolding encode
-  share-of = List·getD-map (λ (w : Place). w .share) (m .places) p freePlace
-
-  deficit-of : getD (encode m .deficits) p 0 ≡ at m p .deficit
-  unfolding encode
-  deficit-of = List·getD-map (λ (w : Place). w .deficit) (m .places) p freePlace
 
 -- ---- The front of a lane and the record behind it
 
@@ -147,7 +126,7 @@ module _ (m : Board.Board) (fit : Fit m) (p : ℕ) (held! : m .slot ≡ some p) 
   pub send-is : withEngine (encode m) (sentFrom (encode m .shares) lens p (engineOf (encode m))) ≡ encode (sendFrom m p)
   unfolding sendFrom send
   send-is =
-      ap (withEngine (encode m)) (sent-eq (encode m .shares) lens p (engineOf (encode m)) (x .start) (length (x .lane)) (x .share) (start-of m p) (count-of m p) (share-of m p))
+      ap (withEngine (encode m)) (sent-eq (encode m .shares) lens p (engineOf (encode m)) (x .start) (length (x .lane)) (x .share) (start-is m p) (count-is m p) (share-is m p))
       ∙ rw (rest-is, after-is x, last-one (length (x .lane)) one!) (go (leb (length (x .lane)) 1) refl (tidy-send m p held! (fit .tidy)))
     where
       need : ℕ
@@ -207,13 +186,13 @@ module _ (m : Board.Board) (fit : Fit m) (p : ℕ) (held! : m .slot ≡ some p) 
   can-send h = record {
     inside = omega (arith, inL m fit p held!, fit .tidy .shape .all64);
     table = h;
-    ring = rw (start-of m p) (fit .tidy .shape .placeOk p .ring);
-    some = rw (count-of m p) one!;
-    low = rw (share-of m p) (ok .1);
-    high = rw (share-of m p) (fit .tidy .shape .placeOk p .most);
-    tail = rw (share-of m p) (rw tail-of (last-small (blockClass x)));
+    ring = rw (start-is m p) (fit .tidy .shape .placeOk p .ring);
+    some = rw (count-is m p) one!;
+    low = rw (share-is m p) (ok .1);
+    high = rw (share-is m p) (fit .tidy .shape .placeOk p .most);
+    tail = rw (share-is m p) (rw tail-of (last-small (blockClass x)));
     time = time;
-    fits = rw (start-of m p, bytes-is, charge-is (front x), left-of) (ok .2);
+    fits = rw (start-is m p, bytes-is, charge-is (front x), left-of) (ok .2);
   }
     where
       ok : (1 ≤ length (x .lane)) × (1 ≤ x .share) × (charge (front x) * 65536 ≤ leftOf (x .stand)) × (leftOf (x .stand) < 3 * largestCharge (m .largest) * 65536)
@@ -448,12 +427,12 @@ module _ (m : Board.Board) (fit : Fit m) (ids lens : List ℕ) (holds : Holds m 
       can-begin = record {
         inside = w .inside;
         class = refl;
-        low = rw (share-of m p) (w .bought);
-        high = rw (share-of m p) (fit .tidy .shape .placeOk p .most);
+        low = rw (share-is m p) (w .bought);
+        high = rw (share-is m p) (fit .tidy .shape .placeOk p .most);
         least = fit .tidy .shape .least;
         most = fit .tidy .shape .most;
         behind = rw after (first-small (drop 1 (m .orders (lowest m t))) refl);
-        owed = rw (deficit-of m p) (omega (arith, fit .tidy .shape .placeOk p .owed, charge-small (m .largest) (fit .tidy .shape .most)));
+        owed = rw (deficit-is m p) (omega (arith, fit .tidy .shape .placeOk p .owed, charge-small (m .largest) (fit .tidy .shape .most)));
       }
         where
           ps : List ℕ

@@ -23,7 +23,8 @@ use Rattle.board.proofs.Reading.{Fit}
 use Rattle.engine.specs.declared.Choice.{Choice}
 use Rattle.engine.specs.declared.Choice.the-variants.{Go}
 use Rattle.engine.specs.Serving.{Engine, engineOf, withEngine, choiceOf, frontEntry, enacted, Within, engineAfter, withinOf, servedBy, servedWithin}
-use Rattle.engine.proofs.Serves.{start-of, Serves, ByAnswer, serve-by}
+use Rattle.engine.proofs.Fields.{start-is}
+use Rattle.engine.proofs.Serves.{Serves, ByAnswer, serve-by}
 
 -- no board is left unfit by a serve
 pub fit-serve : (m : Board.Board) → Fit m → Fit (serve m .next)
@@ -90,7 +91,7 @@ module _ (m : Board.Board) (fit : Fit m) (ids lens : List ℕ) (holds : Holds m 
   go-on : (p : ℕ) (r : Record) (t : ℕ) → serve m .out ≡ sent p r t → Serves m ids lens p r t (serve m .next)
       → Stops m bytes room (made (Go p t)) ⊎ Goes m ids lens bytes room (made (Go p t))
   unfolding charge frontEntry
-  go-on p r t e w = rw (start-of m p, w .bytes) (by-room (split 1 room))
+  go-on p r t e w = rw (start-is m p, w .bytes) (by-room (split 1 room))
     where
       c : ℕ
       c = charged (r .bytes)

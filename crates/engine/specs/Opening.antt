@@ -1,4 +1,5 @@
--- The engine's steps of renaming, opening and closing, with their codes, on the board's lists. (A promise cites none of them.)
+-- WORKING DEFINITIONS: the engine's steps of renaming, opening and closing, with their codes, on the board's lists.
+-- Theorems tie them to the rules; no promise of a call cites one.
 use mathlib.Core.Bool.{Bool, cond, not, _||_}
 use mathlib.Core.List.{List}
 use Prim.Native.Nat.{ℕ, _+_, _≤_}

@@ -1,4 +1,5 @@
--- The engine's steps of a serving call, on the board's lists. (A promise names none of them.)
+-- WORKING DEFINITIONS: the engine's steps of a serving call, on the board's lists. Theorems tie them to the rules; no
+-- promise of a call cites one.
 use mathlib.Core.Path.{_≡_}
 use mathlib.Core.Bool.{cond}
 use mathlib.Core.List.{List}

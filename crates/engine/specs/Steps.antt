@@ -1,4 +1,5 @@
--- The engine's steps of finding a number, joining an order and taking a record, on the board's lists. (A promise cites none of them.)
+-- WORKING DEFINITIONS: the engine's steps of finding a number, joining an order and taking a record, on the board's
+-- lists. Theorems tie them to the rules; no promise of a call cites one.
 use mathlib.Core.Bool.{cond, _||_}
 use mathlib.Core.Path.{_≡_}
 use mathlib.Core.List.{List}

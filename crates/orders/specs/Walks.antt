@@ -1,5 +1,6 @@
--- THE RULES OF THE CLASS ORDERS AND SETS, as they are computed from the arrays, each named after its clause of document 01.
--- Lists stand for the arrays; a link to place p is p + 1 and 0 is none.
+-- WORKING DEFINITIONS: the rules of the class orders and sets, as they are computed from the arrays, each named after
+-- its clause of document 01. Lists stand for the arrays; a link to place p is p + 1 and 0 is none. `SoundDecides`
+-- ties them to the rules; no promise of a call cites one.
 use mathlib.Core.Bool.{Bool, cond, not, _&&_, _||_}
 use mathlib.Core.List.{List}
 use Prim.Native.Nat.{ℕ, zero, suc, _+_, _*_, _-_, _/_, _^_}

@@ -1,4 +1,5 @@
--- THE RULES OF THE PLACES, as they are computed from the arrays, each named after its clause of document 01. Lists stand for the arrays.
+-- WORKING DEFINITIONS: the rules of the places, as they are computed from the arrays, each named after its clause of
+-- document 01. Lists stand for the arrays. `SoundDecides` ties them to the rules; no promise of a call cites one.
 use mathlib.Core.Bool.{Bool, not, _&&_, _||_}
 use mathlib.Core.List.{List, [], _∷_}
 use Prim.Native.Nat.{ℕ, _+_}

@@ -28,7 +28,7 @@ use Rattle.lines.specs.Listing.{openLine, closeLine, nameLine, inLine}
 use Rattle.engine.specs.Steps.{takingOf, withTaking, blocksOf, Recording, recordedIn}
 use Rattle.engine.specs.Opening.{Renaming, renamedIn, withRenaming, Opening, openedIn, withOpening, Closing, closedIn, withClosing}
 use Rattle.engine.specs.Serving.{engineOf, withEngine, Within, engineAfter}
-use Rattle.engine.proofs.Serves.{number-of}
+use Rattle.engine.proofs.Fields.{number-is}
 use Rattle.engine.proofs.Within.{fit-serve, Stops, Goes}
 use Rattle.calls.specs.declared.Reply.{Reply}
 use Rattle.calls.specs.Promises.{Returned, returned, replied, Known, ruled}
@@ -159,7 +159,7 @@ module _ (s : Memory) (k : KnownMemory s) (before : List ℕ) (count : ℕ) (lin
         next-is = after-is (s .board) (s .ids) (s .lens) k w (g .next)
 
         block : getD (s .board .numbers) (w .step .place) 0 ≡ at m (w .step .place) .number
-        block = ap (λ (c : struct.Board). getD (c .numbers) (w .step .place) 0) (sym (spells (s .board) (s .ids) (s .lens) k)) ∙ number-of m (w .step .place)
+        block = ap (λ (c : struct.Board). getD (c .numbers) (w .step .place) 0) (sym (spells (s .board) (s .ids) (s .lens) k)) ∙ number-is m (w .step .place)
 
     serve-is : ServeIs
     serve-is = go (by-cases (s .board) (s .ids) (s .lens) k 65536 1 w w-is)

@@ -1,5 +1,6 @@
--- THE SPOILT TEST AS IT IS COMPUTED: each rule on what is read from the arrays and the tables, named after its clause of document 01.
--- No promise rests on it: SoundDecides says that it is passed exactly by the values that are not spoilt.
+-- WORKING DEFINITIONS: the spoilt test as it is computed, each rule on what is read from the arrays and the tables,
+-- named after its clause of document 01. No promise of a call rests on it: SoundDecides says that it is passed
+-- exactly by the values that are not spoilt.
 use mathlib.Core.Path.{_≡_}
 use mathlib.Core.Bool.{Bool, cond, not, _&&_}
 use mathlib.Core.List.{List, [], _∷_}
