@@ -7,6 +7,12 @@ ghost use Rattle.calls.specs.Contract.{goodServe, burstNow, goodBurst, c
 ghost use Rattle.calls.specs.Promises.{called, earlyCode, returned, Known, ruled, made};
 use board::Board;
 use engine::Step;
+use numbers::CLASSES;
+use numbers::GREATEST_LARGEST;
+use numbers::LEAST_LARGEST;
+use numbers::PLACES;
+use numbers::TABLE_ENTRIES;
+use numbers::codes;
 use units::Bytes;
 
 // What a call gives back: its code, and the board.
@@ -159,14 +165,14 @@ fn close_block(ids: &[u32], lens: &[u16], block: u32, b: Board) -> Reply
 
 // The board that a step of serving leaves.
 fn rebuilt(
-    starts: [u8; 64],
-    counts: [u8; 64],
-    deficits: [u64; 64],
-    ready: [u64; 64],
-    next: [u8; 64],
-    heads: [u8; 17],
-    tails: [u8; 17],
-    held: [u32; 17],
+    starts: [u8; PLACES],
+    counts: [u8; PLACES],
+    deficits: [u64; PLACES],
+    ready: [u64; PLACES],
+    next: [u8; PLACES],
+    heads: [u8; CLASSES],
+    tails: [u8; CLASSES],
+    held: [u32; CLASSES],
     s: Step,
     b: Board,
 ) -> Board
@@ -225,7 +231,7 @@ fn serve_board(ids: &[u32], lens: &[u16], b: Board) -> Served
         &mut held,
         lens,
     );
-    if s.code != 0 {
+    if s.code != codes::DONE {
         return Served {
             code: s.code,
             block: 0,
@@ -250,7 +256,7 @@ fn serve_board(ids: &[u32], lens: &[u16], b: Board) -> Served
         b,
     );
     Served {
-        code: 0,
+        code: codes::DONE,
         block: b.numbers[place],
         number: ids[entry],
         length: lens[entry],
@@ -303,7 +309,7 @@ fn burst_board(bytes: Bytes, list: &mut [u32], ids: &[u32], lens: &[u16], b: Boa
             &mut held,
             lens,
         );
-        if s.code != 0 {
+        if s.code != codes::DONE {
             let board = rebuilt(
                 starts,
                 counts,
@@ -340,22 +346,22 @@ fn burst_board(bytes: Bytes, list: &mut [u32], ids: &[u32], lens: &[u16], b: Boa
 
 // ---- The public calls
 
-// The code that comes before all others: 3, 2, or 0 where the board is known to be good.
+// The code that comes before all others: TABLE_LENGTH, SPOILT, or DONE where the board is known to be good.
 pub fn early(ids: &[u32], lens: &[u16], b: Board) -> u8
     ensures { λ r. ⌜
         (r ≡ earlyCode b (now (ids .entry)) (now (lens .entry)))
         × (r ≡ 0 → Known b (now (ids .entry)) (now (lens .entry))) ⌝ }
 {
-    if ids.len() != 2048 {
-        return 3;
+    if ids.len() != TABLE_ENTRIES {
+        return codes::TABLE_LENGTH;
     }
-    if lens.len() != 2048 {
-        return 3;
+    if lens.len() != TABLE_ENTRIES {
+        return codes::TABLE_LENGTH;
     }
     if sound::sound(ids, lens, b) {
-        return 0;
+        return codes::DONE;
     }
-    2
+    codes::SPOILT
 }
 
 // A block opens with this number and share.
@@ -365,7 +371,7 @@ pub fn open(ids: &[u32], lens: &[u16], block: u32, share: u32, b: Board) -> Repl
         ≡ called b (now (ids .entry)) (now (lens .entry)) (open! block share) ⌝ }
 {
     let code = early(ids, lens, b);
-    if code != 0 {
+    if code != codes::DONE {
         return Reply {
             code: code,
             board: b,
@@ -381,7 +387,7 @@ pub fn rename(ids: &[u32], lens: &[u16], old: u32, new: u32, b: Board) -> Reply
         ≡ called b (now (ids .entry)) (now (lens .entry)) (rename! old new) ⌝ }
 {
     let code = early(ids, lens, b);
-    if code != 0 {
+    if code != codes::DONE {
         return Reply {
             code: code,
             board: b,
@@ -397,7 +403,7 @@ pub fn close(ids: &[u32], lens: &[u16], block: u32, b: Board) -> Reply
         ≡ called b (now (ids .entry)) (now (lens .entry)) (close! block) ⌝ }
 {
     let code = early(ids, lens, b);
-    if code != 0 {
+    if code != codes::DONE {
         return Reply {
             code: code,
             board: b,
@@ -420,7 +426,7 @@ pub fn record(
         ≡ called b (now (ids .entry)) (now (lens .entry)) (record! block (record { number = id; bytes = length })) ⌝ }
 {
     let code = early(&ids[..], &lens[..], b);
-    if code != 0 {
+    if code != codes::DONE {
         return Reply {
             code: code,
             board: b,
@@ -456,34 +462,34 @@ pub fn make(ids: &mut [u32], lens: &mut [u16], largest: u32) -> Reply
         returned r (now (ids .exit)) (now (lens .exit))
         ≡ made (now (ids .entry)) (now (lens .entry)) largest ⌝ }
 {
-    if ids.len() != 2048 {
+    if ids.len() != TABLE_ENTRIES {
         return Reply {
-            code: 3,
+            code: codes::TABLE_LENGTH,
             board: engine::blank(0),
         };
     }
-    if lens.len() != 2048 {
+    if lens.len() != TABLE_ENTRIES {
         return Reply {
-            code: 3,
+            code: codes::TABLE_LENGTH,
             board: engine::blank(0),
         };
     }
-    if largest < 64 {
+    if largest < LEAST_LARGEST {
         return Reply {
-            code: 4,
+            code: codes::OUT_OF_RANGE,
             board: engine::blank(0),
         };
     }
-    if 2048 < largest {
+    if GREATEST_LARGEST < largest {
         return Reply {
-            code: 4,
+            code: codes::OUT_OF_RANGE,
             board: engine::blank(0),
         };
     }
     clear_ids(ids);
     clear_lens(lens);
     Reply {
-        code: 0,
+        code: codes::DONE,
         board: engine::blank(largest),
     }
 }
@@ -495,7 +501,7 @@ pub fn serve(ids: &[u32], lens: &[u16], b: Board) -> Served
         ≡ calledServe b (now (ids .entry)) (now (lens .entry)) ⌝ }
 {
     let code = early(ids, lens, b);
-    if code != 0 {
+    if code != codes::DONE {
         return Served {
             code: code,
             block: 0,
@@ -515,7 +521,7 @@ pub fn burst(ids: &[u32], lens: &[u16], bytes: Bytes, list: &mut [u32], b: Board
         ≡ calledBurst b (now (ids .entry)) (now (lens .entry)) (bytes .0) (now (list .entry)) ⌝ }
 {
     let code = early(ids, lens, b);
-    if code != 0 {
+    if code != codes::DONE {
         return Bursted {
             count: 0,
             bytes: Bytes(0),

@@ -6,6 +6,8 @@ use crate::steps;
 use crate::tables;
 use board::Board;
 use calls::Reply;
+use numbers::TABLE_ENTRIES;
+use numbers::codes;
 use units::Bytes;
 ghost use mathlib.Core.Path.{_≡_};
 ghost use lib.ListN.{length};
@@ -61,7 +63,7 @@ pub fn serve(ids: &[u32], lens: &[u16], b: Board) -> Board {
     let next = served.board;
     output::text(b"serve");
     output::number(served.code as u64);
-    if served.code == 0 {
+    if served.code == codes::DONE {
         output::number(served.block as u64);
         output::number(served.number as u64);
         output::number(served.length as u64);
@@ -100,11 +102,22 @@ pub fn burst(ids: &[u32], lens: &[u16], whole: &mut bool, b: Board) -> Board {
     burst_into(ids, lens, bytes, &mut list[..room], b)
 }
 
+// What the step `spoilt` answers: for tables of a wrong length the code of a call, else whether the board is spoilt.
+const TABLE_LENGTH: u64 = codes::TABLE_LENGTH as u64;
+
+const SOUND: u64 = 0;
+
+const SPOILT: u64 = 1;
+
 fn spoilt_code(ids: &[u32], lens: &[u16], b: Board) -> u64 {
-    if ids.len() != tables::ENTRIES || lens.len() != tables::ENTRIES {
-        return 3;
+    if ids.len() != TABLE_ENTRIES || lens.len() != TABLE_ENTRIES {
+        return TABLE_LENGTH;
     }
-    if sound::sound(ids, lens, b) { 0 } else { 1 }
+    if sound::sound(ids, lens, b) {
+        SOUND
+    } else {
+        SPOILT
+    }
 }
 
 pub fn spoilt(ids: &[u32], lens: &[u16], b: Board) {

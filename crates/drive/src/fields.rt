@@ -2,7 +2,13 @@
 use crate::input;
 use crate::steps;
 use board::Board;
+use numbers::CLASSES;
+use numbers::PLACES;
 use units::Parts;
+
+const LAST_PLACE: usize = PLACES - 1;
+
+const LAST_CLASS: usize = CLASSES - 1;
 
 pub fn word(step: u8, whole: &mut bool, mut b: Board) -> Board {
     let v = input::word(whole);
@@ -31,7 +37,7 @@ pub fn left(whole: &mut bool, mut b: Board) -> Board {
 }
 
 pub fn place_word(step: u8, whole: &mut bool, mut b: Board) -> Board {
-    let p = input::index(63, &mut *whole);
+    let p = input::index(LAST_PLACE, &mut *whole);
     let v = input::word(whole);
     match step {
         steps::NUMBER => b.numbers[p] = v,
@@ -41,7 +47,7 @@ pub fn place_word(step: u8, whole: &mut bool, mut b: Board) -> Board {
 }
 
 pub fn place_number(step: u8, whole: &mut bool, mut b: Board) -> Board {
-    let p = input::index(63, &mut *whole);
+    let p = input::index(LAST_PLACE, &mut *whole);
     let v = input::number(u64::MAX, whole);
     match step {
         steps::DEFICIT => b.deficits[p] = v,
@@ -51,7 +57,7 @@ pub fn place_number(step: u8, whole: &mut bool, mut b: Board) -> Board {
 }
 
 pub fn place_byte(step: u8, whole: &mut bool, mut b: Board) -> Board {
-    let p = input::index(63, &mut *whole);
+    let p = input::index(LAST_PLACE, &mut *whole);
     let v = input::byte(whole);
     match step {
         steps::START => b.starts[p] = v,
@@ -62,7 +68,7 @@ pub fn place_byte(step: u8, whole: &mut bool, mut b: Board) -> Board {
 }
 
 pub fn class_byte(step: u8, whole: &mut bool, mut b: Board) -> Board {
-    let k = input::index(16, &mut *whole);
+    let k = input::index(LAST_CLASS, &mut *whole);
     let v = input::byte(whole);
     match step {
         steps::HEAD => b.heads[k] = v,
@@ -72,7 +78,7 @@ pub fn class_byte(step: u8, whole: &mut bool, mut b: Board) -> Board {
 }
 
 pub fn held(whole: &mut bool, mut b: Board) -> Board {
-    let k = input::index(16, &mut *whole);
+    let k = input::index(LAST_CLASS, &mut *whole);
     let v = input::word(whole);
     b.held[k] = v;
     b

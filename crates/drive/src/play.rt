@@ -6,6 +6,7 @@ use crate::output;
 use crate::steps;
 use crate::tables;
 use board::Board;
+use numbers::TABLE_ENTRIES;
 ghost use Prim.Native.Nat.{_≤_};
 ghost use lib.ListN.{length};
 ghost use Rattle.drive.specs.Tables.{Lendable};
@@ -25,8 +26,8 @@ pub fn fresh(ids: &mut [u32], lens: &mut [u16]) -> State
     let refused = calls::make(ids, lens, 0);
     let board = refused.board;
     State {
-        numbers: tables::ENTRIES,
-        lengths: tables::ENTRIES,
+        numbers: TABLE_ENTRIES,
+        lengths: TABLE_ENTRIES,
         board: board,
     }
 }

@@ -2,9 +2,6 @@
 use crate::input;
 use crate::output;
 
-// Entries of each table in the box.
-pub const ENTRIES: usize = 2048;
-
 // Entries of a table or of a burst's list in a case file, at most.
 pub const MOST: usize = 4096;
 

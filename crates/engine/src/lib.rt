@@ -12,15 +12,26 @@ ghost use Rattle.engine.specs.Opening.{renaming, renamedIn, totalOf, ope
 ghost use Rattle.units.specs.Classes.{classOf};
 ghost use Rattle.engine.specs.Serving.{queuesNow, engineNow, numbersNow, turnedNow, turned, chosenClass, slotClock, choice, CanChoose, linksNow, leftLinks, stillPending, stillActive, beginningNow, beganAt, CanBegin, openedSlot, emptyEndNow, endedEmpty, waitingEndNow, endedWaiting, frontEntry, startAfter, sentFrom, CanSend, enacted, CanEnact, stayed, withinNow, servedWithin, CanServe};
 use board::Board;
+use numbers::CLASSES;
+use numbers::CLOCK_END;
+use numbers::GREATEST_SHARE;
+use numbers::LANE_DEPTH;
+use numbers::LANE_ENTRIES;
+use numbers::NO_BLOCK;
+use numbers::NO_LINK;
+use numbers::NO_PLACE;
+use numbers::PLACES;
+use numbers::WHOLE_LINE;
+use numbers::codes;
 use units::Bytes;
 use units::Parts;
 
-// The first place with this number, or 64.
-fn find(numbers: &[u32; 64], number: u32) -> usize
+// The first place with this number, or NO_PLACE.
+fn find(numbers: &[u32; PLACES], number: u32) -> usize
     ensures { λ r. ⌜ r ≡ foundIn (now (numbers .entry)) number ⌝ }
 {
     let mut i: usize = 0;
-    while i < 64 {
+    while i < PLACES {
         if numbers[i] == number {
             return i;
         }
@@ -33,7 +44,7 @@ fn find(numbers: &[u32; 64], number: u32) -> usize
 fn outside(number: u32, amount: u32, most: u32) -> bool
     ensures { λ r. ⌜ r ≡ eqb number 0 || (eqb amount 0 || ltb most amount) ⌝ }
 {
-    if number == 0 {
+    if number == NO_BLOCK {
         return true;
     }
     if amount == 0 {
@@ -46,10 +57,10 @@ fn outside(number: u32, amount: u32, most: u32) -> bool
 
 // The block of a place joins the end of the order of class k; the answer is the set of active classes.
 fn join_in(
-    next: &mut [u8; 64],
-    heads: &mut [u8; 17],
-    tails: &mut [u8; 17],
-    ready: &mut [u64; 64],
+    next: &mut [u8; PLACES],
+    heads: &mut [u8; CLASSES],
+    tails: &mut [u8; CLASSES],
+    ready: &mut [u64; PLACES],
     active: u32,
     place: usize,
     k: usize,
@@ -60,14 +71,14 @@ fn join_in(
 {
     let link = (place + 1) as u8;
     let last = tails[k];
-    if last == 0 {
+    if last == NO_LINK {
         heads[k] = link;
     } else {
         let at = last as usize - 1;
         next[at] = link;
     }
     tails[k] = link;
-    next[place] = 0;
+    next[place] = NO_LINK;
     ready[place] = time;
     bits::with_bit(active, k as u32)
 }
@@ -77,12 +88,12 @@ fn take_in(
     i: usize,
     clock: u64,
     active: u32,
-    shares: &[u32; 64],
-    counts: &mut [u8; 64],
-    next: &mut [u8; 64],
-    heads: &mut [u8; 17],
-    tails: &mut [u8; 17],
-    ready: &mut [u64; 64],
+    shares: &[u32; PLACES],
+    counts: &mut [u8; PLACES],
+    next: &mut [u8; PLACES],
+    heads: &mut [u8; CLASSES],
+    tails: &mut [u8; CLASSES],
+    ready: &mut [u64; PLACES],
 ) -> u32
     requires { ⌜ TakeNeeds (now shares) (now counts) (now tails) clock i ⌝ }
     ensures { λ r. ⌜ taking (now (counts .exit)) (ordersNow (now (next .exit)) (now (heads .exit)) (now (tails .exit)) (now (ready .exit)) r) ≡ takenAt (now (shares .entry)) clock i (taking (now (counts .entry)) (ordersNow (now (next .entry)) (now (heads .entry)) (now (tails .entry)) (now (ready .entry)) active)) ⌝ }
@@ -111,14 +122,14 @@ pub fn record_in(
     largest: u32,
     clock: u64,
     active: u32,
-    numbers: &[u32; 64],
-    shares: &[u32; 64],
-    starts: &[u8; 64],
-    counts: &mut [u8; 64],
-    next: &mut [u8; 64],
-    heads: &mut [u8; 17],
-    tails: &mut [u8; 17],
-    ready: &mut [u64; 64],
+    numbers: &[u32; PLACES],
+    shares: &[u32; PLACES],
+    starts: &[u8; PLACES],
+    counts: &mut [u8; PLACES],
+    next: &mut [u8; PLACES],
+    heads: &mut [u8; CLASSES],
+    tails: &mut [u8; CLASSES],
+    ready: &mut [u64; PLACES],
     ids: &mut [u32],
     lens: &mut [u16],
 ) -> Took
@@ -127,31 +138,31 @@ pub fn record_in(
 {
     if outside(block, length as u32, largest) {
         return Took {
-            code: 4,
+            code: codes::OUT_OF_RANGE,
             active: active,
         };
     }
     let i = find(numbers, block);
-    if i == 64 {
+    if i == NO_PLACE {
         return Took {
-            code: 6,
+            code: codes::UNKNOWN_BLOCK,
             active: active,
         };
     }
     let count = counts[i];
-    if 32 <= count {
+    if LANE_DEPTH <= count {
         return Took {
-            code: 9,
+            code: codes::LANE_FULL,
             active: active,
         };
     }
     let first = starts[i] as usize;
-    let at = 32 * i + (first + count as usize) % 32;
+    let at = LANE_ENTRIES * i + (first + count as usize) % LANE_ENTRIES;
     ids[at] = id;
     lens[at] = length;
     let set = take_in(i, clock, active, shares, counts, next, heads, tails, ready);
     Took {
-        code: 0,
+        code: codes::DONE,
         active: set,
     }
 }
@@ -159,24 +170,24 @@ pub fn record_in(
 // ---- renaming, opening, closing
 
 // A block takes another number; the answer is the code.
-pub fn rename_in(old: u32, new: u32, numbers: &mut [u32; 64]) -> u8
+pub fn rename_in(old: u32, new: u32, numbers: &mut [u32; PLACES]) -> u8
     ensures { λ r. ⌜ renaming r (now (numbers .exit)) ≡ renamedIn (now (numbers .entry)) old new ⌝ }
 {
-    if new == 0 {
-        return 4;
+    if new == NO_BLOCK {
+        return codes::OUT_OF_RANGE;
     }
-    if old == 0 {
-        return 6;
+    if old == NO_BLOCK {
+        return codes::UNKNOWN_BLOCK;
     }
     let i = find(numbers, old);
-    if i == 64 {
-        return 6;
+    if i == NO_PLACE {
+        return codes::UNKNOWN_BLOCK;
     }
-    if find(numbers, new) != 64 {
-        return 5;
+    if find(numbers, new) != NO_PLACE {
+        return codes::NUMBER_IS_OPEN;
     }
     numbers[i] = new;
-    0
+    codes::DONE
 }
 
 // The sum of an array's numbers.
@@ -197,32 +208,32 @@ fn total(shares: &[u32]) -> u64
 pub fn open_in(
     block: u32,
     share: u32,
-    numbers: &mut [u32; 64],
-    shares: &mut [u32; 64],
-    held: &[u32; 17],
+    numbers: &mut [u32; PLACES],
+    shares: &mut [u32; PLACES],
+    held: &[u32; CLASSES],
 ) -> u8
     ensures { λ r. ⌜ opening r (now (numbers .exit)) (now (shares .exit)) ≡ openedIn (now (numbers .entry)) (now (shares .entry)) (now (held .entry)) block share ⌝ }
 {
-    if outside(block, share, 65536) {
-        return 4;
+    if outside(block, share, GREATEST_SHARE) {
+        return codes::OUT_OF_RANGE;
     }
-    if find(numbers, block) != 64 {
-        return 5;
+    if find(numbers, block) != NO_PLACE {
+        return codes::NUMBER_IS_OPEN;
     }
-    let i = find(numbers, 0);
-    if i == 64 {
-        return 7;
+    let i = find(numbers, NO_BLOCK);
+    if i == NO_PLACE {
+        return codes::NO_FREE_PLACE;
     }
-    if 65536 < total(shares) + total(held) + share as u64 {
-        return 8;
+    if WHOLE_LINE < total(shares) + total(held) + share as u64 {
+        return codes::SHARE_NOT_FREE;
     }
     numbers[i] = block;
     shares[i] = share;
-    0
+    codes::DONE
 }
 
 // A closed block's share is held with its class's, unless no class is active.
-fn hold_in(active: u32, share: u32, held: &mut [u32; 17])
+fn hold_in(active: u32, share: u32, held: &mut [u32; CLASSES])
     requires { ⌜ (1 ≤ share) × ((share ≤ 65536) × ((k : ℕ) → getD (now held) k 0 ≤ 65536)) ⌝ }
     ensures { λ _. ⌜ now (held .exit) ≡ heldWith active share (now (held .entry)) ⌝ }
 {
@@ -238,30 +249,30 @@ fn hold_in(active: u32, share: u32, held: &mut [u32; 17])
 pub fn close_in(
     block: u32,
     active: u32,
-    counts: &[u8; 64],
-    numbers: &mut [u32; 64],
-    shares: &mut [u32; 64],
-    starts: &mut [u8; 64],
-    held: &mut [u32; 17],
+    counts: &[u8; PLACES],
+    numbers: &mut [u32; PLACES],
+    shares: &mut [u32; PLACES],
+    starts: &mut [u8; PLACES],
+    held: &mut [u32; CLASSES],
 ) -> u8
     requires { ⌜ CloseNeeds (now numbers) (now shares) (now held) ⌝ }
     ensures { λ r. ⌜ closing r (now (numbers .exit)) (now (shares .exit)) (now (starts .exit)) (now (held .exit)) ≡ closedIn active (now (numbers .entry)) (now (shares .entry)) (now (starts .entry)) (now (counts .entry)) (now (held .entry)) block ⌝ }
 {
-    if block == 0 {
-        return 6;
+    if block == NO_BLOCK {
+        return codes::UNKNOWN_BLOCK;
     }
     let i = find(numbers, block);
-    if i == 64 {
-        return 6;
+    if i == NO_PLACE {
+        return codes::UNKNOWN_BLOCK;
     }
     if 0 < counts[i] {
-        return 10;
+        return codes::LANE_NOT_EMPTY;
     }
     hold_in(active, shares[i], held);
-    numbers[i] = 0;
+    numbers[i] = NO_BLOCK;
     shares[i] = 0;
     starts[i] = 0;
-    0
+    codes::DONE
 }
 
 // ---- making
@@ -270,11 +281,11 @@ pub fn close_in(
 pub fn blank(largest: u32) -> Board
     ensures { λ r. ⌜ r ≡ encode (fresh largest) ⌝ }
 {
-    let words = [0u32; 64];
-    let longs = [0u64; 64];
-    let bytes = [0u8; 64];
-    let links = [0u8; 17];
-    let held = [0u32; 17];
+    let words = [0u32; PLACES];
+    let longs = [0u64; PLACES];
+    let bytes = [0u8; PLACES];
+    let links = [0u8; CLASSES];
+    let held = [0u32; CLASSES];
     let none = Parts(0);
     Board {
         numbers: words,
@@ -291,7 +302,7 @@ pub fn blank(largest: u32) -> Board
         clock: 0,
         active: 0,
         pending: 0,
-        slot: 0,
+        slot: NO_LINK,
         left: none,
     }
 }
@@ -333,35 +344,44 @@ pub struct Step {
     pub left: Parts,
 }
 
-// 2^62: no slot begins there or later.
-const LAST_CLOCK: u64 = 4611686018427387904;
-
 // The first block of an order leaves it.
-fn leave(place: usize, k: usize, next: &mut [u8; 64], heads: &mut [u8; 17], tails: &mut [u8; 17])
+fn leave(
+    place: usize,
+    k: usize,
+    next: &mut [u8; PLACES],
+    heads: &mut [u8; CLASSES],
+    tails: &mut [u8; CLASSES],
+)
     requires { ⌜ (place < 64) × (k < 17) ⌝ }
     ensures { λ r. ⌜ linksNow (now (next .exit)) (now (heads .exit)) (now (tails .exit)) ≡ leftLinks place k (linksNow (now (next .entry)) (now (heads .entry)) (now (tails .entry))) ⌝ }
 {
     let behind = next[place];
-    next[place] = 0;
+    next[place] = NO_LINK;
     heads[k] = behind;
-    if behind == 0 {
-        tails[k] = 0;
+    if behind == NO_LINK {
+        tails[k] = NO_LINK;
     }
 }
 
 // The clock goes on: the held share of each class of which a start is passed goes, and the class is pending if its order has a block.
 // Starts of a class are starts of every lower one, so the first class of which none is passed is the last to look at.
-fn advance(from: u64, to: u64, pending: u32, heads: &[u8; 17], held: &mut [u32; 17]) -> u32
+fn advance(
+    from: u64,
+    to: u64,
+    pending: u32,
+    heads: &[u8; CLASSES],
+    held: &mut [u32; CLASSES],
+) -> u32
     ensures { λ r. ⌜ turnedNow r (now (held .exit)) ≡ turned from to (now (heads .entry)) (turnedNow pending (now (held .entry))) ⌝ }
 {
     let mut set = pending;
     let mut k: usize = 0;
-    while k < 17 {
+    while k < CLASSES {
         if from >> k == to >> k {
             return set;
         }
         held[k] = 0;
-        if heads[k] != 0 {
+        if heads[k] != NO_LINK {
             set = bits::with_bit(set, k as u32);
         }
         k += 1;
@@ -370,12 +390,18 @@ fn advance(from: u64, to: u64, pending: u32, heads: &[u8; 17], held: &mut [u32; 
 }
 
 // Whether class k stays pending when the first block of its order left it.
-fn still_pending(set: u32, k: usize, clock: u64, heads: &[u8; 17], ready: &[u64; 64]) -> u32
+fn still_pending(
+    set: u32,
+    k: usize,
+    clock: u64,
+    heads: &[u8; CLASSES],
+    ready: &[u64; PLACES],
+) -> u32
     requires { ⌜ (k < 17) × (getD (now heads) k 0 ≤ 64) ⌝ }
     ensures { λ r. ⌜ r ≡ stillPending set k clock (now (heads .entry)) (now (ready .entry)) ⌝ }
 {
     let first = heads[k];
-    if first == 0 {
+    if first == NO_LINK {
         return bits::without_bit(set, k as u32);
     }
     let at = first as usize - 1;
@@ -386,21 +412,21 @@ fn still_pending(set: u32, k: usize, clock: u64, heads: &[u8; 17], ready: &[u64;
 }
 
 // Whether class k stays active when a block that was in no order waits no more.
-fn still_active(set: u32, k: usize, heads: &[u8; 17]) -> u32
+fn still_active(set: u32, k: usize, heads: &[u8; CLASSES]) -> u32
     requires { ⌜ k < 17 ⌝ }
     ensures { λ r. ⌜ r ≡ stillActive set k (now (heads .entry)) ⌝ }
 {
-    if heads[k] == 0 {
+    if heads[k] == NO_LINK {
         return bits::without_bit(set, k as u32);
     }
     set
 }
 
 // No share is held.
-fn clear_held(held: &mut [u32; 17])
+fn clear_held(held: &mut [u32; CLASSES])
     ensures { λ r. ⌜ now (held .exit) ≡ replicate 17 0 ⌝ }
 {
-    *held = [0; 17];
+    *held = [0; CLASSES];
 }
 
 // A link as an index.
@@ -411,7 +437,7 @@ fn wide(link: u8) -> usize
 }
 
 // The place of the first block of class k's order.
-fn first_of(k: usize, heads: &[u8; 17]) -> usize
+fn first_of(k: usize, heads: &[u8; CLASSES]) -> usize
     requires { ⌜ (k < 17) × (1 ≤ getD (now heads) k 0) ⌝ }
     ensures { λ r. ⌜ r ≡ getD (now (heads .entry)) k 0 - 1 ⌝ }
 {
@@ -439,22 +465,22 @@ fn slot_clock(clock: u64, pending: u32, k: u32) -> u64
     clock
 }
 
-// Whose record is next and at which clock, or code 1 or 11; nothing is changed.
-fn choose(clock: u64, active: u32, pending: u32, slot: u8, heads: &[u8; 17]) -> Choice
+// Whose record is next and at which clock, or the code of a refusal; nothing is changed.
+fn choose(clock: u64, active: u32, pending: u32, slot: u8, heads: &[u8; CLASSES]) -> Choice
     requires { ⌜ CanChoose clock active pending slot (now heads) ⌝ }
     ensures { λ r. ⌜ r ≡ choice clock active pending slot (now (heads .entry)) ⌝ }
 {
-    if slot != 0 {
+    if slot != NO_LINK {
         let place = slot as usize - 1;
         return Choice::Go(place, clock);
     }
     if active == 0 {
-        return Choice::Stop(1);
+        return Choice::Stop(codes::NO_BLOCK_WAITS);
     }
     let k = chosen_class(active, pending);
     let time = slot_clock(clock, pending, k);
-    if LAST_CLOCK <= time {
-        return Choice::Stop(11);
+    if CLOCK_END <= time {
+        return Choice::Stop(codes::CLOCK_SPENT);
     }
     let place = first_of(k as usize, heads);
     Choice::Go(place, time)
@@ -468,13 +494,13 @@ fn begin(
     clock: u64,
     pending: u32,
     largest: u32,
-    shares: &[u32; 64],
-    deficits: &mut [u64; 64],
-    ready: &mut [u64; 64],
-    next: &mut [u8; 64],
-    heads: &mut [u8; 17],
-    tails: &mut [u8; 17],
-    held: &mut [u32; 17],
+    shares: &[u32; PLACES],
+    deficits: &mut [u64; PLACES],
+    ready: &mut [u64; PLACES],
+    next: &mut [u8; PLACES],
+    heads: &mut [u8; CLASSES],
+    tails: &mut [u8; CLASSES],
+    held: &mut [u32; CLASSES],
 ) -> Begun
     requires { ⌜ CanBegin (now shares) largest place k (queuesNow (now deficits) (now ready) (now next) (now heads) (now tails) (now held)) ⌝ }
     ensures { λ r. ⌜ beginningNow r (queuesNow (now (deficits .exit)) (now (ready .exit)) (now (next .exit)) (now (heads .exit)) (now (tails .exit)) (now (held .exit))) ≡ beganAt (now (shares .entry)) largest place k time clock pending (queuesNow (now (deficits .entry)) (now (ready .entry)) (now (next .entry)) (now (heads .entry)) (now (tails .entry)) (now (held .entry))) ⌝ }
@@ -499,8 +525,8 @@ fn end_empty(
     clock: u64,
     active: u32,
     pending: u32,
-    heads: &[u8; 17],
-    held: &mut [u32; 17],
+    heads: &[u8; CLASSES],
+    held: &mut [u32; CLASSES],
 ) -> After
     requires { ⌜ (k < 17) × (clock < 2 ^ 62) ⌝ }
     ensures { λ r. ⌜ emptyEndNow r (now (held .exit)) ≡ endedEmpty k clock active pending (now (heads .entry)) (now (held .entry)) ⌝ }
@@ -514,7 +540,7 @@ fn end_empty(
         clock: clock + 1,
         active: rest,
         pending: set,
-        slot: 0,
+        slot: NO_LINK,
         left: Parts(0),
     }
 }
@@ -527,12 +553,12 @@ fn end_waiting(
     clock: u64,
     active: u32,
     pending: u32,
-    deficits: &mut [u64; 64],
-    ready: &mut [u64; 64],
-    next: &mut [u8; 64],
-    heads: &mut [u8; 17],
-    tails: &mut [u8; 17],
-    held: &mut [u32; 17],
+    deficits: &mut [u64; PLACES],
+    ready: &mut [u64; PLACES],
+    next: &mut [u8; PLACES],
+    heads: &mut [u8; CLASSES],
+    tails: &mut [u8; CLASSES],
+    held: &mut [u32; CLASSES],
 ) -> After
     requires { ⌜ (place < 64) × ((k < 17) × ((clock < 2 ^ 62) × (getD (now tails) k 0 ≤ 64))) ⌝ }
     ensures { λ r. ⌜ waitingEndNow r (queuesNow (now (deficits .exit)) (now (ready .exit)) (now (next .exit)) (now (heads .exit)) (now (tails .exit)) (now (held .exit))) ≡ endedWaiting place k (rest .0) clock active pending (queuesNow (now (deficits .entry)) (now (ready .entry)) (now (next .entry)) (now (heads .entry)) (now (tails .entry)) (now (held .entry))) ⌝ }
@@ -545,7 +571,7 @@ fn end_waiting(
         clock: clock + 1,
         active: waiting,
         pending: set,
-        slot: 0,
+        slot: NO_LINK,
         left: Parts(0),
     }
 }
@@ -555,7 +581,7 @@ fn front_entry(place: usize, start: u8) -> usize
     requires { ⌜ (place < 64) × (start < 32) ⌝ }
     ensures { λ r. ⌜ r ≡ frontEntry place start ⌝ }
 {
-    32 * place + start as usize
+    LANE_ENTRIES * place + start as usize
 }
 
 // The start of the ring after a send.
@@ -563,7 +589,7 @@ fn start_after(start: u8) -> u8
     requires { ⌜ start < 32 ⌝ }
     ensures { λ r. ⌜ r ≡ startAfter start ⌝ }
 {
-    (start + 1) % 32
+    (start + 1) % LANE_DEPTH
 }
 
 // The front record of the open slot's block is sent.
@@ -573,15 +599,15 @@ fn send(
     active: u32,
     pending: u32,
     left: Parts,
-    shares: &[u32; 64],
-    starts: &mut [u8; 64],
-    counts: &mut [u8; 64],
-    deficits: &mut [u64; 64],
-    ready: &mut [u64; 64],
-    next: &mut [u8; 64],
-    heads: &mut [u8; 17],
-    tails: &mut [u8; 17],
-    held: &mut [u32; 17],
+    shares: &[u32; PLACES],
+    starts: &mut [u8; PLACES],
+    counts: &mut [u8; PLACES],
+    deficits: &mut [u64; PLACES],
+    ready: &mut [u64; PLACES],
+    next: &mut [u8; PLACES],
+    heads: &mut [u8; CLASSES],
+    tails: &mut [u8; CLASSES],
+    held: &mut [u32; CLASSES],
     lens: &[u16],
 ) -> After
     requires { ⌜ CanSend (now shares) (now lens) place (engineNow (now starts) (now counts) (now deficits) (now ready) (now next) (now heads) (now tails) (now held) (numbersNow clock active pending (place + 1) (left .0))) ⌝ }
@@ -635,18 +661,18 @@ fn open_slot(
     slot: u8,
     left: Parts,
     largest: u32,
-    shares: &[u32; 64],
-    deficits: &mut [u64; 64],
-    ready: &mut [u64; 64],
-    next: &mut [u8; 64],
-    heads: &mut [u8; 17],
-    tails: &mut [u8; 17],
-    held: &mut [u32; 17],
+    shares: &[u32; PLACES],
+    deficits: &mut [u64; PLACES],
+    ready: &mut [u64; PLACES],
+    next: &mut [u8; PLACES],
+    heads: &mut [u8; CLASSES],
+    tails: &mut [u8; CLASSES],
+    held: &mut [u32; CLASSES],
 ) -> Begun
     requires { ⌜ (slot ≡ 0 → CanBegin (now shares) largest place (classOf (getD (now shares) place 0)) (queuesNow (now deficits) (now ready) (now next) (now heads) (now tails) (now held))) ⌝ }
     ensures { λ r. ⌜ beginningNow r (queuesNow (now (deficits .exit)) (now (ready .exit)) (now (next .exit)) (now (heads .exit)) (now (tails .exit)) (now (held .exit))) ≡ openedSlot (now (shares .entry)) largest place time clock pending slot (left .0) (queuesNow (now (deficits .entry)) (now (ready .entry)) (now (next .entry)) (now (heads .entry)) (now (tails .entry)) (now (held .entry))) ⌝ }
 {
-    if slot != 0 {
+    if slot != NO_LINK {
         return Begun {
             left: left,
             pending: pending,
@@ -680,15 +706,15 @@ fn enact(
     slot: u8,
     left: Parts,
     largest: u32,
-    shares: &[u32; 64],
-    starts: &mut [u8; 64],
-    counts: &mut [u8; 64],
-    deficits: &mut [u64; 64],
-    ready: &mut [u64; 64],
-    next: &mut [u8; 64],
-    heads: &mut [u8; 17],
-    tails: &mut [u8; 17],
-    held: &mut [u32; 17],
+    shares: &[u32; PLACES],
+    starts: &mut [u8; PLACES],
+    counts: &mut [u8; PLACES],
+    deficits: &mut [u64; PLACES],
+    ready: &mut [u64; PLACES],
+    next: &mut [u8; PLACES],
+    heads: &mut [u8; CLASSES],
+    tails: &mut [u8; CLASSES],
+    held: &mut [u32; CLASSES],
     lens: &[u16],
 ) -> After
     requires { ⌜ CanEnact (now shares) (now lens) largest place time (engineNow (now starts) (now counts) (now deficits) (now ready) (now next) (now heads) (now tails) (now held) (numbersNow clock active pending slot (left .0))) ⌝ }
@@ -743,15 +769,15 @@ pub fn serve_within(
     slot: u8,
     left: Parts,
     largest: u32,
-    shares: &[u32; 64],
-    starts: &mut [u8; 64],
-    counts: &mut [u8; 64],
-    deficits: &mut [u64; 64],
-    ready: &mut [u64; 64],
-    next: &mut [u8; 64],
-    heads: &mut [u8; 17],
-    tails: &mut [u8; 17],
-    held: &mut [u32; 17],
+    shares: &[u32; PLACES],
+    starts: &mut [u8; PLACES],
+    counts: &mut [u8; PLACES],
+    deficits: &mut [u64; PLACES],
+    ready: &mut [u64; PLACES],
+    next: &mut [u8; PLACES],
+    heads: &mut [u8; CLASSES],
+    tails: &mut [u8; CLASSES],
+    held: &mut [u32; CLASSES],
     lens: &[u16],
 ) -> Step
     requires { ⌜ CanServe (now shares) (now lens) largest (engineNow (now starts) (now counts) (now deficits) (now ready) (now next) (now heads) (now tails) (now held) (numbersNow clock active pending slot (left .0))) ⌝ }
@@ -762,12 +788,12 @@ pub fn serve_within(
         Choice::Stop(code) => stay(code, clock, active, pending, slot, left),
         Choice::Go(place, time) => {
             if room == 0 {
-                return stay(14, clock, active, pending, slot, left);
+                return stay(codes::LIST_FULL, clock, active, pending, slot, left);
             }
             let entry = front_entry(place, starts[place]);
             let charge = units::charged(Bytes(lens[entry] as u64));
             if bytes.0 < charge.0 {
-                return stay(13, clock, active, pending, slot, left);
+                return stay(codes::OVER_BUDGET, clock, active, pending, slot, left);
             }
             let after = enact(
                 place,
@@ -791,7 +817,7 @@ pub fn serve_within(
             );
             let rest = after.left;
             Step {
-                code: 0,
+                code: codes::DONE,
                 place: place,
                 entry: entry,
                 bytes: charge,

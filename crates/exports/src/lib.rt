@@ -8,21 +8,25 @@ ghost use Rattle.calls.specs.Promises.{called, returned, replied};
 ghost use Rattle.player.specs.Fields.{boardNow};
 ghost use Rattle.exports.specs.Listed.{Listed};
 use board::Board;
+use lines::LINE_ROOM;
+use numbers::CLASSES;
+use numbers::PLACES;
+use numbers::TABLE_ENTRIES;
 use units::Bytes;
 use units::Parts;
 
 // The board whose arrays and numbers are lent.
 fn lent_board(
-    numbers: &[u32; 64],
-    shares: &[u32; 64],
-    starts: &[u8; 64],
-    counts: &[u8; 64],
-    deficits: &[u64; 64],
-    ready: &[u64; 64],
-    next: &[u8; 64],
-    heads: &[u8; 17],
-    tails: &[u8; 17],
-    held: &[u32; 17],
+    numbers: &[u32; PLACES],
+    shares: &[u32; PLACES],
+    starts: &[u8; PLACES],
+    counts: &[u8; PLACES],
+    deficits: &[u64; PLACES],
+    ready: &[u64; PLACES],
+    next: &[u8; PLACES],
+    heads: &[u8; CLASSES],
+    tails: &[u8; CLASSES],
+    held: &[u32; CLASSES],
     largest: &u32,
     clock: &u64,
     active: &u32,
@@ -55,16 +59,16 @@ fn lent_board(
 // The board that a call returned, back into what was lent.
 fn put_back(
     b: Board,
-    numbers: &mut [u32; 64],
-    shares: &mut [u32; 64],
-    starts: &mut [u8; 64],
-    counts: &mut [u8; 64],
-    deficits: &mut [u64; 64],
-    ready: &mut [u64; 64],
-    next: &mut [u8; 64],
-    heads: &mut [u8; 17],
-    tails: &mut [u8; 17],
-    held: &mut [u32; 17],
+    numbers: &mut [u32; PLACES],
+    shares: &mut [u32; PLACES],
+    starts: &mut [u8; PLACES],
+    counts: &mut [u8; PLACES],
+    deficits: &mut [u64; PLACES],
+    ready: &mut [u64; PLACES],
+    next: &mut [u8; PLACES],
+    heads: &mut [u8; CLASSES],
+    tails: &mut [u8; CLASSES],
+    held: &mut [u32; CLASSES],
     largest: &mut u32,
     clock: &mut u64,
     active: &mut u32,
@@ -111,16 +115,16 @@ pub extern "C" fn box_record(
     block: u32,
     id: u32,
     length: u16,
-    numbers: &mut [u32; 64],
-    shares: &mut [u32; 64],
-    starts: &mut [u8; 64],
-    counts: &mut [u8; 64],
-    deficits: &mut [u64; 64],
-    ready: &mut [u64; 64],
-    next: &mut [u8; 64],
-    heads: &mut [u8; 17],
-    tails: &mut [u8; 17],
-    held: &mut [u32; 17],
+    numbers: &mut [u32; PLACES],
+    shares: &mut [u32; PLACES],
+    starts: &mut [u8; PLACES],
+    counts: &mut [u8; PLACES],
+    deficits: &mut [u64; PLACES],
+    ready: &mut [u64; PLACES],
+    next: &mut [u8; PLACES],
+    heads: &mut [u8; CLASSES],
+    tails: &mut [u8; CLASSES],
+    held: &mut [u32; CLASSES],
     largest: &mut u32,
     clock: &mut u64,
     active: &mut u32,
@@ -181,16 +185,16 @@ pub extern "C" fn box_serve(
     number: &mut u32,
     length: &mut u16,
     time: &mut u64,
-    numbers: &mut [u32; 64],
-    shares: &mut [u32; 64],
-    starts: &mut [u8; 64],
-    counts: &mut [u8; 64],
-    deficits: &mut [u64; 64],
-    ready: &mut [u64; 64],
-    next: &mut [u8; 64],
-    heads: &mut [u8; 17],
-    tails: &mut [u8; 17],
-    held: &mut [u32; 17],
+    numbers: &mut [u32; PLACES],
+    shares: &mut [u32; PLACES],
+    starts: &mut [u8; PLACES],
+    counts: &mut [u8; PLACES],
+    deficits: &mut [u64; PLACES],
+    ready: &mut [u64; PLACES],
+    next: &mut [u8; PLACES],
+    heads: &mut [u8; CLASSES],
+    tails: &mut [u8; CLASSES],
+    held: &mut [u32; CLASSES],
     largest: &mut u32,
     clock: &mut u64,
     active: &mut u32,
@@ -255,16 +259,16 @@ pub extern "C" fn box_burst(
     list: &mut [u32],
     count: &mut usize,
     sent: &mut u64,
-    numbers: &mut [u32; 64],
-    shares: &mut [u32; 64],
-    starts: &mut [u8; 64],
-    counts: &mut [u8; 64],
-    deficits: &mut [u64; 64],
-    ready: &mut [u64; 64],
-    next: &mut [u8; 64],
-    heads: &mut [u8; 17],
-    tails: &mut [u8; 17],
-    held: &mut [u32; 17],
+    numbers: &mut [u32; PLACES],
+    shares: &mut [u32; PLACES],
+    starts: &mut [u8; PLACES],
+    counts: &mut [u8; PLACES],
+    deficits: &mut [u64; PLACES],
+    ready: &mut [u64; PLACES],
+    next: &mut [u8; PLACES],
+    heads: &mut [u8; CLASSES],
+    tails: &mut [u8; CLASSES],
+    held: &mut [u32; CLASSES],
     largest: &mut u32,
     clock: &mut u64,
     active: &mut u32,
@@ -324,11 +328,11 @@ pub extern "C" fn box_burst(
 pub extern "C" fn box_listing(log: &[u8], piece: &mut [u8], out: &mut [u8]) -> usize
     ensures { λ r. ⌜ Listed (now (log .entry)) (now (piece .entry)) (now (out .entry)) r (now (out .exit)) ⌝ }
 {
-    let mut ids = [0u32; 2048];
-    let mut lens = [0u16; 2048];
+    let mut ids = [0u32; TABLE_ENTRIES];
+    let mut lens = [0u16; TABLE_ENTRIES];
     let mut state = player::begin();
     let mut end: usize = 0;
-    if piece.len() < 64 {
+    if piece.len() < LINE_ROOM {
         return 0;
     }
     loop {

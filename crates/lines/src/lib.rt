@@ -6,6 +6,16 @@ ghost use lib.ListN.{length};
 ghost use Rattle.lines.specs.Text.{decimal, columns, lineOf, Written, Line};
 ghost use Rattle.lines.specs.Listing.{openLine, closeLine, nameLine, inLine, outLine, refusedLine, endLine, brokenLine, longLine};
 
+// Room for any line.
+pub const LINE_ROOM: usize = 64;
+
+// The digit 0.
+const ZERO: u64 = 48;
+
+const SPACE: u8 = 32;
+
+const LINE_END: u8 = 10;
+
 fn put_byte(line: &mut [u8], at: usize, b: u8) -> usize
     requires { ⌜ at + 1 ≤ length (now line) ⌝ }
     ensures { λ r. ⌜ Written (now (line .entry)) at (b ∷ []) r (now (line .exit)) ⌝ }
@@ -20,10 +30,10 @@ fn put_number(line: &mut [u8], at: usize, n: u64) -> usize
     ensures { λ r. ⌜ Written (now (line .entry)) at (decimal n) r (now (line .exit)) ⌝ }
 {
     if n < 10 {
-        return put_byte(line, at, (48 + n % 10) as u8);
+        return put_byte(line, at, (ZERO + n % 10) as u8);
     }
     let next = put_number(&mut *line, at, n / 10);
-    put_byte(line, next, (48 + n % 10) as u8)
+    put_byte(line, next, (ZERO + n % 10) as u8)
 }
 
 // A text at an offset of a list that has room for it.
@@ -47,7 +57,7 @@ fn put_columns(line: &mut [u8], at: usize, numbers: &[u64]) -> usize
     let mut next = at;
     let mut i: usize = 0;
     while i < numbers.len() {
-        let space = put_byte(&mut *line, next, 32);
+        let space = put_byte(&mut *line, next, SPACE);
         next = put_number(&mut *line, space, numbers[i]);
         i += 1;
     }
@@ -60,38 +70,38 @@ fn put_line(line: &mut [u8], word: &[u8], numbers: &[u64]) -> usize
 {
     let a = put_text(&mut *line, 0, word);
     let b = put_columns(&mut *line, a, numbers);
-    put_byte(line, b, 10)
+    put_byte(line, b, LINE_END)
 }
 
-pub fn put_open(line: &mut [u8; 64], block: u32, code: u8) -> usize
+pub fn put_open(line: &mut [u8; LINE_ROOM], block: u32, code: u8) -> usize
     ensures { λ r. ⌜ Line (now (line .entry)) (openLine block code) r (now (line .exit)) × (r ≤ 64) ⌝ }
 {
     let numbers = [block as u64, code as u64];
     put_line(line, b"open", &numbers)
 }
 
-pub fn put_close(line: &mut [u8; 64], block: u32, code: u8) -> usize
+pub fn put_close(line: &mut [u8; LINE_ROOM], block: u32, code: u8) -> usize
     ensures { λ r. ⌜ Line (now (line .entry)) (closeLine block code) r (now (line .exit)) × (r ≤ 64) ⌝ }
 {
     let numbers = [block as u64, code as u64];
     put_line(line, b"close", &numbers)
 }
 
-pub fn put_name(line: &mut [u8; 64], old: u32, new: u32, code: u8) -> usize
+pub fn put_name(line: &mut [u8; LINE_ROOM], old: u32, new: u32, code: u8) -> usize
     ensures { λ r. ⌜ Line (now (line .entry)) (nameLine old new code) r (now (line .exit)) × (r ≤ 64) ⌝ }
 {
     let numbers = [old as u64, new as u64, code as u64];
     put_line(line, b"name", &numbers)
 }
 
-pub fn put_in(line: &mut [u8; 64], number: u32, code: u8) -> usize
+pub fn put_in(line: &mut [u8; LINE_ROOM], number: u32, code: u8) -> usize
     ensures { λ r. ⌜ Line (now (line .entry)) (inLine number code) r (now (line .exit)) × (r ≤ 64) ⌝ }
 {
     let numbers = [number as u64, code as u64];
     put_line(line, b"in", &numbers)
 }
 
-pub fn put_out(line: &mut [u8; 64], block: u32, number: u32, len: u16, clock: u64) -> usize
+pub fn put_out(line: &mut [u8; LINE_ROOM], block: u32, number: u32, len: u16, clock: u64) -> usize
     ensures { λ r. ⌜ Line (now (line .entry)) (outLine block number len clock) r (now (line .exit)) × (r ≤ 64) ⌝ }
 {
     let numbers = [block as u64, number as u64, len as u64, clock];
@@ -99,28 +109,28 @@ pub fn put_out(line: &mut [u8; 64], block: u32, number: u32, len: u16, clock: u6
 }
 
 // A serve that was refused.
-pub fn put_refused(line: &mut [u8; 64], code: u8) -> usize
+pub fn put_refused(line: &mut [u8; LINE_ROOM], code: u8) -> usize
     ensures { λ r. ⌜ Line (now (line .entry)) (refusedLine code) r (now (line .exit)) × (r ≤ 64) ⌝ }
 {
     let numbers = [code as u64];
     put_line(line, b"out -", &numbers)
 }
 
-pub fn put_end(line: &mut [u8; 64], clock: u64, bytes: u64, waiting: u32) -> usize
+pub fn put_end(line: &mut [u8; LINE_ROOM], clock: u64, bytes: u64, waiting: u32) -> usize
     ensures { λ r. ⌜ Line (now (line .entry)) (endLine clock bytes waiting) r (now (line .exit)) × (r ≤ 64) ⌝ }
 {
     let numbers = [clock, bytes, waiting as u64];
     put_line(line, b"end", &numbers)
 }
 
-pub fn put_broken(line: &mut [u8; 64], offset: u64) -> usize
+pub fn put_broken(line: &mut [u8; LINE_ROOM], offset: u64) -> usize
     ensures { λ r. ⌜ Line (now (line .entry)) (brokenLine offset) r (now (line .exit)) × (r ≤ 64) ⌝ }
 {
     let numbers = [offset];
     put_line(line, b"broken", &numbers)
 }
 
-pub fn put_long(line: &mut [u8; 64]) -> usize
+pub fn put_long(line: &mut [u8; LINE_ROOM]) -> usize
     ensures { λ r. ⌜ Line (now (line .entry)) longLine r (now (line .exit)) × (r ≤ 64) ⌝ }
 {
     let numbers = [0u64; 0];

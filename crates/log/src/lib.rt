@@ -4,6 +4,15 @@ ghost use Prim.Native.Nat.{_+_, _-_, _<_, _≤_};
 ghost use lib.ListN.{length};
 ghost use Rattle.log.specs.Format.{numberAt, lengthOf, rightLength, frameAt, eventOf, inTurn, fieldAt, isLong};
 
+mod tags;
+
+use numbers::GREATEST_LARGEST;
+use numbers::LEAST_LARGEST;
+use numbers::LONGEST_LOG;
+
+// The bytes of a field before its value: the tag and the length.
+const HEADER: usize = 3;
+
 // What a whole field says, its numbers in the order of the log: L; block and share; block; old and new; block, number and length.
 // Passed is a field that is passed over.
 pub enum Event {
@@ -72,11 +81,11 @@ fn frame_at(log: &[u8], at: usize) -> Frame
     ensures { λ r. ⌜ r ≡ frameAt (now (log .entry)) at ⌝ }
 {
     let left = bytes_left(log.len(), at);
-    if left < 3 {
+    if left < HEADER {
         return Frame::Cut;
     }
     let n = number16(log, at + 1) as usize;
-    if left - 3 < n {
+    if left - HEADER < n {
         return Frame::Cut;
     }
     Frame::Framed(log[at], n)
@@ -87,11 +96,11 @@ fn length_of(tag: u8) -> usize
     ensures { λ r. ⌜ r ≡ lengthOf tag ⌝ }
 {
     match tag {
-        6 => 2,
-        1 => 8,
-        2 => 4,
-        3 => 8,
-        4 => 10,
+        tags::LARGEST => 2,
+        tags::OPEN => 8,
+        tags::CLOSE => 4,
+        tags::RENAME => 8,
+        tags::RECORD => 10,
         _ => 0,
     }
 }
@@ -99,10 +108,10 @@ fn length_of(tag: u8) -> usize
 fn right_length(tag: u8, n: usize) -> bool
     ensures { λ r. ⌜ r ≡ rightLength tag n ⌝ }
 {
-    if 128 <= tag {
+    if tags::PASSED <= tag {
         return true;
     }
-    if 1 <= tag && tag <= 6 {
+    if tags::FIRST <= tag && tag <= tags::LAST {
         return n == length_of(tag);
     }
     false
@@ -114,16 +123,16 @@ fn event_at(log: &[u8], tag: u8, at: usize) -> Event
     ensures { λ r. ⌜ r ≡ eventOf (now (log .entry)) tag at ⌝ }
 {
     match tag {
-        6 => Event::Largest(number(log, at, 2)),
-        1 => Event::Open(number(log, at, 4), number(log, at + 4, 4)),
-        2 => Event::Close(number(log, at, 4)),
-        3 => Event::Rename(number(log, at, 4), number(log, at + 4, 4)),
-        4 => Event::Arrive(
+        tags::LARGEST => Event::Largest(number(log, at, 2)),
+        tags::OPEN => Event::Open(number(log, at, 4), number(log, at + 4, 4)),
+        tags::CLOSE => Event::Close(number(log, at, 4)),
+        tags::RENAME => Event::Rename(number(log, at, 4), number(log, at + 4, 4)),
+        tags::RECORD => Event::Arrive(
             number(log, at, 4),
             number(log, at + 4, 4),
             number16(log, at + 8),
         ),
-        5 => Event::Serve,
+        tags::SERVE => Event::Serve,
         _ => Event::Passed,
     }
 }
@@ -138,7 +147,7 @@ fn in_turn(event: Event, begun: bool) -> bool
     if begun {
         return false;
     }
-    64 <= largest && largest <= 2048
+    LEAST_LARGEST <= largest && largest <= GREATEST_LARGEST
 }
 
 // The field at an offset; begun says that L has been read.
@@ -151,7 +160,7 @@ pub fn field_at(log: &[u8], at: usize, begun: bool) -> Field
     if !right_length(tag, n) {
         return Field::Broken(at);
     }
-    let value = at + 3;
+    let value = at + HEADER;
     let next = value + n;
     let event = event_at(log, tag, value);
     if in_turn(event, begun) {
@@ -164,5 +173,5 @@ pub fn field_at(log: &[u8], at: usize, begun: bool) -> Field
 pub fn is_long(len: usize) -> bool
     ensures { λ r. ⌜ r ≡ isLong len ⌝ }
 {
-    32768 < len
+    LONGEST_LOG < len
 }

@@ -4,12 +4,28 @@ ghost use mathlib.Core.Bool.{cond};
 ghost use Prim.Native.Nat.{ℕ, _<_, _≤_};
 ghost use Rattle.bits.specs.Sets.{withBit};
 ghost use Rattle.orders.specs.Walks.{clockInRange, ofClass, readyInRange, blockInRange, walk, blocksInOrder, ordersListed, classActive, classPending, activeAsRuled, pendingAsRuled};
+use numbers::CLASS_END;
+use numbers::CLASSES;
+use numbers::CLOCK_END;
+use numbers::LAST_LINK;
+use numbers::NO_LINK;
+use numbers::PLACES;
+use numbers::WHOLE_LINE;
+
+// A share of class k, 2^k times, is the whole line at least and under two of it.
+const TWO_LINES: u64 = 2 * WHOLE_LINE;
+
+// An order has each place once at most.
+const LONGEST_ORDER: u32 = PLACES as u32;
+
+// The length of what is no order: more than any has.
+const NO_ORDER: u32 = LONGEST_ORDER + 1;
 
 // Clock at most 2^62.
 fn clock_in_range(clock: u64) -> bool
     ensures { λ r. ⌜ r ≡ clockInRange clock ⌝ }
 {
-    clock <= 4611686018427387904
+    clock <= CLOCK_END
 }
 
 // The share is one of class k.
@@ -19,10 +35,10 @@ fn of_class(k: u32, share: u32) -> bool
 {
     let slots = units::interval(k);
     let scaled = share as u64 * slots;
-    if scaled < 65536 {
+    if scaled < WHOLE_LINE {
         return false;
     }
-    scaled < 131072
+    scaled < TWO_LINES
 }
 
 // A ready time is a multiple of 2^k, not above the next start, and not below the one before it.
@@ -63,7 +79,7 @@ fn block_in_range(
     ready_in_range(k, start, least, ready)
 }
 
-// The order of class k, followed from its head for at most 64 steps: how many places it has, or 65 where it is no order.
+// The order of class k, followed from its head for at most LONGEST_ORDER steps: how many places it has, or NO_ORDER.
 // A walk that ends meets no place twice, so that no place need be marked.
 fn order_length<'a>(
     k: u32,
@@ -71,10 +87,10 @@ fn order_length<'a>(
     slot: u8,
     tail: u8,
     head: u8,
-    shares: &'a [u32; 64],
-    counts: &'a [u8; 64],
-    ready: &'a [u64; 64],
-    next: &'a [u8; 64],
+    shares: &'a [u32; PLACES],
+    counts: &'a [u8; PLACES],
+    ready: &'a [u64; PLACES],
+    next: &'a [u8; PLACES],
 ) -> u32
     requires { ⌜ k ≤ 16 ⌝ }
     ensures { λ r. ⌜ r ≡ walk k start slot tail (now (shares .entry)) (now (counts .entry)) (now (ready .entry)) (now (next .entry)) 64 0 head 0 0 ⌝ }
@@ -82,18 +98,18 @@ fn order_length<'a>(
     let mut met: u32 = 0;
     let mut h = head;
     let mut least: u64 = 0;
-    let mut last: u8 = 0;
-    while h != 0 {
-        if 64 <= met {
-            return 65;
+    let mut last: u8 = NO_LINK;
+    while h != NO_LINK {
+        if LONGEST_ORDER <= met {
+            return NO_ORDER;
         }
-        if 64 < h {
-            return 65;
+        if LAST_LINK < h {
+            return NO_ORDER;
         }
         let p = h as usize - 1;
         let at = ready[p];
         if !block_in_range(k, start, slot, least, p, shares[p], counts[p], at) {
-            return 65;
+            return NO_ORDER;
         }
         met += 1;
         least = at;
@@ -101,18 +117,18 @@ fn order_length<'a>(
         h = next[p];
     }
     if last != tail {
-        return 65;
+        return NO_ORDER;
     }
     met
 }
 
 // How many blocks wait and have not the open slot.
-fn blocks_in_order(slot: u8, counts: &[u8; 64]) -> u32
+fn blocks_in_order(slot: u8, counts: &[u8; PLACES]) -> u32
     ensures { λ r. ⌜ r ≡ blocksInOrder slot (now (counts .entry)) ⌝ }
 {
     let mut blocks: u32 = 0;
     let mut p: usize = 0;
-    while p < 64 {
+    while p < PLACES {
         let queued = places::in_order(p, counts[p], slot);
         blocks += places::one_if(queued);
         p += 1;
@@ -124,12 +140,12 @@ fn blocks_in_order(slot: u8, counts: &[u8; 64]) -> u32
 pub fn orders_listed<'a>(
     clock: u64,
     slot: u8,
-    heads: &'a [u8; 17],
-    tails: &'a [u8; 17],
-    shares: &'a [u32; 64],
-    counts: &'a [u8; 64],
-    ready: &'a [u64; 64],
-    next: &'a [u8; 64],
+    heads: &'a [u8; CLASSES],
+    tails: &'a [u8; CLASSES],
+    shares: &'a [u32; PLACES],
+    counts: &'a [u8; PLACES],
+    ready: &'a [u64; PLACES],
+    next: &'a [u8; PLACES],
 ) -> bool
     ensures { λ r. ⌜ r ≡ ordersListed clock slot (now (heads .entry)) (now (tails .entry)) (now (shares .entry)) (now (counts .entry)) (now (ready .entry)) (now (next .entry)) ⌝ }
 {
@@ -138,7 +154,7 @@ pub fn orders_listed<'a>(
     }
     let mut total: u32 = 0;
     let mut k: u32 = 0;
-    while k < 17 {
+    while k < CLASS_END {
         let class = k as usize;
         let start = units::next_start(clock, k);
         let places = order_length(
@@ -152,7 +168,7 @@ pub fn orders_listed<'a>(
             ready,
             next,
         );
-        if 64 < places {
+        if LONGEST_ORDER < places {
             return false;
         }
         total += places;
@@ -163,18 +179,18 @@ pub fn orders_listed<'a>(
 }
 
 // Class k is active: its order has a block, or the open slot's block is of the class.
-fn class_active<'a>(slot: u8, shares: &'a [u32; 64], heads: &'a [u8; 17], k: u32) -> bool
+fn class_active<'a>(slot: u8, shares: &'a [u32; PLACES], heads: &'a [u8; CLASSES], k: u32) -> bool
     requires { ⌜ k < 17 ⌝ }
     ensures { λ r. ⌜ r ≡ classActive slot (now (shares .entry)) (now (heads .entry)) k ⌝ }
 {
     let class = k as usize;
-    if heads[class] != 0 {
+    if heads[class] != NO_LINK {
         return true;
     }
-    if slot == 0 {
+    if slot == NO_LINK {
         return false;
     }
-    if 64 < slot {
+    if LAST_LINK < slot {
         return false;
     }
     let p = slot as usize - 1;
@@ -182,16 +198,16 @@ fn class_active<'a>(slot: u8, shares: &'a [u32; 64], heads: &'a [u8; 17], k: u32
 }
 
 // Class k is pending: the first block of its order is.
-fn class_pending<'a>(clock: u64, ready: &'a [u64; 64], heads: &'a [u8; 17], k: u32) -> bool
+fn class_pending<'a>(clock: u64, ready: &'a [u64; PLACES], heads: &'a [u8; CLASSES], k: u32) -> bool
     requires { ⌜ k < 17 ⌝ }
     ensures { λ r. ⌜ r ≡ classPending clock (now (ready .entry)) (now (heads .entry)) k ⌝ }
 {
     let class = k as usize;
     let h = heads[class];
-    if h == 0 {
+    if h == NO_LINK {
         return false;
     }
-    if 64 < h {
+    if LAST_LINK < h {
         return false;
     }
     let p = h as usize - 1;
@@ -213,14 +229,14 @@ fn set_with(set: u32, k: u32, member: bool) -> u32
 pub fn active_as_ruled<'a>(
     active: u32,
     slot: u8,
-    shares: &'a [u32; 64],
-    heads: &'a [u8; 17],
+    shares: &'a [u32; PLACES],
+    heads: &'a [u8; CLASSES],
 ) -> bool
     ensures { λ r. ⌜ r ≡ activeAsRuled active slot (now (shares .entry)) (now (heads .entry)) ⌝ }
 {
     let mut set: u32 = 0;
     let mut k: u32 = 0;
-    while k < 17 {
+    while k < CLASS_END {
         let member = class_active(slot, shares, heads, k);
         set = set_with(set, k, member);
         k += 1;
@@ -232,14 +248,14 @@ pub fn active_as_ruled<'a>(
 pub fn pending_as_ruled<'a>(
     pending: u32,
     clock: u64,
-    ready: &'a [u64; 64],
-    heads: &'a [u8; 17],
+    ready: &'a [u64; PLACES],
+    heads: &'a [u8; CLASSES],
 ) -> bool
     ensures { λ r. ⌜ r ≡ pendingAsRuled pending clock (now (ready .entry)) (now (heads .entry)) ⌝ }
 {
     let mut set: u32 = 0;
     let mut k: u32 = 0;
-    while k < 17 {
+    while k < CLASS_END {
         let member = class_pending(clock, ready, heads, k);
         set = set_with(set, k, member);
         k += 1;

@@ -4,6 +4,15 @@ ghost use Prim.Native.Nat.{ℕ, _<_};
 ghost use lib.ListN.{getD};
 ghost use Rattle.base.specs.Sums.{oneIf, below};
 ghost use Rattle.places.specs.Ranges.{sizeInRange, timesFound, numberApart, numbersApart, numberInRange, shareInRange, ringInRange, inOrder, deficitInRange, freeIsZero, unusedIsZero, placeInRange, placesInRange, sharesFit, noneHeld, heldWhileWaiting};
+use numbers::CLASSES;
+use numbers::GREATEST_LARGEST;
+use numbers::GREATEST_SHARE;
+use numbers::LANE_DEPTH;
+use numbers::LEAST_LARGEST;
+use numbers::NO_BLOCK;
+use numbers::NO_LINK;
+use numbers::PLACES;
+use numbers::WHOLE_LINE;
 use units::Bytes;
 use units::Parts;
 
@@ -21,19 +30,19 @@ pub fn one_if(test: bool) -> u32
 pub fn size_in_range(largest: u32) -> bool
     ensures { λ r. ⌜ r ≡ sizeInRange largest ⌝ }
 {
-    if largest < 64 {
+    if largest < LEAST_LARGEST {
         return false;
     }
-    largest <= 2048
+    largest <= GREATEST_LARGEST
 }
 
 // How many places have the number: no early end, so that many are compared at once.
-fn times_found(numbers: &[u32; 64], n: u32) -> u32
+fn times_found(numbers: &[u32; PLACES], n: u32) -> u32
     ensures { λ r. ⌜ r ≡ timesFound (now (numbers .entry)) n ⌝ }
 {
     let mut found: u32 = 0;
     let mut p: usize = 0;
-    while p < 64 {
+    while p < PLACES {
         found += one_if(numbers[p] == n);
         p += 1;
     }
@@ -41,10 +50,10 @@ fn times_found(numbers: &[u32; 64], n: u32) -> u32
 }
 
 // A number but 0 stands at one place only.
-fn number_apart(numbers: &[u32; 64], n: u32) -> bool
+fn number_apart(numbers: &[u32; PLACES], n: u32) -> bool
     ensures { λ r. ⌜ r ≡ numberApart (now (numbers .entry)) n ⌝ }
 {
-    if n == 0 {
+    if n == NO_BLOCK {
         return true;
     }
     let found = times_found(numbers, n);
@@ -52,11 +61,11 @@ fn number_apart(numbers: &[u32; 64], n: u32) -> bool
 }
 
 // Open block numbers distinct.
-pub fn numbers_apart(numbers: &[u32; 64]) -> bool
+pub fn numbers_apart(numbers: &[u32; PLACES]) -> bool
     ensures { λ r. ⌜ r ≡ numbersApart (now (numbers .entry)) ⌝ }
 {
     let mut p: usize = 0;
-    while p < 64 {
+    while p < PLACES {
         if !number_apart(numbers, numbers[p]) {
             return false;
         }
@@ -79,17 +88,17 @@ fn number_in_range(share: u32, number: u32) -> bool
 fn share_in_range(share: u32) -> bool
     ensures { λ r. ⌜ r ≡ shareInRange share ⌝ }
 {
-    share <= 65536
+    share <= GREATEST_SHARE
 }
 
 // Start and count in range.
 fn ring_in_range(start: u8, count: u8) -> bool
     ensures { λ r. ⌜ r ≡ ringInRange start count ⌝ }
 {
-    if 32 <= start {
+    if LANE_DEPTH <= start {
         return false;
     }
-    count <= 32
+    count <= LANE_DEPTH
 }
 
 // The block of place p waits and has not the open slot.
@@ -99,7 +108,7 @@ pub fn in_order(p: usize, count: u8, slot: u8) -> bool
     if count == 0 {
         return false;
     }
-    if slot == 0 {
+    if slot == NO_LINK {
         return true;
     }
     slot as usize - 1 != p
@@ -126,7 +135,7 @@ fn free_is_zero(share: u32, number: u32, start: u8, count: u8, deficit: Parts) -
     if 0 < share {
         return true;
     }
-    if number != 0 {
+    if number != NO_BLOCK {
         return false;
     }
     if start != 0 {
@@ -148,7 +157,7 @@ fn unused_is_zero(queued: bool, ready: u64, next: u8) -> bool
     if ready != 0 {
         return false;
     }
-    next == 0
+    next == NO_LINK
 }
 
 // The rules of one place.
@@ -189,18 +198,18 @@ fn place_in_range(
 pub fn places_in_range<'a>(
     largest: u32,
     slot: u8,
-    numbers: &'a [u32; 64],
-    shares: &'a [u32; 64],
-    starts: &'a [u8; 64],
-    counts: &'a [u8; 64],
-    deficits: &'a [u64; 64],
-    ready: &'a [u64; 64],
-    next: &'a [u8; 64],
+    numbers: &'a [u32; PLACES],
+    shares: &'a [u32; PLACES],
+    starts: &'a [u8; PLACES],
+    counts: &'a [u8; PLACES],
+    deficits: &'a [u64; PLACES],
+    ready: &'a [u64; PLACES],
+    next: &'a [u8; PLACES],
 ) -> bool
     ensures { λ r. ⌜ r ≡ placesInRange largest slot (now (numbers .entry)) (now (shares .entry)) (now (starts .entry)) (now (counts .entry)) (now (deficits .entry)) (now (ready .entry)) (now (next .entry)) ⌝ }
 {
     let mut p: usize = 0;
-    while p < 64 {
+    while p < PLACES {
         if !place_in_range(
             largest,
             slot,
@@ -228,12 +237,12 @@ fn wide(share: u32) -> u64
 }
 
 // The shares of the open blocks.
-fn open_shares(shares: &[u32; 64]) -> u64
+fn open_shares(shares: &[u32; PLACES]) -> u64
     ensures { λ r. ⌜ r ≡ below (λ p. getD (now (shares .entry)) p 0) 64 ⌝ }
 {
     let mut sum: u64 = 0;
     let mut p: usize = 0;
-    while p < 64 {
+    while p < PLACES {
         sum += wide(shares[p]);
         p += 1;
     }
@@ -241,12 +250,12 @@ fn open_shares(shares: &[u32; 64]) -> u64
 }
 
 // The held shares of all classes.
-fn held_shares(held: &[u32; 17]) -> u64
+fn held_shares(held: &[u32; CLASSES]) -> u64
     ensures { λ r. ⌜ r ≡ below (λ k. getD (now (held .entry)) k 0) 17 ⌝ }
 {
     let mut sum: u64 = 0;
     let mut k: usize = 0;
-    while k < 17 {
+    while k < CLASSES {
         sum += wide(held[k]);
         k += 1;
     }
@@ -254,26 +263,26 @@ fn held_shares(held: &[u32; 17]) -> u64
 }
 
 // Open plus held shares at most 65,536.
-pub fn shares_fit<'a>(shares: &'a [u32; 64], held: &'a [u32; 17]) -> bool
+pub fn shares_fit<'a>(shares: &'a [u32; PLACES], held: &'a [u32; CLASSES]) -> bool
     ensures { λ r. ⌜ r ≡ sharesFit (now (shares .entry)) (now (held .entry)) ⌝ }
 {
     let open = open_shares(shares);
-    if 65536 < open {
+    if WHOLE_LINE < open {
         return false;
     }
     let kept = held_shares(held);
-    if 65536 < kept {
+    if WHOLE_LINE < kept {
         return false;
     }
-    open + kept <= 65536
+    open + kept <= WHOLE_LINE
 }
 
 // No share is held.
-fn none_held(held: &[u32; 17]) -> bool
+fn none_held(held: &[u32; CLASSES]) -> bool
     ensures { λ r. ⌜ r ≡ noneHeld (now (held .entry)) ⌝ }
 {
     let mut k: usize = 0;
-    while k < 17 {
+    while k < CLASSES {
         if held[k] != 0 {
             return false;
         }
@@ -283,7 +292,7 @@ fn none_held(held: &[u32; 17]) -> bool
 }
 
 // Held shares 0 if none waits.
-pub fn held_while_waiting(active: u32, held: &[u32; 17]) -> bool
+pub fn held_while_waiting(active: u32, held: &[u32; CLASSES]) -> bool
     ensures { λ r. ⌜ r ≡ heldWhileWaiting active (now (held .entry)) ⌝ }
 {
     if active != 0 {

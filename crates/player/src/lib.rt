@@ -11,10 +11,18 @@ ghost use Rattle.engine.specs.Serving.{numbersNow};
 ghost use Rattle.player.specs.Fields.{boardNow, memory, KnownMemory, FieldPlayed, shownLine};
 ghost use Rattle.player.specs.Pieces.{beforeFirst, pieceCode, CanGoOn, endedPiece, PieceDone, PieceOf};
 use board::Board;
+use lines::LINE_ROOM;
 use log::Event;
 use log::Field;
+use numbers::CLASSES;
+use numbers::PLACES;
+use numbers::TABLE_ENTRIES;
+use numbers::codes;
 use units::Bytes;
 use units::Parts;
+
+// The most bytes sent for each byte of a log that was read: a field has more than one, and sends one record at most.
+const SENT_PER_LOG_BYTE: usize = engine::ANY_LENGTH as usize;
 
 // What stands between two pieces of a listing: whether L has been read, the offset of the next field, the bytes sent so far, and the board.
 pub struct State {
@@ -24,8 +32,8 @@ pub struct State {
     pub board: Board,
 }
 
-// A piece of a listing: the code of a refusal, or 0; how many bytes were written; whether it was the last, as a refusal is; and the state to go on from,
-// which after the last is the one given.
+// A piece of a listing: the code of a refusal, or DONE; how many bytes were written; whether it was the last, as a
+// refusal is; and the state to go on from, which after the last is the one given.
 pub struct Piece {
     pub code: u8,
     pub used: usize,
@@ -52,15 +60,15 @@ fn show_serve(
     place: usize,
     entry: usize,
     time: u64,
-    numbers: &[u32; 64],
+    numbers: &[u32; PLACES],
     ids: &[u32],
     lens: &[u16],
-    line: &mut [u8; 64],
+    line: &mut [u8; LINE_ROOM],
 ) -> usize
     requires { ⌜ (length (now ids) ≡ 2048) × ((length (now lens) ≡ 2048) × (code ≡ 0 → (place < 64) × (entry < 2048))) ⌝ }
     ensures { λ r. ⌜ Line (now (line .entry)) (shownLine code (getD (now (numbers .entry)) place 0) (getD (now (ids .entry)) entry 0) (getD (now (lens .entry)) entry 0) time) r (now (line .exit)) × (r ≤ 64) ⌝ }
 {
-    if code != 0 {
+    if code != codes::DONE {
         return lines::put_refused(line, code);
     }
     lines::put_out(line, numbers[place], ids[entry], lens[entry], time)
@@ -75,19 +83,19 @@ fn play_serve(
     pending: u32,
     slot: u8,
     left: Parts,
-    numbers: &[u32; 64],
-    shares: &[u32; 64],
-    starts: &mut [u8; 64],
-    counts: &mut [u8; 64],
-    deficits: &mut [u64; 64],
-    ready: &mut [u64; 64],
-    next: &mut [u8; 64],
-    heads: &mut [u8; 17],
-    tails: &mut [u8; 17],
-    held: &mut [u32; 17],
+    numbers: &[u32; PLACES],
+    shares: &[u32; PLACES],
+    starts: &mut [u8; PLACES],
+    counts: &mut [u8; PLACES],
+    deficits: &mut [u64; PLACES],
+    ready: &mut [u64; PLACES],
+    next: &mut [u8; PLACES],
+    heads: &mut [u8; CLASSES],
+    tails: &mut [u8; CLASSES],
+    held: &mut [u32; CLASSES],
     ids: &[u32],
     lens: &[u16],
-    line: &mut [u8; 64],
+    line: &mut [u8; LINE_ROOM],
 ) -> Moved
     requires { ⌜ KnownMemory (memory (boardNow (now numbers) (now shares) (now starts) (now counts) (now deficits) (now ready) (now next) (now heads) (now tails) (now held) largest (numbersNow clock active pending slot (left .0))) (now ids) (now lens) (sent .0)) × (sent .0 < 2 ^ 63) ⌝ }
     ensures { λ r. ⌜ FieldPlayed (memory (boardNow (now (numbers .entry)) (now (shares .entry)) (now (starts .entry)) (now (counts .entry)) (now (deficits .entry)) (now (ready .entry)) (now (next .entry)) (now (heads .entry)) (now (tails .entry)) (now (held .entry)) largest (numbersNow clock active pending slot (left .0))) (now (ids .entry)) (now (lens .entry)) (sent .0)) Serve (memory (boardNow (now (numbers .entry)) (now (shares .entry)) (now (starts .exit)) (now (counts .exit)) (now (deficits .exit)) (now (ready .exit)) (now (next .exit)) (now (heads .exit)) (now (tails .exit)) (now (held .exit)) largest (numbersNow (r .clock) (r .active) (r .pending) (r .slot) (r .left .0))) (now (ids .entry)) (now (lens .entry)) (r .sent .0)) (now (line .entry)) (r .shown) (now (line .exit)) ⌝ }
@@ -136,19 +144,19 @@ fn play_field(
     pending: u32,
     slot: u8,
     left: Parts,
-    numbers: &mut [u32; 64],
-    shares: &mut [u32; 64],
-    starts: &mut [u8; 64],
-    counts: &mut [u8; 64],
-    deficits: &mut [u64; 64],
-    ready: &mut [u64; 64],
-    next: &mut [u8; 64],
-    heads: &mut [u8; 17],
-    tails: &mut [u8; 17],
-    held: &mut [u32; 17],
+    numbers: &mut [u32; PLACES],
+    shares: &mut [u32; PLACES],
+    starts: &mut [u8; PLACES],
+    counts: &mut [u8; PLACES],
+    deficits: &mut [u64; PLACES],
+    ready: &mut [u64; PLACES],
+    next: &mut [u8; PLACES],
+    heads: &mut [u8; CLASSES],
+    tails: &mut [u8; CLASSES],
+    held: &mut [u32; CLASSES],
     ids: &mut [u32],
     lens: &mut [u16],
-    line: &mut [u8; 64],
+    line: &mut [u8; LINE_ROOM],
 ) -> Moved
     requires { ⌜ KnownMemory (memory (boardNow (now numbers) (now shares) (now starts) (now counts) (now deficits) (now ready) (now next) (now heads) (now tails) (now held) largest (numbersNow clock active pending slot (left .0))) (now ids) (now lens) (sent .0)) × ((sent .0 < 2 ^ 63) × (inTurn event true ≡ true)) ⌝ }
     ensures { λ r. ⌜ FieldPlayed (memory (boardNow (now (numbers .entry)) (now (shares .entry)) (now (starts .entry)) (now (counts .entry)) (now (deficits .entry)) (now (ready .entry)) (now (next .entry)) (now (heads .entry)) (now (tails .entry)) (now (held .entry)) largest (numbersNow clock active pending slot (left .0))) (now (ids .entry)) (now (lens .entry)) (sent .0)) event (memory (boardNow (now (numbers .exit)) (now (shares .exit)) (now (starts .exit)) (now (counts .exit)) (now (deficits .exit)) (now (ready .exit)) (now (next .exit)) (now (heads .exit)) (now (tails .exit)) (now (held .exit)) largest (numbersNow (r .clock) (r .active) (r .pending) (r .slot) (r .left .0))) (now (ids .exit)) (now (lens .exit)) (r .sent .0)) (now (line .entry)) (r .shown) (now (line .exit)) ⌝ }
@@ -246,7 +254,7 @@ fn sum_of(counts: &[u8]) -> u32
 }
 
 // How many records wait.
-fn waiting(counts: &[u8; 64]) -> u32
+fn waiting(counts: &[u8; PLACES]) -> u32
     ensures { λ r. ⌜ r ≡ totalOf (now (counts .entry)) ⌝ }
 {
     sum_of(counts)
@@ -261,32 +269,33 @@ fn append_front(out: &mut [u8], used: usize, text: &[u8], count: usize) -> usize
 }
 
 // A line is put behind what is written.
-fn append(out: &mut [u8], used: usize, line: &[u8; 64], count: usize) -> usize
+fn append(out: &mut [u8], used: usize, line: &[u8; LINE_ROOM], count: usize) -> usize
     requires { ⌜ (count ≤ 64) × (used + count ≤ length (now out)) ⌝ }
     ensures { λ r. ⌜ Written (now (out .entry)) used (take count (now (line .entry))) r (now (out .exit)) ⌝ }
 {
     append_front(out, used, line, count)
 }
 
-// Whether a piece may go on from a state: 3 for the tables, 2 for a log, a sum or a board with which no piece leaves one.
+// Whether a piece may go on from a state: TABLE_LENGTH for the tables, SPOILT for a log, a sum or a board with which no
+// piece leaves one.
 fn unready(len: usize, ids: &[u32], lens: &[u16], s: State) -> u8
     ensures { λ r. ⌜ (r ≡ pieceCode len s (now (ids .entry)) (now (lens .entry))) × (r ≡ 0 → s .begun ≡ true → CanGoOn len s (now (ids .entry)) (now (lens .entry))) ⌝ }
 {
-    if ids.len() != 2048 {
-        return 3;
+    if ids.len() != TABLE_ENTRIES {
+        return codes::TABLE_LENGTH;
     }
-    if lens.len() != 2048 {
-        return 3;
+    if lens.len() != TABLE_ENTRIES {
+        return codes::TABLE_LENGTH;
     }
     if !s.begun {
-        return 0;
+        return codes::DONE;
     }
     if log::is_long(len) {
-        return 2;
+        return codes::SPOILT;
     }
     let sent = s.sent;
-    if s.at < sent.0 as usize / 65536 {
-        return 2;
+    if s.at < sent.0 as usize / SENT_PER_LOG_BYTE {
+        return codes::SPOILT;
     }
     calls::early(ids, lens, s.board)
 }
@@ -296,7 +305,7 @@ fn last_piece(used: usize, s: State) -> Piece
     ensures { λ r. ⌜ r ≡ endedPiece used s ⌝ }
 {
     Piece {
-        code: 0,
+        code: codes::DONE,
         used: used,
         over: true,
         state: s,
@@ -327,9 +336,9 @@ fn next_piece(log: &[u8], ids: &mut [u32], lens: &mut [u16], out: &mut [u8], s: 
     let mut at = s.at;
     let mut sent = s.sent;
     let mut used: usize = 0;
-    let mut line = [0u8; 64];
+    let mut line = [0u8; LINE_ROOM];
     loop {
-        if out.len() - used < 64 {
+        if out.len() - used < LINE_ROOM {
             let board = Board {
                 numbers: numbers,
                 shares: shares,
@@ -349,7 +358,7 @@ fn next_piece(log: &[u8], ids: &mut [u32], lens: &mut [u16], out: &mut [u8], s: 
                 left: left,
             };
             return Piece {
-                code: 0,
+                code: codes::DONE,
                 used: used,
                 over: false,
                 state: State {
@@ -411,15 +420,15 @@ fn first_piece(log: &[u8], ids: &mut [u32], lens: &mut [u16], out: &mut [u8], s:
     requires { ⌜ (s .begun ≡ false) × (pieceCode (length (now log)) s (now ids) (now lens) ≡ 0) ⌝ }
     ensures { λ r. ⌜ PieceDone (now (log .entry)) s (now (ids .entry)) (now (lens .entry)) (now (out .entry)) r (now (ids .exit)) (now (lens .exit)) (now (out .exit)) ⌝ }
 {
-    if out.len() < 64 {
+    if out.len() < LINE_ROOM {
         return Piece {
-            code: 0,
+            code: codes::DONE,
             used: 0,
             over: false,
             state: s,
         };
     }
-    let mut line = [0u8; 64];
+    let mut line = [0u8; LINE_ROOM];
     if log::is_long(log.len()) {
         let count = lines::put_long(&mut line);
         let end = append(out, 0, &line, count);
@@ -437,7 +446,7 @@ fn first_piece(log: &[u8], ids: &mut [u32], lens: &mut [u16], out: &mut [u8], s:
     let made = calls::make(ids, lens, largest);
     let board = made.board;
     Piece {
-        code: 0,
+        code: codes::DONE,
         used: 0,
         over: false,
         state: State {
@@ -454,7 +463,7 @@ pub fn list_piece(log: &[u8], ids: &mut [u32], lens: &mut [u16], out: &mut [u8],
     ensures { λ r. ⌜ PieceOf (now (log .entry)) s (now (ids .entry)) (now (lens .entry)) (now (out .entry)) r (now (ids .exit)) (now (lens .exit)) (now (out .exit)) ⌝ }
 {
     let refusal = unready(log.len(), &ids[..], &lens[..], s);
-    if refusal != 0 {
+    if refusal != codes::DONE {
         return Piece {
             code: refusal,
             used: 0,
@@ -468,7 +477,7 @@ pub fn list_piece(log: &[u8], ids: &mut [u32], lens: &mut [u16], out: &mut [u8],
     first_piece(log, ids, lens, out, s)
 }
 
-// Where a listing beforeFirst: L has not been read, and there is no board yet.
+// Where a listing begins: L has not been read, and there is no board yet.
 pub fn begin() -> State
     ensures { λ r. ⌜ r ≡ beforeFirst ⌝ }
 {

@@ -6,6 +6,12 @@ ghost use Rattle.sound.specs.Test.{tablesWhole, entryOf, lengthInRange, 
 ghost use Rattle.base.specs.Tests.{every};
 ghost use Rattle.places.specs.Ranges.{placesInRange};
 use board::Board;
+use numbers::CLOCK_END;
+use numbers::LANE_ENTRIES;
+use numbers::LAST_LINK;
+use numbers::NO_LINK;
+use numbers::PLACES;
+use numbers::TABLE_ENTRIES;
 use units::Bytes;
 use units::Parts;
 
@@ -13,10 +19,10 @@ use units::Parts;
 fn tables_whole(ids: &[u32], lens: &[u16]) -> bool
     ensures { λ r. ⌜ r ≡ tablesWhole (now (ids .entry)) (now (lens .entry)) ⌝ }
 {
-    if ids.len() != 2048 {
+    if ids.len() != TABLE_ENTRIES {
         return false;
     }
-    lens.len() == 2048
+    lens.len() == TABLE_ENTRIES
 }
 
 // A waiting length is 1 to L.
@@ -34,7 +40,7 @@ fn entry_of(p: usize, start: u8, j: usize) -> usize
     requires { ⌜ (p < 64) × (j < 256) ⌝ }
     ensures { λ r. ⌜ (r ≡ entryOf p start j) × (r < 2048) ⌝ }
 {
-    32 * p + (start as usize + j) % 32
+    LANE_ENTRIES * p + (start as usize + j) % LANE_ENTRIES
 }
 
 // The waiting lengths of place p.
@@ -58,14 +64,14 @@ fn lane_in_range(lens: &[u16], largest: u32, p: usize, start: u8, count: u8) -> 
 fn lanes_in_range<'a>(
     lens: &[u16],
     largest: u32,
-    starts: &'a [u8; 64],
-    counts: &'a [u8; 64],
+    starts: &'a [u8; PLACES],
+    counts: &'a [u8; PLACES],
 ) -> bool
     requires { ⌜ length (now lens) ≡ 2048 ⌝ }
     ensures { λ r. ⌜ r ≡ lanesInRange (now (lens .entry)) largest (now (starts .entry)) (now (counts .entry)) ⌝ }
 {
     let mut p: usize = 0;
-    while p < 64 {
+    while p < PLACES {
         if !lane_in_range(lens, largest, p, starts[p], counts[p]) {
             return false;
         }
@@ -89,7 +95,7 @@ fn slot_open(largest: u32, clock: u64, left: Parts, count: u8, len: u16) -> bool
     if 3 * most.0 <= left.0 {
         return false;
     }
-    clock < 4611686018427387904
+    clock < CLOCK_END
 }
 
 // No slot and nothing left of it; or the mark of a place whose block may serve on.
@@ -99,16 +105,16 @@ fn slot_in_range<'a>(
     clock: u64,
     slot: u8,
     left: Parts,
-    starts: &'a [u8; 64],
-    counts: &'a [u8; 64],
+    starts: &'a [u8; PLACES],
+    counts: &'a [u8; PLACES],
 ) -> bool
     requires { ⌜ length (now lens) ≡ 2048 ⌝ }
     ensures { λ r. ⌜ r ≡ slotInRange (now (lens .entry)) largest clock slot (left .0) (now (starts .entry)) (now (counts .entry)) ⌝ }
 {
-    if slot == 0 {
+    if slot == NO_LINK {
         return left.0 == 0;
     }
-    if 64 < slot {
+    if LAST_LINK < slot {
         return false;
     }
     let p = slot as usize - 1;

@@ -3,14 +3,15 @@ ghost use mathlib.Core.Path.{_≡_};
 ghost use Prim.Native.Nat.{ℕ, _^_, _<_, _≤_};
 ghost use Rattle.units.specs.Classes.{classOf, nextStart};
 ghost use Rattle.units.specs.Credit.{charged, largestCharge, chargeOf, creditOf};
+use numbers::GREATEST_SHARE;
+use numbers::LAST_CLASS;
+use numbers::PARTS_PER_BYTE;
 
 // An amount of credit: one byte is 65,536 parts.
 pub struct Parts(pub u64);
 
 // An amount of data.
 pub struct Bytes(pub u64);
-
-const PARTS_PER_BYTE: u64 = 65536;
 
 // Bytes that the line carries with each record besides its own.
 const FRAMING: u64 = 0;
@@ -21,8 +22,8 @@ pub fn class_of(share: u32) -> u32
     ensures { λ r. ⌜ r ≡ classOf share ⌝ }
 {
     let mut k: u32 = 0;
-    let mut limit: u32 = 65536;
-    while k < 16 {
+    let mut limit: u32 = GREATEST_SHARE;
+    while k < LAST_CLASS {
         if limit <= share {
             return k;
         }
