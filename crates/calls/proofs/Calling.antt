@@ -15,8 +15,8 @@ use Rattle.rules.specs.Calls.{Single, serve!, step, Call, one, burst!, Outcome,
 use Rattle.board.specs.declared.Board as struct
 use Rattle.board.specs.Reading.{view, Sized, isSpelt, isSound}
 use Rattle.board.proofs.Sound.{spelt-decides, is-sound-decides}
-use Rattle.sound.specs.Test.{soundTest}
-use Rattle.sound.proofs.Decided.{sound-decides}
+use Rattle.spoilt.specs.Test.{soundTest}
+use Rattle.spoilt.proofs.Decided.{sound-decides}
 use Rattle.calls.specs.declared.Served.{Served}
 use Rattle.calls.specs.Contract.{notServed, servedBy, goodServe, BurstOutcome, burstNow, goodBurst, boardOr, calledServe, burstedBy, calledBurst}
 use Rattle.calls.specs.Promises.{returned, replied, idsAfter, lensAfter, written, Known, ruled, lent, called, earlyCode}

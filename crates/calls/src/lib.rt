@@ -358,7 +358,7 @@ pub fn early(ids: &[u32], lens: &[u16], b: Board) -> u8
     if lens.len() != TABLE_ENTRIES {
         return codes::TABLE_LENGTH;
     }
-    if sound::sound(ids, lens, b) {
+    if spoilt::sound(ids, lens, b) {
         return codes::DONE;
     }
     codes::SPOILT

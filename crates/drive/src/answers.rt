@@ -113,7 +113,7 @@ fn spoilt_code(ids: &[u32], lens: &[u16], b: Board) -> u64 {
     if ids.len() != TABLE_ENTRIES || lens.len() != TABLE_ENTRIES {
         return TABLE_LENGTH;
     }
-    if sound::sound(ids, lens, b) {
+    if spoilt::sound(ids, lens, b) {
         SOUND
     } else {
         SPOILT

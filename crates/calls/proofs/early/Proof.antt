@@ -10,7 +10,7 @@ use Rattle.calls.proofs.early.Statement.{statement}
 use Rattle.calls.proofs.early.Tie as tie
 use Rattle.calls.proofs.early.Reads as reads
 use Rattle.calls.proofs.early.Lts as lts
-use Rattle.sound.proofs.sound.Reads as sound-reads
+use Rattle.spoilt.proofs.sound.Reads as sound-reads
 
 returns : tie.Need-returns
 unfolding earlyCode

@@ -1,0 +1,41 @@
+use native.Mathlib.Omega.{arith}
+use borrow.Author.Needs.{needs}
+use borrow.Author.Tests.{eq-eqb, le-leb, le-ltb, lt-leb, lt-ltb, ne-eqb}
+use Rattle.units.specs.Credit.{chargeOf, charged, framing}
+use Rattle.spoilt.specs.Test.{slotOpen}
+use Rattle.spoilt.proofs.slot_open.Statement.{statement}
+use Rattle.spoilt.proofs.slot_open.Tie as tie
+use Rattle.spoilt.proofs.slot_open.Reads as reads
+use Rattle.spoilt.proofs.slot_open.Lts as lts
+use Rattle.units.proofs.charge.Reads as charge-reads
+
+returns : tie.Need-returns
+unfolding slotOpen
+returns c = rw (eq-eqb _ _ (c .if1 .taken))
+
+charge-requires : tie.Need-charge-requires
+charge-requires c κs = search needs
+
+returns-2 : tie.Need-returns-2
+unfolding slotOpen
+returns-2 c = rw (ne-eqb _ _ (c .before .before .before .before .if1 .left), ← c .before .before .before .charge .ensures, lt-leb _ _ (c .if2 .taken))
+
+charge-requires-2 : tie.Need-charge-requires-2
+charge-requires-2 c κs = search needs
+
+mul-if3 : tie.Need-mul-if3
+unfolding chargeOf charged framing
+mul-if3 c = omega (arith, c .before .charge2 .ensures)
+
+returns-3 : tie.Need-returns-3
+unfolding slotOpen
+returns-3 c = rw (ne-eqb _ _ (c .before .before .before .before .before .before .before .before .if1 .left), ← c .before .before .before .before .before .before .before .charge .ensures, le-leb _ _ (c .before .before .before .before .if2 .left), ← c .before .before .before .charge2 .ensures, le-ltb _ _ (c .if3 .taken))
+
+returns-4 : tie.Need-returns-4
+unfolding slotOpen
+returns-4 c = rw (ne-eqb _ _ (c .before .before .before .before .before .before .before .before .if1 .left), ← c .before .before .before .before .before .before .before .charge .ensures, le-leb _ _ (c .before .before .before .before .if2 .left), ← c .before .before .before .charge2 .ensures, lt-ltb _ _ (c .if3 .left))
+
+pub slot-open-spec : {M : Type 1} → statement M
+slot-open-spec =
+    tie.close
+    (tie.spec returns charge-requires returns-2 charge-requires-2 mul-if3 returns-3 returns-4)

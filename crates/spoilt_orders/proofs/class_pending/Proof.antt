@@ -1,0 +1,47 @@
+use borrow.Author.Needs.{needs}
+use borrow.Author.Tests.{eq-eqb, le-leb, lt-leb, ne-eqb}
+use Rattle.spoilt_orders.specs.Walks.{classPending}
+use Rattle.spoilt_orders.proofs.class_pending.Statement.{statement}
+use Rattle.spoilt_orders.proofs.class_pending.Tie as tie
+use Rattle.spoilt_orders.proofs.class_pending.Reads as reads
+use Rattle.spoilt_orders.proofs.class_pending.Lts as lts
+
+element-copy-out-h : tie.Need-element-copy-out-h
+element-copy-out-h c = search needs
+
+returns : tie.Need-returns
+unfolding classPending
+returns c = rw (eq-eqb _ _ (c .if1 .taken))
+
+returns-2 : tie.Need-returns-2
+unfolding classPending
+returns-2 c = rw (ne-eqb _ _ (c .before .if1 .left), lt-leb _ _ (c .if2 .taken))
+
+cast-p : tie.Need-cast-p
+cast-p c = search needs
+
+sub-p : tie.Need-sub-p
+sub-p c = search needs
+
+mul-result : tie.Need-mul-result
+mul-result c = search needs
+
+element-copy-out-result : tie.Need-element-copy-out-result
+element-copy-out-result c = search needs
+
+returns-3 : tie.Need-returns-3
+unfolding classPending
+returns-3 c = rw (ne-eqb _ _ (c .before .before .if1 .left), le-leb _ _ (c .before .if2 .left))
+
+pub class-pending-spec : {M : Type 1} → statement M
+class-pending-spec =
+    tie.close
+    (tie.spec
+    element-copy-out-h
+    returns
+    returns-2
+    cast-p
+    sub-p
+    mul-result
+    element-copy-out-result
+    returns-3)

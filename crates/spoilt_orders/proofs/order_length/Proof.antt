@@ -1,0 +1,99 @@
+use mathlib.Core.Bool.{Bool, cond}
+use mathlib.Core.Path.{_∙_, _≡_, ap, refl, sym}
+use Prim.Native.Nat.{_-_, _≤_}
+use native.Mathlib.Omega.{arith}
+use borrow.Author.Needs.{needs}
+use borrow.Author.Tests.{eq-eqb, ne-eqb, not-false, not-true}
+use denote.Ref.{now}
+use Rattle.spoilt_orders.proofs.Steps.{walk-end, walk-far, walk-long, walk-on, walk-refused}
+use Rattle.spoilt_orders.specs.Walks.{walk}
+use Rattle.spoilt_orders.proofs.order_length.Statement.{statement}
+use Rattle.spoilt_orders.proofs.order_length.Tie as tie
+use Rattle.spoilt_orders.proofs.order_length.Reads as reads
+use Rattle.spoilt_orders.proofs.order_length.Lts as lts
+use Rattle.spoilt_orders.proofs.block_in_range.Reads as block-in-range-reads
+
+abbrev Inv-loop : tie.InvT-loop
+Inv-loop k start slot tail head shares counts ready next met₀ h₀ least₀ last₀ met h least last = (met ≤ 64) × (walk k start slot tail shares counts ready next 64 0 head 0 0 ≡ walk k start slot tail shares counts ready next (64 - met) met h least last)
+
+abbrev μ-loop : tie.MeasureT-loop
+μ-loop k start slot tail head shares counts ready next met₀ h₀ least₀ last₀ met h least last = 64 - met
+
+loop-holds : tie.Need-loop-holds Inv-loop μ-loop
+loop-holds c = (omega arith, refl)
+
+returns : tie.Need-returns Inv-loop μ-loop
+returns c = sym (c .before .before .loop .inv .1 ∙ walk-long (c .before .before .before .args .k) (c .before .before .before .args .start) (c .before .before .before .args .slot) (c .before .before .before .args .tail) (now (c .before .before .before .args .shares)) (now (c .before .before .before .args .counts)) (now (c .before .before .before .args .ready)) (now (c .before .before .before .args .next)) (c .before .before .loop .met) (c .before .before .loop .h) (c .before .before .loop .least) (c .before .before .loop .last) _ (omega arith) (c .before .loop-test .taken))
+
+returns-2 : tie.Need-returns-2 Inv-loop μ-loop
+returns-2 c = sym (c .before .before .before .loop .inv .1 ∙ walk-far (c .before .before .before .before .args .k) (c .before .before .before .before .args .start) (c .before .before .before .before .args .slot) (c .before .before .before .before .args .tail) (now (c .before .before .before .before .args .shares)) (now (c .before .before .before .before .args .counts)) (now (c .before .before .before .before .args .ready)) (now (c .before .before .before .before .args .next)) (c .before .before .before .loop .met) (c .before .before .before .loop .h) (c .before .before .before .loop .least) (c .before .before .before .loop .last) (c .before .if1 .left) (c .before .before .loop-test .taken) (c .if2 .taken))
+
+cast-p : tie.Need-cast-p Inv-loop μ-loop
+cast-p c = search needs
+
+sub-p : tie.Need-sub-p Inv-loop μ-loop
+sub-p c = search needs
+
+mul-at : tie.Need-mul-at Inv-loop μ-loop
+mul-at c = search needs
+
+element-copy-out-at : tie.Need-element-copy-out-at Inv-loop μ-loop
+element-copy-out-at c = search needs
+
+mul-block-in-range : tie.Need-mul-block-in-range Inv-loop μ-loop
+mul-block-in-range c = search needs
+
+element-copy-out-block-in-range : tie.Need-element-copy-out-block-in-range Inv-loop μ-loop
+element-copy-out-block-in-range c = search needs
+
+element-copy-out-block-in-range-2 : tie.Need-element-copy-out-block-in-range-2 Inv-loop μ-loop
+element-copy-out-block-in-range-2 c = search needs
+
+block-in-range-requires : tie.Need-block-in-range-requires Inv-loop μ-loop
+block-in-range-requires c κs = search needs
+
+returns-3 : tie.Need-returns-3 Inv-loop μ-loop
+returns-3 c = sym (c .before .before .before .before .before .before .before .before .loop .inv .1 ∙ walk-refused (c .before .before .before .before .before .before .before .before .before .args .k) (c .before .before .before .before .before .before .before .before .before .args .start) (c .before .before .before .before .before .before .before .before .before .args .slot) (c .before .before .before .before .before .before .before .before .before .args .tail) (now (c .before .before .before .before .before .before .before .before .before .args .shares)) (now (c .before .before .before .before .before .before .before .before .before .args .counts)) (now (c .before .before .before .before .before .before .before .before .before .args .ready)) (now (c .before .before .before .before .before .before .before .before .before .args .next)) (c .before .before .before .before .before .before .before .before .loop .met) (c .before .before .before .before .before .before .before .before .loop .h) (c .before .before .before .before .before .before .before .before .loop .least) (c .before .before .before .before .before .before .before .before .loop .last) (c .before .before .before .before .before .before .if1 .left) (c .before .before .before .before .before .before .before .loop-test .taken) (c .before .before .before .before .before .if2 .left) (sym (c .before .block-in-range .ensures) ∙ not-true _ (c .if3 .taken)))
+
+add-met : tie.Need-add-met Inv-loop μ-loop
+add-met c = search needs
+
+element-copy-out-h : tie.Need-element-copy-out-h Inv-loop μ-loop
+element-copy-out-h c = search needs
+
+loop-less : tie.Need-loop-less Inv-loop μ-loop
+loop-less c = search needs
+
+loop-again : tie.Need-loop-again Inv-loop μ-loop
+loop-again c = (omega arith, c .before .before .before .before .before .before .before .before .before .loop .inv .1 ∙ walk-on (c .before .before .before .before .before .before .before .before .before .before .args .k) (c .before .before .before .before .before .before .before .before .before .before .args .start) (c .before .before .before .before .before .before .before .before .before .before .args .slot) (c .before .before .before .before .before .before .before .before .before .before .args .tail) (now (c .before .before .before .before .before .before .before .before .before .before .args .shares)) (now (c .before .before .before .before .before .before .before .before .before .before .args .counts)) (now (c .before .before .before .before .before .before .before .before .before .before .args .ready)) (now (c .before .before .before .before .before .before .before .before .before .before .args .next)) (c .before .before .before .before .before .before .before .before .before .loop .met) (c .before .before .before .before .before .before .before .before .before .loop .h) (c .before .before .before .before .before .before .before .before .before .loop .least) (c .before .before .before .before .before .before .before .before .before .loop .last) (c .before .before .before .before .before .before .before .if1 .left) (c .before .before .before .before .before .before .before .before .loop-test .taken) (c .before .before .before .before .before .before .if2 .left) (sym (c .before .before .block-in-range .ensures) ∙ not-false _ (c .before .if3 .left)))
+
+returns-4 : tie.Need-returns-4 Inv-loop μ-loop
+returns-4 c = sym (c .before .before .loop .inv .1 ∙ walk-end (c .before .before .before .args .k) (c .before .before .before .args .start) (c .before .before .before .args .slot) (c .before .before .before .args .tail) (now (c .before .before .before .args .shares)) (now (c .before .before .before .args .counts)) (now (c .before .before .before .args .ready)) (now (c .before .before .before .args .next)) (c .before .before .loop .met) (c .before .before .loop .h) (c .before .before .loop .least) (c .before .before .loop .last) _ (c .before .loop-test .left) ∙ ap (λ (t : Bool). cond t (c .before .before .loop .met) 65) (ne-eqb _ _ (c .if4 .taken)))
+
+returns-5 : tie.Need-returns-5 Inv-loop μ-loop
+returns-5 c = sym (c .before .before .loop .inv .1 ∙ walk-end (c .before .before .before .args .k) (c .before .before .before .args .start) (c .before .before .before .args .slot) (c .before .before .before .args .tail) (now (c .before .before .before .args .shares)) (now (c .before .before .before .args .counts)) (now (c .before .before .before .args .ready)) (now (c .before .before .before .args .next)) (c .before .before .loop .met) (c .before .before .loop .h) (c .before .before .loop .least) (c .before .before .loop .last) _ (c .before .loop-test .left) ∙ ap (λ (t : Bool). cond t (c .before .before .loop .met) 65) (eq-eqb _ _ (c .if4 .left)))
+
+pub order-length-spec : {M : Type 1} → statement M
+order-length-spec =
+    tie.close
+    (tie.spec
+    Inv-loop
+    μ-loop
+    loop-holds
+    returns
+    returns-2
+    cast-p
+    sub-p
+    mul-at
+    element-copy-out-at
+    mul-block-in-range
+    element-copy-out-block-in-range
+    element-copy-out-block-in-range-2
+    block-in-range-requires
+    returns-3
+    add-met
+    element-copy-out-h
+    loop-less
+    loop-again
+    returns-4
+    returns-5)

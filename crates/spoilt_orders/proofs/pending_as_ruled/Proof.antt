@@ -1,0 +1,58 @@
+use mathlib.Core.Bool.{Bool, cond}
+use mathlib.Core.Path.{_∙_, _≡_, ap, ap₂, sym}
+use Prim.Native.Nat.{_-_, _≤_, ℕ}
+use native.Mathlib.Omega.{arith}
+use lib.Dec.{eqb}
+use borrow.Author.Needs.{needs}
+use denote.Ref.{now}
+use Rattle.bits.specs.Sets.{setBelow, withBit}
+use Rattle.spoilt_orders.proofs.Steps.{set-next, set-none}
+use Rattle.spoilt_orders.specs.Walks.{classPending, pendingAsRuled}
+use Rattle.spoilt_orders.proofs.pending_as_ruled.Statement.{statement}
+use Rattle.spoilt_orders.proofs.pending_as_ruled.Tie as tie
+use Rattle.spoilt_orders.proofs.pending_as_ruled.Reads as reads
+use Rattle.spoilt_orders.proofs.pending_as_ruled.Lts as lts
+use Rattle.spoilt_orders.proofs.class_pending.Reads as class-pending-reads
+use Rattle.spoilt_orders.proofs.set_with.Reads as set-with-reads
+
+abbrev Inv-loop : tie.InvT-loop
+Inv-loop pending clock ready heads set₀ k₀ set k = (k ≤ 17) × (set ≡ setBelow k (classPending clock ready heads))
+
+abbrev μ-loop : tie.MeasureT-loop
+μ-loop pending clock ready heads set₀ k₀ set k = 17 - k
+
+loop-holds : tie.Need-loop-holds Inv-loop μ-loop
+loop-holds c = (omega arith, sym (set-none _))
+
+class-pending-requires : tie.Need-class-pending-requires Inv-loop μ-loop
+class-pending-requires c κs = search needs
+
+set-with-requires : tie.Need-set-with-requires Inv-loop μ-loop
+set-with-requires c κs = search needs
+
+add-k : tie.Need-add-k Inv-loop μ-loop
+add-k c = search needs
+
+loop-less : tie.Need-loop-less Inv-loop μ-loop
+loop-less c = search needs
+
+loop-again : tie.Need-loop-again Inv-loop μ-loop
+loop-again c = (omega arith, c .set-with .ensures ∙ ap₂ (λ (m : Bool) (s : ℕ). cond m (withBit s (c .before .before .before .loop .k)) s) (c .before .class-pending .ensures) (c .before .before .before .loop .inv .1) ∙ sym (set-next (classPending (c .before .before .before .before .args .clock) (now (c .before .before .before .before .args .ready)) (now (c .before .before .before .before .args .heads))) (c .before .before .before .loop .k)))
+
+returns : tie.Need-returns Inv-loop μ-loop
+unfolding pendingAsRuled
+returns c = let e : c .before .loop .k ≡ 17 = omega arith in ap (eqb (c .before .before .args .pending)) (c .before .loop .inv .1 ∙ ap (λ (n : ℕ). setBelow n (classPending (c .before .before .args .clock) (now (c .before .before .args .ready)) (now (c .before .before .args .heads)))) e)
+
+pub pending-as-ruled-spec : {M : Type 1} → statement M
+pending-as-ruled-spec =
+    tie.close
+    (tie.spec
+    Inv-loop
+    μ-loop
+    loop-holds
+    class-pending-requires
+    set-with-requires
+    add-k
+    loop-less
+    loop-again
+    returns)

@@ -1,0 +1,26 @@
+use borrow.Author.Needs.{needs}
+use borrow.Author.Tests.{eq-eqb, ne-eqb}
+use Rattle.spoilt_places.proofs.Links.{link-as, no-link}
+use Rattle.spoilt_places.specs.Ranges.{inOrder}
+use Rattle.spoilt_places.proofs.in_order.Statement.{statement}
+use Rattle.spoilt_places.proofs.in_order.Tie as tie
+use Rattle.spoilt_places.proofs.in_order.Reads as reads
+use Rattle.spoilt_places.proofs.in_order.Lts as lts
+
+returns : tie.Need-returns
+unfolding inOrder
+returns c = rw (eq-eqb _ _ (c .if1 .taken))
+
+returns-2 : tie.Need-returns-2
+unfolding inOrder
+returns-2 c = rw (ne-eqb _ _ (c .before .if1 .left), no-link _ (c .before .before .args .p) (c .if2 .taken))
+
+sub-result : tie.Need-sub-result
+sub-result c = search needs
+
+returns-3 : tie.Need-returns-3
+unfolding inOrder
+returns-3 c = rw (ne-eqb _ _ (c .before .if1 .left), link-as (c .before .before .args .slot) (c .before .before .args .p) (c .if2 .left))
+
+pub in-order-spec : {M : Type 1} → statement M
+in-order-spec = tie.close (tie.spec returns returns-2 sub-result returns-3)

@@ -1,0 +1,79 @@
+use mathlib.Core.Path.{_∙_, sym}
+use borrow.Author.Needs.{needs}
+use borrow.Author.Tests.{not-false, not-true}
+use Rattle.base.proofs.Loops.{last-test}
+use Rattle.spoilt_places.specs.Ranges.{placeInRange}
+use Rattle.spoilt_places.proofs.place_in_range.Statement.{statement}
+use Rattle.spoilt_places.proofs.place_in_range.Tie as tie
+use Rattle.spoilt_places.proofs.place_in_range.Reads as reads
+use Rattle.spoilt_places.proofs.place_in_range.Lts as lts
+use Rattle.spoilt_places.proofs.deficit_in_range.Reads as deficit-in-range-reads
+use Rattle.spoilt_places.proofs.free_is_zero.Reads as free-is-zero-reads
+use Rattle.spoilt_places.proofs.in_order.Reads as in-order-reads
+use Rattle.spoilt_places.proofs.number_in_range.Reads as number-in-range-reads
+use Rattle.spoilt_places.proofs.ring_in_range.Reads as ring-in-range-reads
+use Rattle.spoilt_places.proofs.share_in_range.Reads as share-in-range-reads
+use Rattle.spoilt_places.proofs.unused_is_zero.Reads as unused-is-zero-reads
+
+number-in-range-requires : tie.Need-number-in-range-requires
+number-in-range-requires c κs = search needs
+
+returns : tie.Need-returns
+unfolding placeInRange
+returns c = rw (sym (c .before .number-in-range .ensures) ∙ not-true _ (c .if1 .taken))
+
+share-in-range-requires : tie.Need-share-in-range-requires
+share-in-range-requires c κs = search needs
+
+returns-2 : tie.Need-returns-2
+unfolding placeInRange
+returns-2 c = rw (sym (c .before .before .before .number-in-range .ensures) ∙ not-false _ (c .before .before .if1 .left), sym (c .before .share-in-range .ensures) ∙ not-true _ (c .if2 .taken))
+
+ring-in-range-requires : tie.Need-ring-in-range-requires
+ring-in-range-requires c κs = search needs
+
+returns-3 : tie.Need-returns-3
+unfolding placeInRange
+returns-3 c = rw (sym (c .before .before .before .before .before .number-in-range .ensures) ∙ not-false _ (c .before .before .before .before .if1 .left), sym (c .before .before .before .share-in-range .ensures) ∙ not-false _ (c .before .before .if2 .left), sym (c .before .ring-in-range .ensures) ∙ not-true _ (c .if3 .taken))
+
+in-order-requires : tie.Need-in-order-requires
+in-order-requires c κs = search needs
+
+deficit-in-range-requires : tie.Need-deficit-in-range-requires
+deficit-in-range-requires c κs = search needs
+
+returns-4 : tie.Need-returns-4
+unfolding placeInRange
+returns-4 c = rw (sym (c .before .before .before .before .before .before .before .before .number-in-range .ensures) ∙ not-false _ (c .before .before .before .before .before .before .before .if1 .left), sym (c .before .before .before .before .before .before .share-in-range .ensures) ∙ not-false _ (c .before .before .before .before .before .if2 .left), sym (c .before .before .before .before .ring-in-range .ensures) ∙ not-false _ (c .before .before .before .if3 .left), ← c .before .before .in-order .ensures, sym (c .before .deficit-in-range .ensures) ∙ not-true _ (c .if4 .taken))
+
+free-is-zero-requires : tie.Need-free-is-zero-requires
+free-is-zero-requires c κs = search needs
+
+returns-5 : tie.Need-returns-5
+unfolding placeInRange
+returns-5 c = rw (sym (c .before .before .before .before .before .before .before .before .before .before .number-in-range .ensures) ∙ not-false _ (c .before .before .before .before .before .before .before .before .before .if1 .left), sym (c .before .before .before .before .before .before .before .before .share-in-range .ensures) ∙ not-false _ (c .before .before .before .before .before .before .before .if2 .left), sym (c .before .before .before .before .before .before .ring-in-range .ensures) ∙ not-false _ (c .before .before .before .before .before .if3 .left), ← c .before .before .before .before .in-order .ensures, sym (c .before .before .before .deficit-in-range .ensures) ∙ not-false _ (c .before .before .if4 .left), sym (c .before .free-is-zero .ensures) ∙ not-true _ (c .if5 .taken))
+
+unused-is-zero-requires : tie.Need-unused-is-zero-requires
+unused-is-zero-requires c κs = search needs
+
+returns-6 : tie.Need-returns-6
+unfolding placeInRange
+returns-6 c = rw (sym (c .before .before .before .before .before .before .before .before .before .before .before .number-in-range .ensures) ∙ not-false _ (c .before .before .before .before .before .before .before .before .before .before .if1 .left), sym (c .before .before .before .before .before .before .before .before .before .share-in-range .ensures) ∙ not-false _ (c .before .before .before .before .before .before .before .before .if2 .left), sym (c .before .before .before .before .before .before .before .ring-in-range .ensures) ∙ not-false _ (c .before .before .before .before .before .before .if3 .left), ← c .before .before .before .before .before .in-order .ensures, sym (c .before .before .before .before .deficit-in-range .ensures) ∙ not-false _ (c .before .before .before .if4 .left), sym (c .before .before .free-is-zero .ensures) ∙ not-false _ (c .before .if5 .left)) (c .unused-is-zero .ensures ∙ last-test _)
+
+pub place-in-range-spec : {M : Type 1} → statement M
+place-in-range-spec =
+    tie.close
+    (tie.spec
+    number-in-range-requires
+    returns
+    share-in-range-requires
+    returns-2
+    ring-in-range-requires
+    returns-3
+    in-order-requires
+    deficit-in-range-requires
+    returns-4
+    free-is-zero-requires
+    returns-5
+    unused-is-zero-requires
+    returns-6)
