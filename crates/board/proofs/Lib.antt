@@ -6,3 +6,4 @@ pub mod Reading
 pub mod Moves
 pub mod Sound
 pub mod ClassSets
+pub mod Fields

@@ -1,3 +1,4 @@
 pub mod With
+pub mod Memory
 pub mod Reading
 pub mod Laws

@@ -23,3 +23,12 @@ pub struct Board {
     pub slot: u8,
     pub left: Parts,
 }
+
+// The numbers of a board that serving changes.
+pub struct After {
+    pub clock: u64,
+    pub active: u32,
+    pub pending: u32,
+    pub slot: u8,
+    pub left: Parts,
+}

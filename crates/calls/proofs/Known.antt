@@ -18,10 +18,10 @@ use Rattle.board.proofs.Reading.{Fit, small}
 use Rattle.board.proofs.Sound.{fit-view}
 use Rattle.calls.specs.declared.Reply.{Reply}
 use Rattle.calls.specs.Promises.{Returned, returned, replied, written, Known, ruled}
-use Rattle.engine.specs.Steps.{takingOf, withTaking, blocksOf, RecordNeeds, Recording, recordedIn}
-use Rattle.engine.specs.Opening.{Renaming, renamedIn, withRenaming, Opening, openedIn, withOpening, Closing, closedIn, withClosing, CloseNeeds}
+use Rattle.taking.specs.Taking.{takingOf, withTaking, blocksOf, RecordNeeds, Recording, recordedIn}
+use Rattle.blocks.specs.Blocks.{Renaming, renamedIn, withRenaming, Opening, openedIn, withOpening, Closing, closedIn, withClosing, CloseNeeds}
 use Rattle.calls.proofs.Answers.{record-is, renamed-is, opened-is, closed-is}
-use Rattle.engine.proofs.Fields.{number-is, share-is, start-is}
+use Rattle.board.proofs.Fields.{number-is, share-is, start-is}
 
 -- ---- what the engine asks, of what is written for a board
 module _ (m : Board.Board) (f : Fit m) where

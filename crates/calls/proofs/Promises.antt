@@ -19,12 +19,13 @@ use Rattle.board.specs.Reading.{encode, view, Holds}
 use Rattle.board.proofs.Reading.{Fit, view-encode}
 use Rattle.board.proofs.Sound.{sound-encode, fit-view, holds-view}
 use Rattle.calls.specs.declared.Served.{Served}
-use Rattle.engine.specs.Serving.{engineOf, withEngine, Within, engineAfter, servedWithin, CanServe}
+use Rattle.board.specs.Memory.{engineOf, withEngine}
+use Rattle.serving.specs.Serving.{Within, engineAfter, servedWithin, CanServe}
 use Rattle.calls.specs.Promises.{Known}
 use Rattle.calls.specs.Contract.{notServed, goodServe, BurstOutcome, burstNow, burstBy, goodBurst}
-use Rattle.engine.proofs.Fields.{number-is}
-use Rattle.engine.proofs.Serves.{ByAnswer, serve-by, can-serve}
-use Rattle.engine.proofs.Within.{fit-serve, Stops, Goes, within-by}
+use Rattle.board.proofs.Fields.{number-is}
+use Rattle.serving.proofs.Serves.{ByAnswer, serve-by, can-serve}
+use Rattle.serving.proofs.Within.{fit-serve, Stops, Goes, within-by}
 
 -- the engine's answer on a value
 abbrev pub within : struct.Board → List ℕ → ℕ → ℕ → Within

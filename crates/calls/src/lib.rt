@@ -2,11 +2,12 @@
 ghost use mathlib.Core.Path.{_≡_};
 ghost use lib.ListN.{length, replicate};
 ghost use Rattle.rules.specs.Calls.{open!, rename!, close!, record! };
-ghost use Rattle.engine.specs.Serving.{withEngine, withinNow, engineAfter};
+ghost use Rattle.board.specs.Memory.{withEngine};
+ghost use Rattle.serving.specs.Serving.{withinNow, engineAfter};
 ghost use Rattle.calls.specs.Contract.{goodServe, burstNow, goodBurst, calledServe, calledBurst};
 ghost use Rattle.calls.specs.Promises.{called, earlyCode, returned, Known, ruled, made};
 use board::Board;
-use engine::Step;
+use serving::Step;
 use numbers::CLASSES;
 use numbers::GREATEST_LARGEST;
 use numbers::LEAST_LARGEST;
@@ -63,7 +64,7 @@ fn take_record(
     let mut heads = b.heads;
     let mut tails = b.tails;
     let mut ready = b.ready;
-    let took = engine::record_in(
+    let took = taking::record_in(
         block,
         id,
         length,
@@ -102,7 +103,7 @@ fn rename_block(ids: &[u32], lens: &[u16], old: u32, new: u32, b: Board) -> Repl
         ≡ ruled b (now (ids .entry)) (now (lens .entry)) (rename! old new) ⌝ }
 {
     let mut numbers = b.numbers;
-    let code = engine::rename_in(old, new, &mut numbers);
+    let code = blocks::rename_in(old, new, &mut numbers);
     let mut n = b;
     n.numbers = numbers;
     Reply {
@@ -121,7 +122,7 @@ fn open_block(ids: &[u32], lens: &[u16], block: u32, share: u32, b: Board) -> Re
     let held = b.held;
     let mut numbers = b.numbers;
     let mut shares = b.shares;
-    let code = engine::open_in(block, share, &mut numbers, &mut shares, &held);
+    let code = blocks::open_in(block, share, &mut numbers, &mut shares, &held);
     let mut n = b;
     n.numbers = numbers;
     n.shares = shares;
@@ -143,7 +144,7 @@ fn close_block(ids: &[u32], lens: &[u16], block: u32, b: Board) -> Reply
     let mut shares = b.shares;
     let mut starts = b.starts;
     let mut held = b.held;
-    let code = engine::close_in(
+    let code = blocks::close_in(
         block,
         b.active,
         &counts,
@@ -211,8 +212,8 @@ fn serve_board(ids: &[u32], lens: &[u16], b: Board) -> Served
     let mut tails = b.tails;
     let mut held = b.held;
     let left = b.left;
-    let s = engine::serve_within(
-        Bytes(engine::ANY_LENGTH),
+    let s = serving::serve_within(
+        Bytes(serving::ANY_LENGTH),
         1,
         b.clock,
         b.active,
@@ -289,7 +290,7 @@ fn burst_board(bytes: Bytes, list: &mut [u32], ids: &[u32], lens: &[u16], b: Boa
     let mut count: usize = 0;
     let mut total = Bytes(0);
     loop {
-        let s = engine::serve_within(
+        let s = serving::serve_within(
             Bytes(bytes.0 - total.0),
             list.len() - count,
             clock,
@@ -465,32 +466,32 @@ pub fn make(ids: &mut [u32], lens: &mut [u16], largest: u32) -> Reply
     if ids.len() != TABLE_ENTRIES {
         return Reply {
             code: codes::TABLE_LENGTH,
-            board: engine::blank(0),
+            board: blocks::blank(0),
         };
     }
     if lens.len() != TABLE_ENTRIES {
         return Reply {
             code: codes::TABLE_LENGTH,
-            board: engine::blank(0),
+            board: blocks::blank(0),
         };
     }
     if largest < LEAST_LARGEST {
         return Reply {
             code: codes::OUT_OF_RANGE,
-            board: engine::blank(0),
+            board: blocks::blank(0),
         };
     }
     if GREATEST_LARGEST < largest {
         return Reply {
             code: codes::OUT_OF_RANGE,
-            board: engine::blank(0),
+            board: blocks::blank(0),
         };
     }
     clear_ids(ids);
     clear_lens(lens);
     Reply {
         code: codes::DONE,
-        board: engine::blank(largest),
+        board: blocks::blank(largest),
     }
 }
 

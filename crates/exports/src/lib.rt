@@ -2,7 +2,7 @@
 // a log. Each promises what the call or the player below it promises, and asks nothing of a caller but what the types say.
 ghost use mathlib.Core.Path.{_≡_};
 ghost use Rattle.rules.specs.Calls.{record! };
-ghost use Rattle.engine.specs.Serving.{numbersNow};
+ghost use Rattle.board.specs.Memory.{numbersNow};
 ghost use Rattle.calls.specs.Contract.{burstNow, calledServe, calledBurst};
 ghost use Rattle.calls.specs.Promises.{called, returned, replied};
 ghost use Rattle.player.specs.Fields.{boardNow};

@@ -25,11 +25,12 @@ use Rattle.log.specs.declared.Event.the-variants.{Largest, Open, Close, Rename,
 use Rattle.log.specs.Format.{inTurn}
 use Rattle.lines.specs.Text.{Line}
 use Rattle.lines.specs.Listing.{openLine, closeLine, nameLine, inLine}
-use Rattle.engine.specs.Steps.{takingOf, withTaking, blocksOf, Recording, recordedIn}
-use Rattle.engine.specs.Opening.{Renaming, renamedIn, withRenaming, Opening, openedIn, withOpening, Closing, closedIn, withClosing}
-use Rattle.engine.specs.Serving.{engineOf, withEngine, Within, engineAfter}
-use Rattle.engine.proofs.Fields.{number-is}
-use Rattle.engine.proofs.Within.{fit-serve, Stops, Goes}
+use Rattle.taking.specs.Taking.{takingOf, withTaking, blocksOf, Recording, recordedIn}
+use Rattle.blocks.specs.Blocks.{Renaming, renamedIn, withRenaming, Opening, openedIn, withOpening, Closing, closedIn, withClosing}
+use Rattle.board.specs.Memory.{engineOf, withEngine}
+use Rattle.serving.specs.Serving.{Within, engineAfter}
+use Rattle.board.proofs.Fields.{number-is}
+use Rattle.serving.proofs.Within.{fit-serve, Stops, Goes}
 use Rattle.calls.specs.declared.Reply.{Reply}
 use Rattle.calls.specs.Promises.{Returned, returned, replied, Known, ruled}
 use Rattle.calls.specs.Contract.{goodServe}

@@ -9,7 +9,7 @@ use Rattle.board.specs.Reading.{view}
 use Rattle.log.specs.declared.Event.{Event}
 use Rattle.lines.specs.Text.{Line}
 use Rattle.lines.specs.Listing.{outLine, refusedLine}
-use Rattle.engine.specs.declared.After.{After}
+use Rattle.board.specs.declared.After.{After}
 use Rattle.calls.specs.Promises.{Known}
 use Rattle.plays.specs.Listing.{Playing, played, fieldLine}
 

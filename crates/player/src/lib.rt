@@ -6,8 +6,8 @@ ghost use lib.ListN.{length, getD, take};
 ghost use Rattle.log.specs.Format.{inTurn};
 ghost use Rattle.log.specs.declared.Event.the-variants.{Serve};
 ghost use Rattle.lines.specs.Text.{Line, Written};
-ghost use Rattle.engine.specs.Opening.{totalOf};
-ghost use Rattle.engine.specs.Serving.{numbersNow};
+ghost use Rattle.blocks.specs.Blocks.{totalOf};
+ghost use Rattle.board.specs.Memory.{numbersNow};
 ghost use Rattle.player.specs.Fields.{boardNow, memory, KnownMemory, FieldPlayed, shownLine};
 ghost use Rattle.player.specs.Pieces.{beforeFirst, pieceCode, CanGoOn, endedPiece, PieceDone, PieceOf};
 use board::Board;
@@ -22,7 +22,7 @@ use units::Bytes;
 use units::Parts;
 
 // The most bytes sent for each byte of a log that was read: a field has more than one, and sends one record at most.
-const SENT_PER_LOG_BYTE: usize = engine::ANY_LENGTH as usize;
+const SENT_PER_LOG_BYTE: usize = serving::ANY_LENGTH as usize;
 
 // What stands between two pieces of a listing: whether L has been read, the offset of the next field, the bytes sent so far, and the board.
 pub struct State {
@@ -100,8 +100,8 @@ fn play_serve(
     requires { ⌜ KnownMemory (memory (boardNow (now numbers) (now shares) (now starts) (now counts) (now deficits) (now ready) (now next) (now heads) (now tails) (now held) largest (numbersNow clock active pending slot (left .0))) (now ids) (now lens) (sent .0)) × (sent .0 < 2 ^ 63) ⌝ }
     ensures { λ r. ⌜ FieldPlayed (memory (boardNow (now (numbers .entry)) (now (shares .entry)) (now (starts .entry)) (now (counts .entry)) (now (deficits .entry)) (now (ready .entry)) (now (next .entry)) (now (heads .entry)) (now (tails .entry)) (now (held .entry)) largest (numbersNow clock active pending slot (left .0))) (now (ids .entry)) (now (lens .entry)) (sent .0)) Serve (memory (boardNow (now (numbers .entry)) (now (shares .entry)) (now (starts .exit)) (now (counts .exit)) (now (deficits .exit)) (now (ready .exit)) (now (next .exit)) (now (heads .exit)) (now (tails .exit)) (now (held .exit)) largest (numbersNow (r .clock) (r .active) (r .pending) (r .slot) (r .left .0))) (now (ids .entry)) (now (lens .entry)) (r .sent .0)) (now (line .entry)) (r .shown) (now (line .exit)) ⌝ }
 {
-    let s = engine::serve_within(
-        Bytes(engine::ANY_LENGTH),
+    let s = serving::serve_within(
+        Bytes(serving::ANY_LENGTH),
         1,
         clock,
         active,
@@ -165,19 +165,19 @@ fn play_field(
     let mut set = active;
     match event {
         Event::Open(block, share) => {
-            let code = engine::open_in(block, share, numbers, shares, held);
+            let code = blocks::open_in(block, share, numbers, shares, held);
             shown = lines::put_open(line, block, code);
         }
         Event::Close(block) => {
-            let code = engine::close_in(block, active, counts, numbers, shares, starts, held);
+            let code = blocks::close_in(block, active, counts, numbers, shares, starts, held);
             shown = lines::put_close(line, block, code);
         }
         Event::Rename(old, new) => {
-            let code = engine::rename_in(old, new, numbers);
+            let code = blocks::rename_in(old, new, numbers);
             shown = lines::put_name(line, old, new, code);
         }
         Event::Arrive(block, number, bytes) => {
-            let took = engine::record_in(
+            let took = taking::record_in(
                 block,
                 number,
                 bytes,
@@ -485,6 +485,6 @@ pub fn begin() -> State
         begun: false,
         at: 0,
         sent: Bytes(0),
-        board: engine::blank(0),
+        board: blocks::blank(0),
     }
 }

@@ -1,7 +1,7 @@
 use Rattle.calls.proofs.Promises.{can-known, sent-index, burstFrom, burst-start, burst-stop, burst-on, on-room, on-fits, on-known}
 use Rattle.calls.specs.Promises.{Known}
 use Rattle.calls.specs.Contract.{goodBurst}
-use Rattle.engine.specs.Serving.{engineNow, numbersNow, withEngine}
+use Rattle.board.specs.Memory.{engineNow, numbersNow, withEngine}
 use lib.ListN.{length, length-set}
 use borrow.Author.Needs.{needs, scaled-fits}
 use native.Mathlib.Omega.{arith}

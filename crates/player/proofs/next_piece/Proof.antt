@@ -5,7 +5,7 @@ use Prim.Native.Nat.{_-_}
 use native.Mathlib.Omega.{arith}
 use lib.ListN.{length}
 use Rattle.log.proofs.Fields.{whole-is, whole-next}
-use Rattle.engine.specs.Serving.{numbersNow}
+use Rattle.board.specs.Memory.{numbersNow}
 use Rattle.plays.specs.Listing.{listingFrom}
 use Rattle.player.specs.Fields.{boardNow, memory, reads}
 use Rattle.player.proofs.Pieces.{UnderWay, under-first, under-room, under-fits, under-small, under-next, under-last, under-more, end-listing, broken-listing, left-is, read-is}

@@ -1,6 +1,6 @@
 -- `player::sum_of` meets its contract. The sum up to an index. Assumes nothing.
-use Rattle.engine.proofs.Sums.{below-none, below-more}
-use Rattle.engine.specs.Opening.{totalOf}
+use Rattle.blocks.proofs.Sums.{below-none, below-more}
+use Rattle.blocks.specs.Blocks.{totalOf}
 use Rattle.base.specs.Sums.{below}
 use lib.ListN.{length, getD}
 use native.Mathlib.Omega.{arith}

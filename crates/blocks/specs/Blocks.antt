@@ -1,0 +1,89 @@
+-- WORKING DEFINITIONS: renaming, opening and closing, with their codes, on the board's lists.
+-- Theorems tie them to the rules; no promise of a call cites one.
+use mathlib.Core.Bool.{Bool, cond, not, _||_}
+use mathlib.Core.List.{List}
+use Prim.Native.Nat.{ℕ, _+_, _≤_}
+use lib.Dec.{ltb, eqb}
+use lib.ListN.{getD, set, length}
+use Rattle.base.specs.Sums.{below}
+use Rattle.units.specs.Classes.{classOf}
+use Rattle.board.specs.declared.Board.{Board}
+use Rattle.board.specs.With.{with-numbers, with-shares, with-starts, with-held}
+use Rattle.finding.specs.Finding.{foundIn, isUnknown}
+
+-- ---- RENAME
+
+pub record Renaming : Type 0 where
+  pub code : ℕ
+  pub numbers : List ℕ
+
+abbrev pub renaming : ℕ → List ℕ → Renaming
+renaming code numbers = record { code = code; numbers = numbers }
+
+unfoldable pub renamedIn : List ℕ → ℕ → ℕ → Renaming
+renamedIn numbers old new =
+    cond (eqb new 0) (renaming 4 numbers)
+    (cond (isUnknown numbers old) (renaming 6 numbers)
+    (cond (not (eqb (foundIn numbers new) 64)) (renaming 5 numbers)
+    (renaming 0 (set numbers (foundIn numbers old) new))))
+
+abbrev pub withRenaming : Board → Renaming → Board
+withRenaming b r = with-numbers b (r .numbers)
+
+-- ---- OPEN
+
+-- the sum of a list
+unfoldable pub totalOf : List ℕ → ℕ
+totalOf l = below (λ i. getD l i 0) (length l)
+
+pub record Opening : Type 0 where
+  pub code : ℕ
+  pub numbers : List ℕ
+  pub shares : List ℕ
+
+abbrev pub opening : ℕ → List ℕ → List ℕ → Opening
+opening code numbers shares = record { code = code; numbers = numbers; shares = shares }
+
+unfoldable pub openedIn : List ℕ → List ℕ → List ℕ → ℕ → ℕ → Opening
+openedIn numbers shares held n s =
+    let p = foundIn numbers 0 in
+    cond (eqb n 0 || (eqb s 0 || ltb 65536 s)) (opening 4 numbers shares)
+    (cond (not (eqb (foundIn numbers n) 64)) (opening 5 numbers shares)
+    (cond (eqb p 64) (opening 7 numbers shares)
+    (cond (ltb 65536 (totalOf shares + totalOf held + s)) (opening 8 numbers shares)
+    (opening 0 (set numbers p n) (set shares p s)))))
+
+abbrev pub withOpening : Board → Opening → Board
+withOpening b o = with-shares (with-numbers b (o .numbers)) (o .shares)
+
+-- ---- CLOSE
+
+pub record Closing : Type 0 where
+  pub code : ℕ
+  pub numbers : List ℕ
+  pub shares : List ℕ
+  pub starts : List ℕ
+  pub held : List ℕ
+
+abbrev pub closing : ℕ → List ℕ → List ℕ → List ℕ → List ℕ → Closing
+closing code numbers shares starts held = record { code = code; numbers = numbers; shares = shares; starts = starts; held = held }
+
+-- a share is held with its class's, unless no class is active
+unfoldable pub heldWith : ℕ → ℕ → List ℕ → List ℕ
+heldWith active share held = let k = classOf share in cond (eqb active 0) held (set held k (getD held k 0 + share))
+
+unfoldable pub closedIn : ℕ → List ℕ → List ℕ → List ℕ → List ℕ → List ℕ → ℕ → Closing
+closedIn active numbers shares starts counts held n =
+    let i = foundIn numbers n in
+    cond (isUnknown numbers n) (closing 6 numbers shares starts held)
+    (cond (ltb 0 (getD counts i 0)) (closing 10 numbers shares starts held)
+    (closing 0 (set numbers i 0) (set shares i 0) (set starts i 0) (heldWith active (getD shares i 0) held)))
+
+abbrev pub withClosing : Board → Closing → Board
+withClosing b c = with-held (with-starts (with-shares (with-numbers b (c .numbers)) (c .shares)) (c .starts)) (c .held)
+
+-- what must hold of the lists for any number: a place with a number has a share, and the sums fit
+pub record CloseNeeds (numbers shares held : List ℕ) : Type 0 where
+  pub low : (i : ℕ) → 1 ≤ getD numbers i 0 → 1 ≤ getD shares i 0
+  pub high : (i : ℕ) → getD shares i 0 ≤ 65536
+  pub most : (k : ℕ) → getD held k 0 ≤ 65536

@@ -1,0 +1,153 @@
+// Blocks: a fresh board, and a block that is renamed, opened or closed. Arrays are lent one by one, so that no board is copied.
+ghost use mathlib.Core.Path.{_≡_};
+ghost use Prim.Native.Nat.{ℕ, _+_, _-_, _*_, _^_, _<_, _≤_};
+ghost use lib.ListN.{length, getD};
+ghost use Rattle.rules.specs.Board.{fresh};
+ghost use Rattle.board.specs.Reading.{encode};
+ghost use Rattle.blocks.specs.Blocks.{renaming, renamedIn, totalOf, opening, openedIn, heldWith, closing, closedIn, CloseNeeds};
+use board::Board;
+use numbers::CLASSES;
+use numbers::GREATEST_SHARE;
+use numbers::NO_BLOCK;
+use numbers::NO_LINK;
+use numbers::NO_PLACE;
+use numbers::PLACES;
+use numbers::WHOLE_LINE;
+use numbers::codes;
+use units::Parts;
+
+// A block takes another number; the answer is the code.
+pub fn rename_in(old: u32, new: u32, numbers: &mut [u32; PLACES]) -> u8
+    ensures { λ r. ⌜ renaming r (now (numbers .exit)) ≡ renamedIn (now (numbers .entry)) old new ⌝ }
+{
+    if new == NO_BLOCK {
+        return codes::OUT_OF_RANGE;
+    }
+    if old == NO_BLOCK {
+        return codes::UNKNOWN_BLOCK;
+    }
+    let i = finding::find(numbers, old);
+    if i == NO_PLACE {
+        return codes::UNKNOWN_BLOCK;
+    }
+    if finding::find(numbers, new) != NO_PLACE {
+        return codes::NUMBER_IS_OPEN;
+    }
+    numbers[i] = new;
+    codes::DONE
+}
+
+// The sum of an array's numbers.
+fn total(shares: &[u32]) -> u64
+    requires { ⌜ length (now shares) ≤ 64 ⌝ }
+    ensures { λ r. ⌜ (r ≡ totalOf (now (shares .entry))) × (r ≤ 64 * 2 ^ 32) ⌝ }
+{
+    let mut sum: u64 = 0;
+    let mut i: usize = 0;
+    while i < shares.len() {
+        sum += shares[i] as u64;
+        i += 1;
+    }
+    sum
+}
+
+// A block opens at the lowest free place; the answer is the code.
+pub fn open_in(
+    block: u32,
+    share: u32,
+    numbers: &mut [u32; PLACES],
+    shares: &mut [u32; PLACES],
+    held: &[u32; CLASSES],
+) -> u8
+    ensures { λ r. ⌜ opening r (now (numbers .exit)) (now (shares .exit)) ≡ openedIn (now (numbers .entry)) (now (shares .entry)) (now (held .entry)) block share ⌝ }
+{
+    if finding::outside(block, share, GREATEST_SHARE) {
+        return codes::OUT_OF_RANGE;
+    }
+    if finding::find(numbers, block) != NO_PLACE {
+        return codes::NUMBER_IS_OPEN;
+    }
+    let i = finding::find(numbers, NO_BLOCK);
+    if i == NO_PLACE {
+        return codes::NO_FREE_PLACE;
+    }
+    if WHOLE_LINE < total(shares) + total(held) + share as u64 {
+        return codes::SHARE_NOT_FREE;
+    }
+    numbers[i] = block;
+    shares[i] = share;
+    codes::DONE
+}
+
+// A closed block's share is held with its class's, unless no class is active.
+fn hold_in(active: u32, share: u32, held: &mut [u32; CLASSES])
+    requires { ⌜ (1 ≤ share) × ((share ≤ 65536) × ((k : ℕ) → getD (now held) k 0 ≤ 65536)) ⌝ }
+    ensures { λ _. ⌜ now (held .exit) ≡ heldWith active share (now (held .entry)) ⌝ }
+{
+    if active == 0 {
+        return;
+    }
+    let k = units::class_of(share) as usize;
+    let sum = held[k] + share;
+    held[k] = sum;
+}
+
+// A block with an empty lane closes; the answer is the code.
+pub fn close_in(
+    block: u32,
+    active: u32,
+    counts: &[u8; PLACES],
+    numbers: &mut [u32; PLACES],
+    shares: &mut [u32; PLACES],
+    starts: &mut [u8; PLACES],
+    held: &mut [u32; CLASSES],
+) -> u8
+    requires { ⌜ CloseNeeds (now numbers) (now shares) (now held) ⌝ }
+    ensures { λ r. ⌜ closing r (now (numbers .exit)) (now (shares .exit)) (now (starts .exit)) (now (held .exit)) ≡ closedIn active (now (numbers .entry)) (now (shares .entry)) (now (starts .entry)) (now (counts .entry)) (now (held .entry)) block ⌝ }
+{
+    if block == NO_BLOCK {
+        return codes::UNKNOWN_BLOCK;
+    }
+    let i = finding::find(numbers, block);
+    if i == NO_PLACE {
+        return codes::UNKNOWN_BLOCK;
+    }
+    if 0 < counts[i] {
+        return codes::LANE_NOT_EMPTY;
+    }
+    hold_in(active, shares[i], held);
+    numbers[i] = NO_BLOCK;
+    shares[i] = 0;
+    starts[i] = 0;
+    codes::DONE
+}
+
+// The board of all zeros but for L.
+pub fn blank(largest: u32) -> Board
+    ensures { λ r. ⌜ r ≡ encode (fresh largest) ⌝ }
+{
+    let words = [0u32; PLACES];
+    let longs = [0u64; PLACES];
+    let bytes = [0u8; PLACES];
+    let links = [0u8; CLASSES];
+    let held = [0u32; CLASSES];
+    let none = Parts(0);
+    Board {
+        numbers: words,
+        shares: words,
+        deficits: longs,
+        starts: bytes,
+        counts: bytes,
+        ready: longs,
+        next: bytes,
+        heads: links,
+        tails: links,
+        held: held,
+        largest: largest,
+        clock: 0,
+        active: 0,
+        pending: 0,
+        slot: NO_LINK,
+        left: none,
+    }
+}

@@ -1,0 +1,4 @@
+pub mod Cases
+pub mod Sending
+pub mod Serves
+pub mod Within

@@ -1,0 +1,126 @@
+-- WORKING DEFINITIONS: the front record is sent, on the board's lists. Theorems tie them to the rules; no
+-- promise of a call cites one.
+use mathlib.Core.Path.{_≡_}
+use mathlib.Core.Bool.{cond}
+use mathlib.Core.List.{List}
+use Prim.Native.Nat.{ℕ, zero, suc, _+_, _-_, _*_, _/_, _%_, _^_, _≤_, _<_}
+use lib.Dec.{ltb, leb, eqb}
+use lib.ListN.{getD, set, length, replicate}
+use Rattle.bits.specs.Sets.{withBit, withoutBit, lowestBit}
+use Rattle.units.specs.Classes.{classOf, nextStart}
+use Rattle.units.specs.Credit.{charged, chargeOf, creditOf}
+use Rattle.board.specs.declared.Board.{Board}
+use Rattle.board.specs.declared.After.{After}
+use Rattle.board.specs.Memory.{Queues, queuesNow, Engine, engineNow, numbersNow}
+use Rattle.slots.specs.declared.Choice.{Choice}
+use Rattle.slots.specs.declared.Choice.the-variants.{Stop, Go}
+use Rattle.slots.specs.Slots.{choiceOf, CanChoose, CanBegin, opened, endedEmpty, endedWaiting}
+use Rattle.serving.specs.declared.Step.{Step}
+
+-- ---- The front record is sent
+
+-- the entry of the record at the front of a ring that starts there, and the start of the ring after a send
+unfoldable pub frontEntry : ℕ → ℕ → ℕ
+frontEntry place start = 32 * place + start
+
+unfoldable pub startAfter : ℕ → ℕ
+startAfter start = (start + 1) % 32
+
+unfoldable pub sentFrom : List ℕ → List ℕ → ℕ → Engine → Engine
+sentFrom shares lens place e =
+    let start = getD (e .starts) place 0 in
+    let count = getD (e .counts) place 0 - 1 in
+    let starts = set (e .starts) place (startAfter start) in
+    let counts = set (e .counts) place count in
+    let k = classOf (getD shares place 0) in
+    let rest = e .now .left .0 - chargeOf (getD lens (frontEntry place start) 0) in
+    let need = chargeOf (getD lens (frontEntry place (startAfter start)) 0) in
+    let empty = endedEmpty k (e .now .clock) (e .now .active) (e .now .pending) (e .queues .heads) (e .queues .held) in
+    let waiting = endedWaiting place k rest (e .now .clock) (e .now .active) (e .now .pending) (e .queues) in
+    cond (eqb count 0)
+    (engineNow starts counts (e .queues .deficits) (e .queues .ready) (e .queues .next) (e .queues .heads) (e .queues .tails) (empty .held) (empty .now))
+    (cond (leb need rest)
+    (record { starts = starts; counts = counts; queues = e .queues; now = numbersNow (e .now .clock) (e .now .active) (e .now .pending) (place + 1) rest })
+    (record { starts = starts; counts = counts; queues = waiting .queues; now = waiting .now }))
+
+pub record CanSend (shares lens : List ℕ) (place : ℕ) (e : Engine) : Type 0 where
+  pub inside : place < 64
+  pub table : length lens ≡ 2048
+  pub ring : getD (e .starts) place 0 < 32
+  pub some : 1 ≤ getD (e .counts) place 0
+  pub low : 1 ≤ getD shares place 0
+  pub high : getD shares place 0 ≤ 65536
+  pub tail : getD (e .queues .tails) (classOf (getD shares place 0)) 0 ≤ 64
+  pub time : e .now .clock < 2 ^ 62
+  pub fits : chargeOf (getD lens (frontEntry place (getD (e .starts) place 0)) 0) ≤ e .now .left .0
+
+unfoldable pub enacted : List ℕ → List ℕ → ℕ → ℕ → ℕ → Engine → Engine
+enacted shares lens largest place time e = sentFrom shares lens place (opened shares largest place time e)
+
+-- where no slot is open one can begin; and the slot that serves can send
+pub record CanEnact (shares lens : List ℕ) (largest place time : ℕ) (e : Engine) : Type 0 where
+  pub begins : e .now .slot ≡ 0 → CanBegin shares largest place (classOf (getD shares place 0)) (e .queues)
+  pub sends : CanSend shares lens place (opened shares largest place time e)
+
+-- ---- One record is served, within a number of bytes and the room of a list
+
+pub record Within : Type 0 where
+  pub step : Step
+  pub starts : List ℕ
+  pub counts : List ℕ
+  pub queues : Queues
+
+abbrev pub withinNow : Step → List ℕ → List ℕ → List ℕ → List ℕ → List ℕ → List ℕ → List ℕ → List ℕ → Within
+withinNow step starts counts deficits ready next heads tails held = record { step = step; starts = starts; counts = counts; queues = queuesNow deficits ready next heads tails held }
+
+-- the engine that it leaves
+abbrev pub engineAfter : Within → Engine
+engineAfter w =
+    record {
+      starts = w .starts;
+      counts = w .counts;
+      queues = w .queues;
+      now = record { clock = w .step .clock; active = w .step .active; pending = w .step .pending; slot = w .step .slot; left = w .step .left };
+    }
+
+-- nothing is served
+abbrev pub stayed : ℕ → After → Step
+stayed code now =
+    record { code = code; place = 0; entry = 0; bytes = record { 0 = 0 }; time = 0; clock = now .clock; active = now .active; pending = now .pending; slot = now .slot; left = now .left }
+
+-- a code, the place, the entry and the charge of the record sent, and the slot's clock; the rest is the engine's
+abbrev pub withinOf : ℕ → ℕ → ℕ → ℕ → ℕ → Engine → Within
+withinOf code place entry bytes time e =
+    record {
+      step = record {
+        code = code;
+        place = place;
+        entry = entry;
+        bytes = record { 0 = bytes };
+        time = time;
+        clock = e .now .clock;
+        active = e .now .active;
+        pending = e .now .pending;
+        slot = e .now .slot;
+        left = e .now .left;
+      };
+      starts = e .starts;
+      counts = e .counts;
+      queues = e .queues;
+    }
+
+-- codes 1 and 11 as chosen; 14 without room; 13 where the record exceeds the bytes
+abbrev pub servedBy : List ℕ → List ℕ → ℕ → ℕ → ℕ → Engine → Choice → Within
+servedBy shares lens largest bytes room e (Stop code) = withinOf code 0 0 0 0 e
+servedBy shares lens largest bytes room e (Go place time) =
+    let entry = frontEntry place (getD (e .starts) place 0) in
+    cond (eqb room 0) (withinOf 14 0 0 0 0 e)
+    (cond (ltb bytes (charged (getD lens entry 0))) (withinOf 13 0 0 0 0 e)
+    (withinOf 0 place entry (charged (getD lens entry 0)) time (enacted shares lens largest place time e)))
+
+unfoldable pub servedWithin : List ℕ → List ℕ → ℕ → ℕ → ℕ → Engine → Within
+servedWithin shares lens largest bytes room e = servedBy shares lens largest bytes room e (choiceOf e)
+
+pub record CanServe (shares lens : List ℕ) (largest : ℕ) (e : Engine) : Type 0 where
+  pub chooses : CanChoose (e .now .clock) (e .now .active) (e .now .pending) (e .now .slot) (e .queues .heads)
+  pub enacts : (place time : ℕ) → choiceOf e ≡ Go place time → CanEnact shares lens largest place time e

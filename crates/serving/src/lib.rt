@@ -1,0 +1,307 @@
+// Serving: the slot that serves sends its front record. Arrays are lent one by one, so that no board is copied.
+ghost use mathlib.Core.Path.{_≡_};
+ghost use Prim.Native.Nat.{_+_, _-_, _*_, _<_};
+ghost use lib.ListN.{getD};
+ghost use Rattle.units.specs.Classes.{classOf};
+ghost use Rattle.board.specs.Memory.{queuesNow, engineNow, numbersNow};
+ghost use Rattle.slots.specs.Slots.{beginningNow, CanBegin, openedSlot};
+ghost use Rattle.serving.specs.Serving.{frontEntry, startAfter, sentFrom, CanSend, enacted, CanEnact, stayed, withinNow, servedWithin, CanServe};
+use board::After;
+use numbers::CLASSES;
+use numbers::LANE_DEPTH;
+use numbers::LANE_ENTRIES;
+use numbers::NO_LINK;
+use numbers::PLACES;
+use numbers::codes;
+use slots::Begun;
+use slots::Choice;
+use units::Bytes;
+use units::Parts;
+
+// The code of one serve; the place and the table entry of the record sent, and the bytes charged for it; the slot's clock; and the numbers after it.
+pub struct Step {
+    pub code: u8,
+    pub place: usize,
+    pub entry: usize,
+    pub bytes: Bytes,
+    pub time: u64,
+    pub clock: u64,
+    pub active: u32,
+    pub pending: u32,
+    pub slot: u8,
+    pub left: Parts,
+}
+
+// The table entry of the record at the front of a ring that starts there.
+fn front_entry(place: usize, start: u8) -> usize
+    requires { ⌜ (place < 64) × (start < 32) ⌝ }
+    ensures { λ r. ⌜ r ≡ frontEntry place start ⌝ }
+{
+    LANE_ENTRIES * place + start as usize
+}
+
+// The start of the ring after a send.
+fn start_after(start: u8) -> u8
+    requires { ⌜ start < 32 ⌝ }
+    ensures { λ r. ⌜ r ≡ startAfter start ⌝ }
+{
+    (start + 1) % LANE_DEPTH
+}
+
+// The front record of the open slot's block is sent.
+fn send(
+    place: usize,
+    clock: u64,
+    active: u32,
+    pending: u32,
+    left: Parts,
+    shares: &[u32; PLACES],
+    starts: &mut [u8; PLACES],
+    counts: &mut [u8; PLACES],
+    deficits: &mut [u64; PLACES],
+    ready: &mut [u64; PLACES],
+    next: &mut [u8; PLACES],
+    heads: &mut [u8; CLASSES],
+    tails: &mut [u8; CLASSES],
+    held: &mut [u32; CLASSES],
+    lens: &[u16],
+) -> After
+    requires { ⌜ CanSend (now shares) (now lens) place (engineNow (now starts) (now counts) (now deficits) (now ready) (now next) (now heads) (now tails) (now held) (numbersNow clock active pending (place + 1) (left .0))) ⌝ }
+    ensures { λ r. ⌜ engineNow (now (starts .exit)) (now (counts .exit)) (now (deficits .exit)) (now (ready .exit)) (now (next .exit)) (now (heads .exit)) (now (tails .exit)) (now (held .exit)) r ≡ sentFrom (now (shares .entry)) (now (lens .entry)) place (engineNow (now (starts .entry)) (now (counts .entry)) (now (deficits .entry)) (now (ready .entry)) (now (next .entry)) (now (heads .entry)) (now (tails .entry)) (now (held .entry)) (numbersNow clock active pending (place + 1) (left .0))) ⌝ }
+{
+    let ring = starts[place];
+    let entry = front_entry(place, ring);
+    let charge = units::charge(Bytes(lens[entry] as u64));
+    let on = start_after(ring);
+    let count = counts[place] - 1;
+    starts[place] = on;
+    counts[place] = count;
+    let rest = Parts(left.0 - charge.0);
+    let k = units::class_of(shares[place]) as usize;
+    if count == 0 {
+        return slots::end_empty(k, clock, active, pending, heads, held);
+    }
+    let following = front_entry(place, on);
+    let need = units::charge(Bytes(lens[following] as u64));
+    if need.0 <= rest.0 {
+        return After {
+            clock: clock,
+            active: active,
+            pending: pending,
+            slot: (place + 1) as u8,
+            left: rest,
+        };
+    }
+    slots::end_waiting(
+        place,
+        k,
+        rest,
+        clock,
+        active,
+        pending,
+        deficits,
+        ready,
+        next,
+        heads,
+        tails,
+        held,
+    )
+}
+
+// The slot that serves: the open one, or one that begins.
+fn open_slot(
+    place: usize,
+    time: u64,
+    clock: u64,
+    pending: u32,
+    slot: u8,
+    left: Parts,
+    largest: u32,
+    shares: &[u32; PLACES],
+    deficits: &mut [u64; PLACES],
+    ready: &mut [u64; PLACES],
+    next: &mut [u8; PLACES],
+    heads: &mut [u8; CLASSES],
+    tails: &mut [u8; CLASSES],
+    held: &mut [u32; CLASSES],
+) -> Begun
+    requires { ⌜ (slot ≡ 0 → CanBegin (now shares) largest place (classOf (getD (now shares) place 0)) (queuesNow (now deficits) (now ready) (now next) (now heads) (now tails) (now held))) ⌝ }
+    ensures { λ r. ⌜ beginningNow r (queuesNow (now (deficits .exit)) (now (ready .exit)) (now (next .exit)) (now (heads .exit)) (now (tails .exit)) (now (held .exit))) ≡ openedSlot (now (shares .entry)) largest place time clock pending slot (left .0) (queuesNow (now (deficits .entry)) (now (ready .entry)) (now (next .entry)) (now (heads .entry)) (now (tails .entry)) (now (held .entry))) ⌝ }
+{
+    if slot != NO_LINK {
+        return Begun {
+            left: left,
+            pending: pending,
+        };
+    }
+    let k = units::class_of(shares[place]) as usize;
+    slots::begin(
+        place,
+        k,
+        time,
+        clock,
+        pending,
+        largest,
+        shares,
+        deficits,
+        ready,
+        next,
+        heads,
+        tails,
+        held,
+    )
+}
+
+// The slot that serves sends its front record.
+fn enact(
+    place: usize,
+    time: u64,
+    clock: u64,
+    active: u32,
+    pending: u32,
+    slot: u8,
+    left: Parts,
+    largest: u32,
+    shares: &[u32; PLACES],
+    starts: &mut [u8; PLACES],
+    counts: &mut [u8; PLACES],
+    deficits: &mut [u64; PLACES],
+    ready: &mut [u64; PLACES],
+    next: &mut [u8; PLACES],
+    heads: &mut [u8; CLASSES],
+    tails: &mut [u8; CLASSES],
+    held: &mut [u32; CLASSES],
+    lens: &[u16],
+) -> After
+    requires { ⌜ CanEnact (now shares) (now lens) largest place time (engineNow (now starts) (now counts) (now deficits) (now ready) (now next) (now heads) (now tails) (now held) (numbersNow clock active pending slot (left .0))) ⌝ }
+    ensures { λ r. ⌜ engineNow (now (starts .exit)) (now (counts .exit)) (now (deficits .exit)) (now (ready .exit)) (now (next .exit)) (now (heads .exit)) (now (tails .exit)) (now (held .exit)) r ≡ enacted (now (shares .entry)) (now (lens .entry)) largest place time (engineNow (now (starts .entry)) (now (counts .entry)) (now (deficits .entry)) (now (ready .entry)) (now (next .entry)) (now (heads .entry)) (now (tails .entry)) (now (held .entry)) (numbersNow clock active pending slot (left .0))) ⌝ }
+{
+    let begun = open_slot(
+        place,
+        time,
+        clock,
+        pending,
+        slot,
+        left,
+        largest,
+        shares,
+        deficits,
+        ready,
+        next,
+        heads,
+        tails,
+        held,
+    );
+    let parts = begun.left;
+    send(
+        place,
+        time,
+        active,
+        begun.pending,
+        parts,
+        shares,
+        starts,
+        counts,
+        deficits,
+        ready,
+        next,
+        heads,
+        tails,
+        held,
+        lens,
+    )
+}
+
+// More bytes than any record is charged.
+pub const ANY_LENGTH: u64 = 65536;
+
+// One record is served, if it is no longer than so many bytes and a list has room for it.
+pub fn serve_within(
+    bytes: Bytes,
+    room: usize,
+    clock: u64,
+    active: u32,
+    pending: u32,
+    slot: u8,
+    left: Parts,
+    largest: u32,
+    shares: &[u32; PLACES],
+    starts: &mut [u8; PLACES],
+    counts: &mut [u8; PLACES],
+    deficits: &mut [u64; PLACES],
+    ready: &mut [u64; PLACES],
+    next: &mut [u8; PLACES],
+    heads: &mut [u8; CLASSES],
+    tails: &mut [u8; CLASSES],
+    held: &mut [u32; CLASSES],
+    lens: &[u16],
+) -> Step
+    requires { ⌜ CanServe (now shares) (now lens) largest (engineNow (now starts) (now counts) (now deficits) (now ready) (now next) (now heads) (now tails) (now held) (numbersNow clock active pending slot (left .0))) ⌝ }
+    ensures { λ r. ⌜ withinNow r (now (starts .exit)) (now (counts .exit)) (now (deficits .exit)) (now (ready .exit)) (now (next .exit)) (now (heads .exit)) (now (tails .exit)) (now (held .exit)) ≡ servedWithin (now (shares .entry)) (now (lens .entry)) largest (bytes .0) room (engineNow (now (starts .entry)) (now (counts .entry)) (now (deficits .entry)) (now (ready .entry)) (now (next .entry)) (now (heads .entry)) (now (tails .entry)) (now (held .entry)) (numbersNow clock active pending slot (left .0))) ⌝ }
+{
+    let chosen = slots::choose(clock, active, pending, slot, heads);
+    match chosen {
+        Choice::Stop(code) => stay(code, clock, active, pending, slot, left),
+        Choice::Go(place, time) => {
+            if room == 0 {
+                return stay(codes::LIST_FULL, clock, active, pending, slot, left);
+            }
+            let entry = front_entry(place, starts[place]);
+            let charge = units::charged(Bytes(lens[entry] as u64));
+            if bytes.0 < charge.0 {
+                return stay(codes::OVER_BUDGET, clock, active, pending, slot, left);
+            }
+            let after = enact(
+                place,
+                time,
+                clock,
+                active,
+                pending,
+                slot,
+                left,
+                largest,
+                shares,
+                starts,
+                counts,
+                deficits,
+                ready,
+                next,
+                heads,
+                tails,
+                held,
+                lens,
+            );
+            let rest = after.left;
+            Step {
+                code: codes::DONE,
+                place: place,
+                entry: entry,
+                bytes: charge,
+                time: time,
+                clock: after.clock,
+                active: after.active,
+                pending: after.pending,
+                slot: after.slot,
+                left: rest,
+            }
+        }
+    }
+}
+
+// Nothing is served: a code, and the numbers as they were.
+fn stay(code: u8, clock: u64, active: u32, pending: u32, slot: u8, left: Parts) -> Step
+    ensures { λ r. ⌜ r ≡ stayed code (numbersNow clock active pending slot (left .0)) ⌝ }
+{
+    Step {
+        code: code,
+        place: 0,
+        entry: 0,
+        bytes: Bytes(0),
+        time: 0,
+        clock: clock,
+        active: active,
+        pending: pending,
+        slot: slot,
+        left: left,
+    }
+}

@@ -1,0 +1,90 @@
+use Rattle.slots.proofs.Cases.{set-bound}
+use Rattle.slots.specs.Slots.{Links, leftLinks, beganAt}
+use Rattle.rules.proofs.Shape.{most-pos}
+use Rattle.units.proofs.Credits.{credit-under, charge-small}
+use Rattle.units.proofs.Classes.{class-le}
+use lib.ListN.{getD}
+use native.Mathlib.Omega.{arith}
+use mathlib.Core.Path.{ap}
+use Prim.Native.Nat.{_<_}
+use borrow.Author.Needs.{needs}
+use Rattle.slots.proofs.begin.Statement.{statement}
+use Rattle.slots.proofs.begin.Tie as tie
+
+advance-requires : tie.Need-advance-requires
+advance-requires c κs = search needs
+
+leave-requires : tie.Need-leave-requires
+leave-requires c κs = (c .before .before .before .before .before .before .pre .inside, omega (arith, c .before .before .before .before .before .before .pre .class, class-le (getD (c .before .before .before .before .before .before .args .shares .now) (c .before .before .before .before .before .before .args .place) 0)))
+
+mul-ready : tie.Need-mul-ready
+mul-ready c = search needs
+
+element-write-ready : tie.Need-element-write-ready
+element-write-ready c = search needs
+
+still-pending-requires : tie.Need-still-pending-requires
+unfolding leftLinks
+still-pending-requires c κs = (omega (arith, c .before .before .before .before .before .before .before .before .before .pre .class, class-le (getD (c .before .before .before .before .before .before .before .before .before .args .shares .now) (c .before .before .before .before .before .before .before .before .before .args .place) 0)), rw (ap (λ (l : Links). l .heads) (c .before .before .leave .ensures)) (set-bound (c .before .before .before .before .before .before .before .before .before .args .heads .now) (c .before .before .before .before .before .before .before .before .before .args .k) _ 64 (c .before .before .before .before .before .before .before .before .before .pre .behind)))
+
+mul-credit : tie.Need-mul-credit
+mul-credit c = search needs
+
+element-copy-out-credit : tie.Need-element-copy-out-credit
+element-copy-out-credit c = search needs
+
+cast-credit : tie.Need-cast-credit
+cast-credit c = let h : c .before .before .before .before .before .before .before .before .before .before .before .args .k < 17 = omega (arith, c .before .before .before .before .before .before .before .before .before .before .before .pre .class, class-le (getD (c .before .before .before .before .before .before .before .before .before .before .before .args .shares .now) (c .before .before .before .before .before .before .before .before .before .before .before .args .place) 0)) in omega arith
+
+credit-requires : tie.Need-credit-requires
+credit-requires c κs = search needs
+
+mul-t25 : tie.Need-mul-t25
+mul-t25 c = search needs
+
+element-copy-out-t34 : tie.Need-element-copy-out-t34
+element-copy-out-t34 c = search needs
+
+add-t34 : tie.Need-add-t34
+add-t34 c =
+    let start = c .before .before .before .before .before .before .before .before .before .before .before .before .before .before .before in
+    let most = start .args .largest in
+    let share = getD (start .args .shares .now) (start .args .place) 0 in
+    let under = credit-under most share (start .pre .high) (most-pos most (start .pre .least)) in
+    omega (arith, under, charge-small most (start .pre .most), c .before .before .before .credit .ensures, start .pre .owed)
+
+mul-deficits : tie.Need-mul-deficits
+mul-deficits c = search needs
+
+element-write-deficits : tie.Need-element-write-deficits
+element-write-deficits c = search needs
+
+returns : tie.Need-returns
+unfolding beganAt
+returns c =
+    rw (
+      ← c .before .before .before .before .before .before .before .before .before .before .before .before .advance .ensures,
+      ← c .before .before .before .before .before .before .before .before .leave .ensures,
+      c .before .before .before .before .before .still-pending .ensures,
+      c .before .before .before .credit .ensures,
+    )
+
+pub begin-spec : {M : Type 1} → statement M
+begin-spec =
+    tie.close
+    (tie.spec
+    advance-requires
+    leave-requires
+    mul-ready
+    element-write-ready
+    still-pending-requires
+    mul-credit
+    element-copy-out-credit
+    cast-credit
+    credit-requires
+    mul-t25
+    element-copy-out-t34
+    add-t34
+    mul-deficits
+    element-write-deficits
+    returns)

@@ -1,0 +1,22 @@
+use borrow.Author.Tests.{eq-eqb, ne-eqb}
+use Rattle.slots.specs.Slots.{chosenClass}
+use borrow.Author.Needs.{needs}
+use Rattle.slots.proofs.chosen_class.Statement.{statement}
+use Rattle.slots.proofs.chosen_class.Tie as tie
+
+lowest-requires : tie.Need-lowest-requires
+lowest-requires c κs = search needs
+
+returns : tie.Need-returns
+unfolding chosenClass
+returns c = rw (eq-eqb _ _ (c .before .if1 .taken)) (c .lowest .ensures)
+
+lowest-requires-2 : tie.Need-lowest-requires-2
+lowest-requires-2 c κs = search needs
+
+returns-2 : tie.Need-returns-2
+unfolding chosenClass
+returns-2 c = rw (ne-eqb _ _ (c .before .if1 .left)) (c .lowest2 .ensures)
+
+pub chosen-class-spec : {M : Type 1} → statement M
+chosen-class-spec = tie.close (tie.spec lowest-requires returns lowest-requires-2 returns-2)

@@ -1,0 +1,36 @@
+use Rattle.slots.specs.Slots.{endedEmpty}
+use borrow.Author.Tests.{eq-eqb, ne-eqb}
+use mathlib.Core.Logic.{⊎-elim}
+use borrow.Author.Needs.{needs}
+use Rattle.slots.proofs.end_empty.Statement.{statement}
+use Rattle.slots.proofs.end_empty.Tie as tie
+
+add-advance : tie.Need-add-advance
+add-advance c = search needs
+
+advance-requires : tie.Need-advance-requires
+advance-requires c κs = search needs
+
+still-active-requires : tie.Need-still-active-requires
+still-active-requires c κs = search needs
+
+clear-held-requires : tie.Need-clear-held-requires
+clear-held-requires c κs = search needs
+
+add-t9 : tie.Need-add-t9
+add-t9 c = search needs
+
+returns : tie.Need-returns
+unfolding endedEmpty
+returns c = ⊎-elim (λ w. rw (w .3, w .2 .ensures, ← c .before .before .advance .ensures, ← c .before .still-active .ensures, eq-eqb _ _ (w .0 .taken))) (λ w. rw (w .1, ← c .before .before .advance .ensures, ← c .before .still-active .ensures, ne-eqb _ _ (w .0 .left))) (c .if1 .came)
+
+pub end-empty-spec : {M : Type 1} → statement M
+end-empty-spec =
+    tie.close
+    (tie.spec
+    add-advance
+    advance-requires
+    still-active-requires
+    clear-held-requires
+    add-t9
+    returns)

@@ -1,0 +1,59 @@
+use Prim.Native.Nat.{_≤_}
+use native.Mathlib.Omega.{arith}
+use borrow.Author.Tests.{eq-eqb, ne-eqb}
+use Rattle.units.proofs.Classes.{class-le}
+use Rattle.taking.specs.Taking.{takenAt}
+use borrow.Author.Needs.{needs}
+use Rattle.taking.proofs.take_in.Statement.{statement}
+use Rattle.taking.proofs.take_in.Tie as tie
+
+element-copy-out-count : tie.Need-element-copy-out-count
+element-copy-out-count c = search needs
+
+add-counts : tie.Need-add-counts
+add-counts c = search needs
+
+element-write-counts : tie.Need-element-write-counts
+element-write-counts c = search needs
+
+returns : tie.Need-returns
+unfolding takenAt
+returns c = rw (ne-eqb _ _ (c .if1 .taken))
+
+mul-class-of : tie.Need-mul-class-of
+mul-class-of c = search needs
+
+element-copy-out-class-of : tie.Need-element-copy-out-class-of
+element-copy-out-class-of c = search needs
+
+class-of-requires : tie.Need-class-of-requires
+class-of-requires c κs = search needs
+
+next-start-requires : tie.Need-next-start-requires
+next-start-requires c κs = (rw (c .class-of .ensures) (class-le _), c .before .before .before .before .pre .time)
+
+cast-join-in : tie.Need-cast-join-in
+cast-join-in c = search needs
+
+join-in-requires : tie.Need-join-in-requires
+join-in-requires c κs = let h : c .before .before .before .before .before .class-of .result ≤ 16 = rw (c .before .before .before .before .before .class-of .ensures) (class-le _) in (c .before .before .before .before .before .before .before .before .before .pre .place, (omega arith, c .before .before .before .before .before .before .before .before .before .pre .last _ (omega arith)))
+
+returns-2 : tie.Need-returns-2
+unfolding takenAt
+returns-2 c = rw (eq-eqb _ _ (c .before .before .before .before .before .before .before .before .if1 .left), c .join-in .ensures, c .before .before .before .before .before .next-start .ensures, c .before .before .before .before .before .before .class-of .ensures)
+
+pub take-in-spec : {M : Type 1} → statement M
+take-in-spec =
+    tie.close
+    (tie.spec
+    element-copy-out-count
+    add-counts
+    element-write-counts
+    returns
+    mul-class-of
+    element-copy-out-class-of
+    class-of-requires
+    next-start-requires
+    cast-join-in
+    join-in-requires
+    returns-2)

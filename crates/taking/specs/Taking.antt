@@ -1,0 +1,121 @@
+-- WORKING DEFINITIONS: joining an order and taking a record, on the board's lists. Theorems tie them to the rules; no
+-- promise of a call cites one.
+use mathlib.Core.Bool.{cond, _||_}
+use mathlib.Core.Path.{_≡_}
+use mathlib.Core.List.{List}
+use Prim.Native.Nat.{ℕ, _+_, _-_, _*_, _%_, _^_, _≤_, _<_}
+use lib.Dec.{ltb, leb, eqb}
+use lib.ListN.{getD, set, length}
+use Rattle.bits.specs.Sets.{withBit}
+use Rattle.units.specs.Classes.{classOf, nextStart}
+use Rattle.board.specs.declared.Board.{Board}
+use Rattle.finding.specs.Finding.{foundIn}
+use Rattle.board.specs.With.{with-next, with-heads, with-tails, with-ready, with-active, with-counts}
+
+-- ---- JOINING
+
+-- the part of a board that joining an order changes
+pub record Orders : Type 0 where
+  pub next : List ℕ
+  pub heads : List ℕ
+  pub tails : List ℕ
+  pub ready : List ℕ
+  pub active : ℕ
+
+abbrev pub ordersNow : List ℕ → List ℕ → List ℕ → List ℕ → ℕ → Orders
+ordersNow next heads tails ready active = record { next = next; heads = heads; tails = tails; ready = ready; active = active }
+
+unfoldable pub joinedOrders : Orders → ℕ → ℕ → ℕ → Orders
+joinedOrders o place k time =
+    let first = eqb (getD (o .tails) k 0) 0 in
+    record {
+      next = set (cond first (o .next) (set (o .next) (getD (o .tails) k 0 - 1) (place + 1))) place 0;
+      heads = cond first (set (o .heads) k (place + 1)) (o .heads);
+      tails = set (o .tails) k (place + 1);
+      ready = set (o .ready) place time;
+      active = withBit (o .active) k;
+    }
+
+abbrev pub ordersOf : Board → Orders
+ordersOf b = ordersNow (b .next) (b .heads) (b .tails) (b .ready) (b .active)
+
+abbrev pub withOrders : Board → Orders → Board
+withOrders b o = with-active (with-ready (with-tails (with-heads (with-next b (o .next)) (o .heads)) (o .tails)) (o .ready)) (o .active)
+
+-- ---- TAKING
+
+-- the part that taking a record changes
+pub record Taking : Type 0 where
+  pub counts : List ℕ
+  pub orders : Orders
+
+abbrev pub taking : List ℕ → Orders → Taking
+taking counts orders = record { counts = counts; orders = orders }
+
+-- place i has one record more
+unfoldable pub takenAt : List ℕ → ℕ → ℕ → Taking → Taking
+takenAt shares clock i t =
+    let k = classOf (getD shares i 0) in
+    taking (set (t .counts) i (getD (t .counts) i 0 + 1)) (cond (eqb (getD (t .counts) i 0) 0) (joinedOrders (t .orders) i k (nextStart k clock)) (t .orders))
+
+abbrev pub takingOf : Board → Taking
+takingOf b = taking (b .counts) (ordersOf b)
+
+abbrev pub withTaking : Board → Taking → Board
+withTaking b t = withOrders (with-counts b (t .counts)) (t .orders)
+
+-- what the lists must have for a record to be taken at place i
+pub record TakeNeeds (shares counts tails : List ℕ) (clock i : ℕ) : Type 0 where
+  pub place : i < 64
+  pub room : getD counts i 0 < 32
+  pub low : 1 ≤ getD shares i 0
+  pub high : getD shares i 0 ≤ 65536
+  pub time : clock ≤ 2 ^ 62
+  pub last : (k : ℕ) → k < 17 → getD tails k 0 ≤ 64
+
+-- ---- A RECORD COMES, with its codes
+
+-- the lists that the call reads and leaves as they are
+pub record Blocks : Type 0 where
+  pub numbers : List ℕ
+  pub shares : List ℕ
+  pub starts : List ℕ
+
+abbrev pub blocks : List ℕ → List ℕ → List ℕ → Blocks
+blocks numbers shares starts = record { numbers = numbers; shares = shares; starts = starts }
+
+abbrev pub blocksOf : Board → Blocks
+blocksOf b = blocks (b .numbers) (b .shares) (b .starts)
+
+-- what must hold of the lists for any number: a place with a number has a share
+pub record RecordNeeds (x : Blocks) (tails : List ℕ) (clock : ℕ) (ids lens : List ℕ) : Type 0 where
+  pub low : (i : ℕ) → 1 ≤ getD (x .numbers) i 0 → 1 ≤ getD (x .shares) i 0
+  pub high : (i : ℕ) → getD (x .shares) i 0 ≤ 65536
+  pub ring : (i : ℕ) → getD (x .starts) i 0 < 32
+  pub time : clock ≤ 2 ^ 62
+  pub last : (k : ℕ) → k < 17 → getD tails k 0 ≤ 64
+  pub ids-all : length ids ≡ 2048
+  pub lens-all : length lens ≡ 2048
+
+-- what it leaves
+pub record Recording : Type 0 where
+  pub code : ℕ
+  pub taking : Taking
+  pub ids : List ℕ
+  pub lens : List ℕ
+
+abbrev pub recording : ℕ → Taking → List ℕ → List ℕ → Recording
+recording code t ids lens = record { code = code; taking = t; ids = ids; lens = lens }
+
+-- the entry behind the last record of place i
+unfoldable pub entryAt : List ℕ → List ℕ → ℕ → ℕ
+entryAt starts counts i = 32 * i + (getD starts i 0 + getD counts i 0) % 32
+
+unfoldable pub recordedIn : Blocks → ℕ → ℕ → ℕ → ℕ → ℕ → Taking → List ℕ → List ℕ → Recording
+recordedIn x largest clock number id len t ids lens =
+    let i = foundIn (x .numbers) number in
+    let e = entryAt (x .starts) (t .counts) i in
+    cond (eqb number 0 || (eqb len 0 || ltb largest len)) (recording 4 t ids lens)
+    (cond (eqb i 64) (recording 6 t ids lens)
+    (cond (leb 32 (getD (t .counts) i 0)) (recording 9 t ids lens)
+    (recording 0 (takenAt (x .shares) clock i t) (set ids e id) (set lens e len))))

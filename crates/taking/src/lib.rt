@@ -1,0 +1,124 @@
+// Taking a record: its place has one more, and where its lane was empty its block joins its class's order.
+ghost use mathlib.Core.Path.{_≡_};
+ghost use Prim.Native.Nat.{_+_, _-_, _*_, _<_, _≤_};
+ghost use lib.ListN.{length, getD, set};
+ghost use Rattle.taking.specs.Taking.{ordersNow, joinedOrders, taking, takenAt, TakeNeeds, blocks, RecordNeeds, recording, recordedIn};
+use numbers::CLASSES;
+use numbers::LANE_DEPTH;
+use numbers::LANE_ENTRIES;
+use numbers::NO_LINK;
+use numbers::NO_PLACE;
+use numbers::PLACES;
+use numbers::codes;
+
+// The block of a place joins the end of the order of class k; the answer is the set of active classes.
+pub fn join_in(
+    next: &mut [u8; PLACES],
+    heads: &mut [u8; CLASSES],
+    tails: &mut [u8; CLASSES],
+    ready: &mut [u64; PLACES],
+    active: u32,
+    place: usize,
+    k: usize,
+    time: u64,
+) -> u32
+    requires { ⌜ (place < 64) × ((k < 17) × (getD (now tails) k 0 ≤ 64)) ⌝ }
+    ensures { λ r. ⌜ ordersNow (now (next .exit)) (now (heads .exit)) (now (tails .exit)) (now (ready .exit)) r ≡ joinedOrders (ordersNow (now (next .entry)) (now (heads .entry)) (now (tails .entry)) (now (ready .entry)) active) place k time ⌝ }
+{
+    let link = (place + 1) as u8;
+    let last = tails[k];
+    if last == NO_LINK {
+        heads[k] = link;
+    } else {
+        let at = last as usize - 1;
+        next[at] = link;
+    }
+    tails[k] = link;
+    next[place] = NO_LINK;
+    ready[place] = time;
+    bits::with_bit(active, k as u32)
+}
+
+// Place i has one record more; where its lane was empty, its block joins its class's order, ready at the next start.
+fn take_in(
+    i: usize,
+    clock: u64,
+    active: u32,
+    shares: &[u32; PLACES],
+    counts: &mut [u8; PLACES],
+    next: &mut [u8; PLACES],
+    heads: &mut [u8; CLASSES],
+    tails: &mut [u8; CLASSES],
+    ready: &mut [u64; PLACES],
+) -> u32
+    requires { ⌜ TakeNeeds (now shares) (now counts) (now tails) clock i ⌝ }
+    ensures { λ r. ⌜ taking (now (counts .exit)) (ordersNow (now (next .exit)) (now (heads .exit)) (now (tails .exit)) (now (ready .exit)) r) ≡ takenAt (now (shares .entry)) clock i (taking (now (counts .entry)) (ordersNow (now (next .entry)) (now (heads .entry)) (now (tails .entry)) (now (ready .entry)) active)) ⌝ }
+{
+    let count = counts[i];
+    counts[i] = count + 1;
+    if count != 0 {
+        return active;
+    }
+    let k = units::class_of(shares[i]);
+    let time = units::next_start(clock, k);
+    join_in(next, heads, tails, ready, active, i, k as usize, time)
+}
+
+// What taking a record leaves besides the arrays: the code, and the set of active classes.
+pub struct Took {
+    pub code: u8,
+    pub active: u32,
+}
+
+// A record comes for the block with this number.
+pub fn record_in(
+    block: u32,
+    id: u32,
+    length: u16,
+    largest: u32,
+    clock: u64,
+    active: u32,
+    numbers: &[u32; PLACES],
+    shares: &[u32; PLACES],
+    starts: &[u8; PLACES],
+    counts: &mut [u8; PLACES],
+    next: &mut [u8; PLACES],
+    heads: &mut [u8; CLASSES],
+    tails: &mut [u8; CLASSES],
+    ready: &mut [u64; PLACES],
+    ids: &mut [u32],
+    lens: &mut [u16],
+) -> Took
+    requires { ⌜ RecordNeeds (blocks (now numbers) (now shares) (now starts)) (now tails) clock (now ids) (now lens) ⌝ }
+    ensures { λ r. ⌜ recording (r .code) (taking (now (counts .exit)) (ordersNow (now (next .exit)) (now (heads .exit)) (now (tails .exit)) (now (ready .exit)) (r .active))) (now (ids .exit)) (now (lens .exit)) ≡ recordedIn (blocks (now (numbers .entry)) (now (shares .entry)) (now (starts .entry))) largest clock block id length (taking (now (counts .entry)) (ordersNow (now (next .entry)) (now (heads .entry)) (now (tails .entry)) (now (ready .entry)) active)) (now (ids .entry)) (now (lens .entry)) ⌝ }
+{
+    if finding::outside(block, length as u32, largest) {
+        return Took {
+            code: codes::OUT_OF_RANGE,
+            active: active,
+        };
+    }
+    let i = finding::find(numbers, block);
+    if i == NO_PLACE {
+        return Took {
+            code: codes::UNKNOWN_BLOCK,
+            active: active,
+        };
+    }
+    let count = counts[i];
+    if LANE_DEPTH <= count {
+        return Took {
+            code: codes::LANE_FULL,
+            active: active,
+        };
+    }
+    let first = starts[i] as usize;
+    let at = LANE_ENTRIES * i + (first + count as usize) % LANE_ENTRIES;
+    ids[at] = id;
+    lens[at] = length;
+    let set = take_in(i, clock, active, shares, counts, next, heads, tails, ready);
+    Took {
+        code: codes::DONE,
+        active: set,
+    }
+}
