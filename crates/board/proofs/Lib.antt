@@ -7,3 +7,8 @@ pub mod Moves
 pub mod Sound
 pub mod ClassSets
 pub mod Fields
+pub mod Agrees
+pub mod Tables
+pub mod Bounds
+pub mod Fresh
+pub mod Next

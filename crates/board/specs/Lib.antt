@@ -1,4 +1,5 @@
 pub mod With
 pub mod Memory
 pub mod Reading
+pub mod Leaving
 pub mod Laws

@@ -32,3 +32,9 @@ pub struct After {
     pub slot: u8,
     pub left: Parts,
 }
+
+// What a call gives back: its code, and the board.
+pub struct Reply {
+    pub code: u8,
+    pub board: Board,
+}

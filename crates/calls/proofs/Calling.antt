@@ -1,32 +1,20 @@
 -- A call on any value: what comes before the rules' own codes, and that a value that passes is known to be good.
 use mathlib.Core.Path.{_≡_, refl, sym, ap, _∙_}
-use mathlib.Core.Bool.{Bool, true, false, cond, not, _&&_, true≢false}
+use mathlib.Core.Bool.{Bool, true, false, cond, _&&_}
 use mathlib.Core.List.{List}
 use Prim.Native.Nat.{ℕ}
-use native.Mathlib.Omega.{arith}
-use lib.Dec.{eqb}
 use lib.ListN.{length}
-use Rattle.base.proofs.Numbers.{eqb-true, eqb-no}
-use Rattle.base.proofs.Tests.{and-left, and-right}
-use Rattle.base.proofs.Decides.{decided-alike}
-use Rattle.rules.specs.Board.{tableLength}
+use Rattle.base.proofs.Numbers.{eqb-no}
 use Rattle.rules.specs.Spoilt.{unspoilt}
 use Rattle.rules.specs.Calls.{Single, serve!, step, Call, one, burst!, Outcome, wrongTables, refusedBy, byTables, done!, call}
 use Rattle.board.specs.declared.Board as struct
-use Rattle.board.specs.Reading.{view, Sized, isSpelt, isSound}
-use Rattle.board.proofs.Sound.{spelt-decides, is-sound-decides}
-use Rattle.spoilt.specs.Test.{soundTest}
-use Rattle.spoilt.proofs.Decided.{sound-decides}
+use Rattle.board.specs.Reading.{view, isSpelt, isSound}
+use Rattle.board.proofs.Sound.{spelt-decides}
 use Rattle.calls.specs.declared.Served.{Served}
 use Rattle.calls.specs.Contract.{notServed, servedBy, goodServe, BurstOutcome, burstNow, goodBurst, boardOr, calledServe, burstedBy, calledBurst}
-use Rattle.calls.specs.Promises.{returned, replied, idsAfter, lensAfter, written, Known, ruled, lent, called, earlyCode}
-
-pub right-tables : (n m : ℕ) → wrongTables n m ≡ false → (n ≡ tableLength) × (m ≡ tableLength)
-right-tables n m e = (eqb-true n tableLength (and-left (eqb n tableLength) (eqb m tableLength) (passed _ e)), eqb-true m tableLength (and-right (eqb n tableLength) (eqb m tableLength) (passed _ e)))
-  where
-    passed : (t : Bool) → not t ≡ false → t ≡ true
-    passed true f = refl
-    passed false f = absurd (true≢false f)
+use Rattle.board.specs.Leaving.{returned, replied, idsAfter, lensAfter, written, Known, ruled}
+use Rattle.calls.specs.Promises.{lent, called}
+use Rattle.spoilt.specs.Early.{earlyCode}
 
 abbrev first : Bool → Bool → ℕ
 first t u = cond t 3 (cond u 0 2)
@@ -82,34 +70,3 @@ module _ (b : struct.Board) (ids lens : List ℕ) (k : Known b ids lens) where
   unfolding calledBurst goodBurst
   burst-known bytes list r e = rw e (ap (λ (o : Outcome). returned (burstedBy b (o .answer) (o .board) (o .list)) (idsAfter (o .entries) ids) (lensAfter (o .entries) lens))
       (sym (call-known b ids lens (burst! bytes list) k)))
-
--- the computed test is the one of the promise
-pub test-is : (b : struct.Board) (ids lens : List ℕ) → Sized b → length ids ≡ tableLength → length lens ≡ tableLength → soundTest b ids lens ≡ isSound b ids lens
-test-is b ids lens z i l = decided-alike (sound-decides b ids lens z i l) (is-sound-decides b ids lens)
-
--- what is found by it, with tables of 2,048 entries
-pub early-by : (b : struct.Board) (ids lens : List ℕ) → Sized b → length ids ≡ tableLength → length lens ≡ tableLength → (t : Bool) → soundTest b ids lens ≡ t
-    → cond t 0 2 ≡ earlyCode b ids lens
-unfolding earlyCode
-early-by b ids lens z i l t e = rw (i, l, sym (test-is b ids lens z i l), e)
-
--- a code of 0 is found only of a value that is known to be good
-pub known-by : (b : struct.Board) (ids lens : List ℕ) → earlyCode b ids lens ≡ 0 → Known b ids lens
-unfolding earlyCode
-known-by b ids lens n = go (wrongTables (length ids) (length lens)) refl (isSound b ids lens) refl n
-  where
-    go : (t : Bool) → wrongTables (length ids) (length lens) ≡ t → (u : Bool) → isSound b ids lens ≡ u → first t u ≡ 0 → Known b ids lens
-    go true e u f k = absurd (omega arith)
-    go false e false f k = absurd (omega arith)
-    go false e true f k = record { sound = is-sound-decides b ids lens .yes f; ids-all = sizes .0; lens-all = sizes .1 }
-      where
-        sizes : (length ids ≡ tableLength) × (length lens ≡ tableLength)
-        sizes = right-tables (length ids) (length lens) e
-
--- and neither 3 nor 2 is found of such a value
-pub sound-known : (b : struct.Board) (ids lens : List ℕ) → Known b ids lens → isSound b ids lens ≡ true
-sound-known b ids lens k = is-sound-decides b ids lens .no (k .sound)
-
-pub early-none : (b : struct.Board) (ids lens : List ℕ) → Known b ids lens → earlyCode b ids lens ≡ 0
-unfolding earlyCode
-early-none b ids lens k = rw (k .ids-all, k .lens-all, sound-known b ids lens k)

@@ -1,5 +1,5 @@
--- Making: the tests of the tables' lengths and of L, and what a done and a refused making leave.
-use mathlib.Core.Path.{_≡_, refl, sym, _∙_}
+-- Making: what a done and a refused making leave.
+use mathlib.Core.Path.{_≡_, refl, _∙_}
 use mathlib.Core.Bool.{true≢false, Bool, true, false, not, _&&_}
 use mathlib.Core.Logic.{_≢_}
 use mathlib.Core.List.{List}
@@ -7,53 +7,15 @@ use Prim.Native.Nat.{ℕ, _≤_}
 use native.Mathlib.Omega.{arith}
 use lib.Dec.{eqb, leb}
 use lib.ListN.{length, replicate, length-replicate}
-use borrow.Author.Tests.{eq-eqb, ne-eqb}
-use Rattle.rules.specs.Board.{Place, freePlace, at, fresh}
+use Rattle.rules.specs.Board.{fresh}
 use Rattle.base.proofs.Numbers.{true-le, eqb-true}
 use Rattle.rules.specs.Calls.{makeBy, wrongTables, make}
-use Rattle.rules.proofs.Run.{all-free}
-use Rattle.rules.proofs.Frame.{seventeen-fresh}
-use Rattle.rules.proofs.Unspoilt.{tidy-fresh}
-use Rattle.board.specs.Reading.{encode, laneOf, view, Holds, Sound}
-use Rattle.board.proofs.Rings.{empty-lane}
-use Rattle.board.proofs.Reading.{view-encode, Fit}
-use Rattle.board.proofs.Sound.{sound-encode, fit-view}
-use Rattle.calls.specs.declared.Reply.{Reply}
-use Rattle.calls.specs.Promises.{Returned, written, returned, replied, Known, made}
-
--- ---- the tests
-
-pub ids-wrong : (ids lens : ℕ) → ids ≢ 2048 → wrongTables ids lens ≡ true
-ids-wrong ids lens h = rw (ne-eqb ids 2048 h)
-
-pub lens-wrong : (ids lens : ℕ) → lens ≢ 2048 → wrongTables ids lens ≡ true
-lens-wrong ids lens h = rw (ne-eqb lens 2048 h) (go (eqb ids 2048))
-  where
-    go : (t : Bool) → not (t && false) ≡ true
-    go true = refl
-    go false = refl
-
-pub none-wrong : (ids lens : ℕ) → ids ≡ 2048 → lens ≡ 2048 → wrongTables ids lens ≡ false
-none-wrong ids lens e f = rw (eq-eqb ids 2048 e, eq-eqb lens 2048 f)
-
--- ---- A DONE MAKING: clock 0, that L and no block; both tables are cleared, and the board is known to be good
-
-holds-fresh : (L : ℕ) (ids lens : List ℕ) → Holds (fresh L) ids lens
-unfolding fresh
-holds-fresh L ids lens i = at-free (at (fresh L) i) (all-free 64 i)
-  where
-    at-free : (x : Place) → x ≡ freePlace → x .lane ≡ laneOf ids lens i x (length (x .lane))
-    at-free x e = rw e (sym (empty-lane ids lens i freePlace))
-
-pub record Starts (r : Returned Reply) (L : ℕ) : Type 0 where
-  pub reads : view (r .reply .board) (r .ids) (r .lens) ≡ fresh L
-  pub good : Known (r .reply .board) (r .ids) (r .lens)
-
-starts : (L : ℕ) (ids lens : List ℕ) → 64 ≤ L → L ≤ 2048 → length ids ≡ 2048 → length lens ≡ 2048 → Starts (returned (replied 0 (encode (fresh L))) ids lens) L
-starts L ids lens lo hi a d = record { reads = view-encode (fresh L) ids lens fit (holds-fresh L ids lens); good = record { sound = sound-encode (fresh L) ids lens fit (holds-fresh L ids lens); ids-all = a; lens-all = d } }
-  where
-    fit : Fit (fresh L)
-    fit = record { tidy = tidy-fresh L lo hi; classes = seventeen-fresh L }
+use Rattle.board.specs.Reading.{encode, view, Sound}
+use Rattle.board.proofs.Fresh.{Starts, starts}
+use Rattle.board.proofs.Sound.{fit-view}
+use Rattle.board.specs.declared.Reply.{Reply}
+use Rattle.board.specs.Leaving.{Returned, written}
+use Rattle.calls.specs.Promises.{made}
 
 both : (s t : Bool) → not (s && t) ≡ false → (s ≡ true) × (t ≡ true)
 both true true e = (refl, refl)

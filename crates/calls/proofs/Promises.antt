@@ -17,61 +17,26 @@ use Rattle.rules.specs.Burst.{Burst, stopped, sentFirst, noRoom, withRoom, char
 use Rattle.board.specs.declared.Board as struct
 use Rattle.board.specs.Reading.{encode, view, Holds}
 use Rattle.board.proofs.Reading.{Fit, view-encode}
-use Rattle.board.proofs.Sound.{sound-encode, fit-view, holds-view}
 use Rattle.calls.specs.declared.Served.{Served}
 use Rattle.board.specs.Memory.{engineOf, withEngine}
-use Rattle.serving.specs.Serving.{Within, engineAfter, servedWithin, CanServe}
-use Rattle.calls.specs.Promises.{Known}
+use Rattle.serving.specs.Serving.{Within, engineAfter}
+use Rattle.board.specs.Leaving.{Known}
 use Rattle.calls.specs.Contract.{notServed, goodServe, BurstOutcome, burstNow, burstBy, goodBurst}
 use Rattle.board.proofs.Fields.{number-is}
-use Rattle.serving.proofs.Serves.{ByAnswer, serve-by, can-serve}
-use Rattle.serving.proofs.Within.{fit-serve, Stops, Goes, within-by}
-
--- the engine's answer on a value
-abbrev pub within : struct.Board → List ℕ → ℕ → ℕ → Within
-within b lens bytes room = servedWithin (b .shares) lens (b .largest) bytes room (engineOf b)
-
--- a board of the rules, written, is known to be good
-known-encode : (n : Board.Board) (ids lens : List ℕ) → Fit n → Holds n ids lens → length ids ≡ 2048 → length lens ≡ 2048 → Known (encode n) ids lens
-known-encode n ids lens fit holds a d = record { sound = sound-encode n ids lens fit holds; ids-all = a; lens-all = d }
+use Rattle.serving.proofs.Serves.{ByAnswer, serve-by}
+use Rattle.serving.proofs.Within.{fit-serve, Stops, Goes}
+use Rattle.serving.proofs.Known.{within, known-encode, spells, fit, holds, by-cases, after-is, known-next}
 
 module _ (b : struct.Board) (ids lens : List ℕ) (known : Known b ids lens) where
   abbrev m : Board.Board
   m = view b ids lens
-
-  pub spells : encode (view b ids lens) ≡ b
-  spells = known .sound .spells
-
-  fit : Fit (view b ids lens)
-  fit = fit-view b ids lens (known .sound)
-
-  holds : Holds (view b ids lens) ids lens
-  holds = holds-view b ids lens (known .sound)
-
-  -- what the engine asks
-  pub can-known : CanServe (b .shares) lens (b .largest) (engineOf b)
-  can-known = subst (λ (c : struct.Board). CanServe (c .shares) lens (c .largest) (engineOf c)) spells (can-serve m fit ids lens holds (known .lens-all))
-
-  pub by-cases : (bytes room : ℕ) (w : Within) → w ≡ within b lens bytes room → Stops m bytes room w ⊎ Goes m ids lens bytes room w
-  by-cases bytes room w e = subst (λ (x : Within). Stops m bytes room x ⊎ Goes m ids lens bytes room x) (ap (λ (c : struct.Board). within c lens bytes room) spells ∙ sym e) (within-by m fit ids lens holds bytes room)
-
-  pub after-is : (w : Within) → withEngine (encode m) (engineAfter w) ≡ encode (serve m .next) → withEngine b (engineAfter w) ≡ encode (serve m .next)
-  after-is w e = ap (λ (c : struct.Board). withEngine c (engineAfter w)) (sym spells) ∙ e
-
-  -- where a record is sent: its place, and its entry in both tables
-  pub sent-index : (bytes room : ℕ) (w : Within) → w ≡ within b lens bytes room → w .step .code ≡ 0 → (w .step .place < 64) × (w .step .entry < 2048)
-  sent-index bytes room w e z = go (by-cases bytes room w e)
-    where
-      go : Stops m bytes room w ⊎ Goes m ids lens bytes room w → (w .step .place < 64) × (w .step .entry < 2048)
-      go (inl s) = absurd (s .code z)
-      go (inr g) = (g .inside, g .entry)
 
   -- ---- A serve is one with room for a record and bytes for any
 
   module _ (bytes : ℕ) (enough : 65536 ≤ bytes) (w : Within) (w-is : w ≡ within b lens bytes 1) where
     pub serve-stops : w .step .code ≢ 0 → notServed b (w .step .code) ≡ goodServe b ids lens
     unfolding goodServe
-    serve-stops ne = go (by-cases bytes 1 w w-is)
+    serve-stops ne = go (by-cases b ids lens known bytes 1 w w-is)
       where
         go : Stops m bytes 1 w ⊎ Goes m ids lens bytes 1 w → notServed b (w .step .code) ≡ goodServe b ids lens
         go (inr g) = absurd (ne (g .code))
@@ -86,27 +51,24 @@ module _ (b : struct.Board) (ids lens : List ℕ) (known : Known b ids lens) whe
     pub serve-goes : w .step .code ≡ 0 → (n : struct.Board) → n ≡ withEngine b (engineAfter w)
         → record { code = 0; block = getD (b .numbers) (w .step .place) 0; number = getD ids (w .step .entry) 0; length = getD lens (w .step .entry) 0; clock = w .step .time; board = n } ≡ goodServe b ids lens
     unfolding goodServe
-    serve-goes z n n-is = go (by-cases bytes 1 w w-is)
+    serve-goes z n n-is = go (by-cases b ids lens known bytes 1 w w-is)
       where
         go : Stops m bytes 1 w ⊎ Goes m ids lens bytes 1 w
             → _≡_ {A = Served} (record { code = 0; block = getD (b .numbers) (w .step .place) 0; number = getD ids (w .step .entry) 0; length = getD lens (w .step .entry) 0; clock = w .step .time; board = n }) (goodServe b ids lens)
         go (inl s) = absurd (s .code z)
-        go (inr g) = rw (g .out) (λ j. record { code = 0; block = block j; number = g .number-is j; length = g .bytes-is j; clock = w .step .time; board = (n-is ∙ after-is w (g .next)) j })
+        go (inr g) = rw (g .out) (λ j. record { code = 0; block = block j; number = g .number-is j; length = g .bytes-is j; clock = w .step .time; board = (n-is ∙ after-is b ids lens known w (g .next)) j })
           where
             block : getD (b .numbers) (w .step .place) 0 ≡ at m (w .step .place) .number
-            block = ap (λ (c : struct.Board). getD (c .numbers) (w .step .place) 0) (sym spells) ∙ number-is m (w .step .place)
-
-  pub known-next : Holds (serve m .next) ids lens → Known (encode (serve m .next)) ids lens
-  known-next h = known-encode (serve m .next) ids lens (fit-serve m fit) h (known .ids-all) (known .lens-all)
+            block = ap (λ (c : struct.Board). getD (c .numbers) (w .step .place) 0) (sym (spells b ids lens known)) ∙ number-is m (w .step .place)
 
   -- AFTER A SERVE the board is not spoilt, and reads as the rules' next board
   pub serve-known : Known (goodServe b ids lens .board) ids lens × (view (goodServe b ids lens .board) ids lens ≡ serve m .next)
   unfolding goodServe ByAnswer
-  serve-known = go (serve m .out) refl (serve-by m fit ids lens holds)
+  serve-known = go (serve m .out) refl (serve-by m (fit b ids lens known) ids lens (holds b ids lens known))
     where
       go : (o : Out) → serve m .out ≡ o → ByAnswer m ids lens o (serve m .next) → Known (goodServe b ids lens .board) ids lens × (view (goodServe b ids lens .board) ids lens ≡ serve m .next)
       go (refused code) e w = rw e (known, sym (w .stays))
-      go (sent p r t) e w = rw e (known-next (w .holds), view-encode (serve m .next) ids lens (fit-serve m fit) (w .holds))
+      go (sent p r t) e w = rw e (known-next b ids lens known (w .holds), view-encode (serve m .next) ids lens (fit-serve m (fit b ids lens known)) (w .holds))
 
 -- ---- A burst under way: count records are sent, and total bytes; the rest is a burst of the rules
 abbrev then : ℕ → ℕ → List ℕ → Burst → BurstOutcome

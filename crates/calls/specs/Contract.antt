@@ -9,7 +9,8 @@ use Rattle.rules.specs.Burst.{Burst, burst}
 use Rattle.rules.specs.Calls.{serve!, one, burst!, Answer, gives, takes, sends, bursts, told, call}
 use Rattle.board.specs.declared.Board as struct
 use Rattle.board.specs.Reading.{encode, view}
-use Rattle.calls.specs.Promises.{Returned, returned, idsAfter, lensAfter, lent, spelt}
+use Rattle.board.specs.Leaving.{Returned, returned, idsAfter, lensAfter, spelt}
+use Rattle.calls.specs.Promises.{lent}
 use Rattle.calls.specs.declared.Served.{Served}
 use Rattle.calls.specs.declared.Bursted.{Bursted}
 

@@ -5,8 +5,11 @@ ghost use Rattle.rules.specs.Calls.{open!, rename!, close!, record! };
 ghost use Rattle.board.specs.Memory.{withEngine};
 ghost use Rattle.serving.specs.Serving.{withinNow, engineAfter};
 ghost use Rattle.calls.specs.Contract.{goodServe, burstNow, goodBurst, calledServe, calledBurst};
-ghost use Rattle.calls.specs.Promises.{called, earlyCode, returned, Known, ruled, made};
+ghost use Rattle.calls.specs.Promises.{called, made};
+ghost use Rattle.spoilt.specs.Early.{earlyCode};
+ghost use Rattle.board.specs.Leaving.{returned, Known, ruled};
 use board::Board;
+use board::Reply;
 use serving::Step;
 use numbers::CLASSES;
 use numbers::GREATEST_LARGEST;
@@ -15,12 +18,6 @@ use numbers::PLACES;
 use numbers::TABLE_ENTRIES;
 use numbers::codes;
 use units::Bytes;
-
-// What a call gives back: its code, and the board.
-pub struct Reply {
-    pub code: u8,
-    pub board: Board,
-}
 
 // The answer of a serve: its code; the block that is served, the number and the length of the record sent, and the slot's clock.
 pub struct Served {
@@ -347,31 +344,13 @@ fn burst_board(bytes: Bytes, list: &mut [u32], ids: &[u32], lens: &[u16], b: Boa
 
 // ---- The public calls
 
-// The code that comes before all others: TABLE_LENGTH, SPOILT, or DONE where the board is known to be good.
-pub fn early(ids: &[u32], lens: &[u16], b: Board) -> u8
-    ensures { λ r. ⌜
-        (r ≡ earlyCode b (now (ids .entry)) (now (lens .entry)))
-        × (r ≡ 0 → Known b (now (ids .entry)) (now (lens .entry))) ⌝ }
-{
-    if ids.len() != TABLE_ENTRIES {
-        return codes::TABLE_LENGTH;
-    }
-    if lens.len() != TABLE_ENTRIES {
-        return codes::TABLE_LENGTH;
-    }
-    if spoilt::sound(ids, lens, b) {
-        return codes::DONE;
-    }
-    codes::SPOILT
-}
-
 // A block opens with this number and share.
 pub fn open(ids: &[u32], lens: &[u16], block: u32, share: u32, b: Board) -> Reply
     ensures { λ r. ⌜
         returned r (now (ids .exit)) (now (lens .exit))
         ≡ called b (now (ids .entry)) (now (lens .entry)) (open! block share) ⌝ }
 {
-    let code = early(ids, lens, b);
+    let code = spoilt::early(ids, lens, b);
     if code != codes::DONE {
         return Reply {
             code: code,
@@ -387,7 +366,7 @@ pub fn rename(ids: &[u32], lens: &[u16], old: u32, new: u32, b: Board) -> Reply
         returned r (now (ids .exit)) (now (lens .exit))
         ≡ called b (now (ids .entry)) (now (lens .entry)) (rename! old new) ⌝ }
 {
-    let code = early(ids, lens, b);
+    let code = spoilt::early(ids, lens, b);
     if code != codes::DONE {
         return Reply {
             code: code,
@@ -403,7 +382,7 @@ pub fn close(ids: &[u32], lens: &[u16], block: u32, b: Board) -> Reply
         returned r (now (ids .exit)) (now (lens .exit))
         ≡ called b (now (ids .entry)) (now (lens .entry)) (close! block) ⌝ }
 {
-    let code = early(ids, lens, b);
+    let code = spoilt::early(ids, lens, b);
     if code != codes::DONE {
         return Reply {
             code: code,
@@ -426,7 +405,7 @@ pub fn record(
         returned r (now (ids .exit)) (now (lens .exit))
         ≡ called b (now (ids .entry)) (now (lens .entry)) (record! block (record { number = id; bytes = length })) ⌝ }
 {
-    let code = early(&ids[..], &lens[..], b);
+    let code = spoilt::early(&ids[..], &lens[..], b);
     if code != codes::DONE {
         return Reply {
             code: code,
@@ -501,7 +480,7 @@ pub fn serve(ids: &[u32], lens: &[u16], b: Board) -> Served
         returned r (now (ids .exit)) (now (lens .exit))
         ≡ calledServe b (now (ids .entry)) (now (lens .entry)) ⌝ }
 {
-    let code = early(ids, lens, b);
+    let code = spoilt::early(ids, lens, b);
     if code != codes::DONE {
         return Served {
             code: code,
@@ -521,7 +500,7 @@ pub fn burst(ids: &[u32], lens: &[u16], bytes: Bytes, list: &mut [u32], b: Board
         returned (burstNow r (now (list .exit))) (now (ids .exit)) (now (lens .exit))
         ≡ calledBurst b (now (ids .entry)) (now (lens .entry)) (bytes .0) (now (list .entry)) ⌝ }
 {
-    let code = early(ids, lens, b);
+    let code = spoilt::early(ids, lens, b);
     if code != codes::DONE {
         return Bursted {
             count: 0,

@@ -25,14 +25,16 @@ use Rattle.rules.specs.Promises.{InRange}
 use Rattle.rules.proofs.Shape.{Shape}
 use Rattle.rules.proofs.Promises.{run-is-row}
 use Rattle.board.proofs.Sound.{fit-view}
-use Rattle.calls.specs.declared.Reply.{Reply}
+use Rattle.board.specs.declared.Reply.{Reply}
 use Rattle.calls.specs.declared.Served.{Served}
-use Rattle.calls.specs.Promises.{Known, Returned, returned, ruled, made}
+use Rattle.board.specs.Leaving.{Known, Returned, returned, ruled}
+use Rattle.calls.specs.Promises.{made}
 use Rattle.calls.specs.Contract.{servedBy, goodServe, BurstOutcome, burstNow, goodBurst}
 use Rattle.chains.specs.Chains.{Holding, isRecord, replyTells, servedTells, burstTells, byReply, byServe, byBurst, Chain, stops, goes, Made, answersOf}
 use Rattle.chains.specs.Demands.{reads, KnownHolding, CallAgrees, IsRun, ChainIsRun, ChainOfRun}
-use Rattle.calls.proofs.Next.{Follows, call-follows}
-use Rattle.calls.proofs.Making.{Starts, made-starts}
+use Rattle.board.proofs.Next.{Follows, call-follows}
+use Rattle.board.proofs.Fresh.{Starts}
+use Rattle.calls.proofs.Making.{made-starts}
 use Rattle.calls.proofs.Calling
 use Rattle.calls.proofs.Calling.{called-known}
 use Rattle.calls.proofs.Promises

@@ -34,9 +34,10 @@ use Rattle.rules.proofs.Unspoilt.{tidy-play}
 use Rattle.board.specs.declared.Board as struct
 use Rattle.board.specs.Reading.{view, isSpelt}
 use Rattle.board.proofs.Sound.{spelt-decides, fit-view}
-use Rattle.calls.specs.Promises.{idsAfter, lensAfter, Known, lent, called, made}
+use Rattle.board.specs.Leaving.{idsAfter, lensAfter, Known}
+use Rattle.calls.specs.Promises.{lent, called, made}
 use Rattle.calls.specs.Contract.{servedBy, boardOr, goodBurst, burstedBy, calledServe, calledBurst}
-use Rattle.calls.proofs.Calling.{right-tables}
+use Rattle.board.proofs.Tables.{right-tables}
 use Rattle.calls.proofs.Promises.{burst-known}
 use Rattle.chains.specs.Codes.{Lines, last, line, ExactlyBelow, Exactly}
 use Rattle.chains.specs.Codes.{WrongTables, NoneWaits, SizeOutside, OverFree, BeginsLate, TooLate, ListFull, OverBytes}

@@ -29,8 +29,9 @@ use Rattle.rules.proofs.Names.{follows, has-find, has-lane, has-share}
 use Rattle.rules.proofs.Promises
 use Rattle.board.specs.declared.Board as struct
 use Rattle.board.specs.Reading.{view}
-use Rattle.calls.specs.declared.Reply.{Reply}
-use Rattle.calls.specs.Promises.{Returned, called, made}
+use Rattle.board.specs.declared.Reply.{Reply}
+use Rattle.board.specs.Leaving.{Returned}
+use Rattle.calls.specs.Promises.{called, made}
 use Rattle.calls.specs.declared.Served.{Served}
 use Rattle.calls.specs.Contract.{BurstOutcome, calledServe, calledBurst}
 use Rattle.chains.specs.Chains.{Holding, replyTells, servedTells, burstTells, Did, byReply, byServe, byBurst, Chain, stops, goes, Made}

@@ -20,10 +20,11 @@ use Rattle.rules.proofs.Promises
 use Rattle.board.specs.declared.Board as struct
 use Rattle.board.specs.Reading.{encode, view, Sound, isSpelt}
 use Rattle.board.proofs.Sound.{spelt-decides}
-use Rattle.calls.specs.declared.Reply.{Reply}
+use Rattle.board.specs.declared.Reply.{Reply}
 use Rattle.calls.specs.declared.Served.{Served}
 use Rattle.calls.specs.declared.Bursted.{Bursted}
-use Rattle.calls.specs.Promises.{Returned, returned, idsAfter, lensAfter, spelt, boardAfter, written, lent, called, made}
+use Rattle.board.specs.Leaving.{Returned, returned, idsAfter, lensAfter, spelt, boardAfter, written}
+use Rattle.calls.specs.Promises.{lent, called, made}
 use Rattle.calls.specs.Contract.{servedBy, boardOr, BurstOutcome, burstNow, burstedBy, calledServe, calledBurst}
 use Rattle.calls.proofs.Making.{refused-spoilt}
 use Rattle.chains.specs.Chains.{Holding, isRecord, replyTells, servedTells, Did, byReply, byServe}

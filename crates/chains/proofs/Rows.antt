@@ -19,7 +19,7 @@ use Rattle.rules.proofs.Tidy.{Tidy}
 use Rattle.rules.proofs.Promises.{run-is-row, burst-is-serves}
 use Rattle.board.proofs.Sound.{fit-view, sound-one}
 use Rattle.calls.specs.declared.Bursted.{Bursted}
-use Rattle.calls.specs.Promises.{Returned, returned}
+use Rattle.board.specs.Leaving.{Returned, returned}
 use Rattle.calls.specs.Contract.{BurstOutcome, burstNow, goodBurst, calledServe, calledBurst}
 use Rattle.calls.proofs.Calling
 use Rattle.chains.specs.Chains.{Holding, servedTells, burstTells, Did, byReply, byServe, byBurst, Chain, stops, goes, Made, answersOf}

@@ -8,10 +8,11 @@ use Rattle.rules.specs.Board
 use Rattle.rules.specs.Calls.{Single, open!, rename!, close!, record!, serve!, Call, one, burst!, Answer, gives, takes, sends, bursts, done! }
 use Rattle.rules.specs.Runs.{isServe, leaves}
 use Rattle.board.specs.declared.Board as struct
-use Rattle.calls.specs.declared.Reply.{Reply}
+use Rattle.board.specs.declared.Reply.{Reply}
 use Rattle.calls.specs.declared.Served.{Served}
 use Rattle.calls.specs.declared.Bursted.{Bursted}
-use Rattle.calls.specs.Promises.{returned, called, made}
+use Rattle.board.specs.Leaving.{returned}
+use Rattle.calls.specs.Promises.{called, made}
 use Rattle.calls.specs.Contract.{burstNow, calledServe, calledBurst}
 
 -- what the caller holds between two calls: the board and both tables

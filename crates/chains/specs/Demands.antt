@@ -22,8 +22,9 @@ use Rattle.rules.specs.Runs.{bytesAt, servesIn, Story, begins, goesOn, tells}
 use Rattle.rules.specs.Promises.{OfRun, Accounted, InRange, bound, serves}
 use Rattle.board.specs.Reading.{encode, view, Sound}
 use Rattle.calls.specs.declared.Bursted.{Bursted}
-use Rattle.calls.specs.declared.Reply.{Reply}
-use Rattle.calls.specs.Promises.{returned, made, Known}
+use Rattle.board.specs.declared.Reply.{Reply}
+use Rattle.board.specs.Leaving.{returned, Known}
+use Rattle.calls.specs.Promises.{made}
 use Rattle.calls.specs.Contract.{burstNow, calledBurst}
 use Rattle.chains.specs.Chains.{Holding, burstTells, Did, Chain, Made, answersOf}
 

@@ -5,7 +5,7 @@ use crate::output;
 use crate::steps;
 use crate::tables;
 use board::Board;
-use calls::Reply;
+use board::Reply;
 use numbers::TABLE_ENTRIES;
 use numbers::codes;
 use units::Bytes;

@@ -6,7 +6,8 @@ use Rattle.rules.specs.Calls.{Single}
 use Rattle.board.specs.declared.Board.{Board}
 use Rattle.calls.specs.declared.Served.{Served}
 use Rattle.calls.specs.declared.Bursted.{Bursted}
-use Rattle.calls.specs.Promises.{returned, replied, called}
+use Rattle.board.specs.Leaving.{returned, replied}
+use Rattle.calls.specs.Promises.{called}
 use Rattle.calls.specs.Contract.{burstNow, calledServe, calledBurst}
 
 pub record-lent : (code : ℕ) (b after back before : Board) (ids lens ids′ lens′ : List ℕ) (x : Single) → back ≡ after → returned (replied code after) ids′ lens′ ≡ called b ids lens x → b ≡ before → returned (replied code back) ids′ lens′ ≡ called before ids lens x

@@ -1,6 +1,6 @@
 -- The place of a number in the array of numbers is the place of the block that has it; the place of 0 is the lowest free one.
 use mathlib.Core.Path.{_≡_, refl, sym, ap, ap₂, _∙_}
-use mathlib.Core.Bool.{Bool, cond, _&&_, _||_, true≢false, false}
+use mathlib.Core.Bool.{Bool, true, false, cond, not, _&&_, _||_, true≢false}
 use mathlib.Core.Logic.{_⊎_, inl, inr, _≢_}
 use mathlib.Core.List.{List}
 use Prim.Native.Nat.{ℕ, zero, suc, _≤_, _<_}
@@ -10,16 +10,18 @@ use lib.Dec.{eqb, leb, ltb}
 use lib.ListN.{getD}
 use borrow.Author.Tests.{eq-eqb, ne-eqb}
 use Rattle.base.specs.Tests.{least}
-use Rattle.base.proofs.Numbers.{split, leb-yes, leb-no, eqb-true}
+use Rattle.base.proofs.Numbers.{split, leb-yes, leb-no, false-lt, eqb-true}
 use Rattle.base.proofs.Tests.{least-le, least-true}
 use Rattle.rules.specs.Board
 use Rattle.rules.specs.Board.{Place, freePlace, at}
-use Rattle.rules.specs.Choice.{whereIs}
+use Rattle.rules.specs.Choice.{whereIs, noneHas, someHas}
 use Rattle.rules.specs.Blocks.{freeAt}
-use Rattle.rules.proofs.Cases.{not-zero, or-left}
+use Rattle.rules.proofs.Cases.{not-zero, or-left, where-has}
+use Rattle.rules.proofs.Shape.{named-num}
 use Rattle.rules.proofs.Tidy.{Tidy}
 use Rattle.board.specs.Reading.{encode}
-use Rattle.finding.specs.Finding.{foundIn}
+use Rattle.finding.specs.Finding.{foundIn, isUnknown}
+use Rattle.board.proofs.Reading.{Fit}
 use Rattle.board.proofs.Fields.{number-is}
 
 found-le : (numbers : List ℕ) (n : ℕ) → foundIn numbers n ≤ 64
@@ -85,3 +87,46 @@ none-is n h = go (split 64 n)
     go : (64 ≤ n) ⊎ (n < 64) → eqb n 64 ≡ leb 64 n
     go (inl a) = eq-eqb n 64 (omega arith) ∙ sym (leb-yes 64 n a)
     go (inr a) = ne-eqb n 64 (λ e. omega arith) ∙ sym (leb-no 64 n a)
+
+-- ---- The tests on a number are the rules' tests
+module _ (m : Board.Board) (f : Fit m) where
+  g : Tidy m
+  g = f .tidy
+
+  pub where-le : (n : ℕ) → whereIs m n ≤ 64
+  unfolding whereIs
+  where-le n = least-le _ 64
+
+  pub free-le : freeAt m ≤ 64
+  unfolding freeAt
+  free-le = least-le _ 64
+
+  -- no open block has the number 0
+  open-named : (n : ℕ) → whereIs m n < 64 → n ≢ 0
+  open-named n h e =
+      let w = where-has m n h in
+      omega (arith, named-num (at m (whereIs m n)) (w .bought) (g .shape .placeOk (whereIs m n) .named), w .named, e)
+
+  pub unknown-is : (n : ℕ) → isUnknown (encode m .numbers) n ≡ noneHas m n
+  unknown-is n = go (eqb n 0) refl
+    where
+      nowhere : n ≡ 0 → (64 ≤ whereIs m n) ⊎ (whereIs m n < 64) → 64 ≤ whereIs m n
+      nowhere e (inl h) = h
+      nowhere e (inr h) = absurd (open-named n h e)
+
+      ne : eqb n 0 ≡ false → n ≢ 0
+      ne e q = true≢false (sym (eq-eqb n 0 q) ∙ e)
+
+      go : (t : Bool) → eqb n 0 ≡ t → t || eqb (foundIn (encode m .numbers) n) 64 ≡ leb 64 (whereIs m n)
+      go true e = sym (leb-yes 64 (whereIs m n) (nowhere (eqb-true n 0 e) (split 64 (whereIs m n))))
+      go false e = ap (λ (i : ℕ). eqb i 64) (where-is m g n (ne e)) ∙ none-is (whereIs m n) (where-le n)
+
+  pub found-is : (n : ℕ) → noneHas m n ≡ false → foundIn (encode m .numbers) n ≡ whereIs m n
+  found-is n e = where-is m g n (open-named n (false-lt 64 (whereIs m n) e))
+
+  pub taken-number : (n : ℕ) → n ≢ 0 → not (eqb (foundIn (encode m .numbers) n) 64) ≡ someHas m n
+  taken-number n ne = ap (λ (i : ℕ). not (eqb i 64)) (where-is m g n ne) ∙ ap not (none-is (whereIs m n) (where-le n)) ∙ go (split 64 (whereIs m n))
+    where
+      go : (64 ≤ whereIs m n) ⊎ (whereIs m n < 64) → not (leb 64 (whereIs m n)) ≡ leb (suc (whereIs m n)) 64
+      go (inl h) = rw (leb-yes 64 (whereIs m n) h) (sym (leb-no (suc (whereIs m n)) 64 (omega arith)))
+      go (inr h) = rw (leb-no 64 (whereIs m n) h) (sym (leb-yes (suc (whereIs m n)) 64 h))

@@ -31,12 +31,12 @@ use Rattle.board.specs.Memory.{engineOf, withEngine}
 use Rattle.serving.specs.Serving.{Within, engineAfter}
 use Rattle.board.proofs.Fields.{number-is}
 use Rattle.serving.proofs.Within.{fit-serve, Stops, Goes}
-use Rattle.calls.specs.declared.Reply.{Reply}
-use Rattle.calls.specs.Promises.{Returned, returned, replied, Known, ruled}
-use Rattle.calls.specs.Contract.{goodServe}
-use Rattle.calls.proofs.Known.{record-known, rename-known, open-known, close-known}
-use Rattle.calls.proofs.Next.{Follows, call-follows}
-use Rattle.calls.proofs.Promises.{within, spells, by-cases, after-is, known-next, serve-known}
+use Rattle.board.specs.declared.Reply.{Reply}
+use Rattle.board.specs.Leaving.{Returned, returned, replied, Known, ruled}
+use Rattle.taking.proofs.Answers.{record-known}
+use Rattle.blocks.proofs.Answers.{rename-known, open-known, close-known}
+use Rattle.board.proofs.Next.{Follows, call-follows}
+use Rattle.serving.proofs.Known.{within, spells, by-cases, after-is, known-next, refused-stays}
 use Rattle.plays.specs.Listing.{after, played, fieldLine, servedLine}
 use Rattle.player.specs.Fields.{Memory, memory, reads, KnownMemory, FieldPlayed, shownLine}
 
@@ -60,10 +60,6 @@ none-sent m t = call-cases m t (Sends m) (record {
 pub no-second : (l : ℕ) → inTurn (Largest l) true ≡ true → ⊥
 unfolding inTurn
 no-second l e = absurd (false≢true e)
-
-refused-board : (b : struct.Board) (ids lens : List ℕ) (code : ℕ) → serve (view b ids lens) .out ≡ refused code → goodServe b ids lens .board ≡ b
-unfolding goodServe
-refused-board b ids lens code e = rw e refl
 
 step-serve : (m : Board.Board) → step m serve! ≡ serve m
 unfolding step
@@ -135,7 +131,7 @@ module _ (s : Memory) (k : KnownMemory s) (before : List ℕ) (count : ℕ) (lin
     refusal : Stops m 65536 1 w → serve m .out ≡ refused (w .step .code) → ServeIs
     refusal x out! = record {
       good = subst (λ (c : struct.Board). Known c (s .ids) (s .lens)) (sym same) k;
-      next = ap (λ (c : struct.Board). view c (s .ids) (s .lens)) same ∙ subst (λ (c : struct.Board). view c (s .ids) (s .lens) ≡ serve m .next) (refused-board (s .board) (s .ids) (s .lens) (w .step .code) out!) (serve-known (s .board) (s .ids) (s .lens) k .1);
+      next = ap (λ (c : struct.Board). view c (s .ids) (s .lens)) same ∙ sym (refused-stays (s .board) (s .ids) (s .lens) k (w .step .code) out!);
       bytes = none ∙ rw out! refl;
       shows = rw (ne-eqb (w .step .code) 0 (x .code), out!) refl;
       small = omega (arith, none);

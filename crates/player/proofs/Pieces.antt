@@ -30,10 +30,15 @@ use Rattle.lines.specs.Listing.{endLine, brokenLine, longLine}
 use Rattle.lines.proofs.Texts.{none, then, from-front}
 use Rattle.blocks.specs.Blocks.{totalOf}
 use Rattle.blocks.proofs.Sums.{total-map}
-use Rattle.calls.specs.declared.Reply.{Reply}
-use Rattle.calls.specs.Promises.{Returned, returned, Known, earlyCode, made}
-use Rattle.calls.proofs.Calling.{right-tables, sound-known, early-none}
-use Rattle.calls.proofs.Making.{none-wrong, Starts, made-starts}
+use Rattle.board.specs.declared.Reply.{Reply}
+use Rattle.board.specs.Leaving.{Returned, returned, Known}
+use Rattle.spoilt.specs.Early.{earlyCode}
+use Rattle.calls.specs.Promises.{made}
+use Rattle.board.proofs.Tables.{right-tables}
+use Rattle.spoilt.proofs.Before.{sound-known, early-none}
+use Rattle.board.proofs.Tables.{none-wrong}
+use Rattle.board.proofs.Fresh.{Starts}
+use Rattle.calls.proofs.Making.{made-starts}
 use Rattle.plays.specs.Listing.{Playing, unmade, waiting, listingFrom, listingOf}
 use Rattle.plays.proofs.Listing.{listing-whole, listing-broken, listing-end, listing-long, listing-first}
 use Rattle.player.specs.declared.State.{State}

@@ -10,7 +10,7 @@ use Rattle.log.specs.declared.Event.{Event}
 use Rattle.lines.specs.Text.{Line}
 use Rattle.lines.specs.Listing.{outLine, refusedLine}
 use Rattle.board.specs.declared.After.{After}
-use Rattle.calls.specs.Promises.{Known}
+use Rattle.board.specs.Leaving.{Known}
 use Rattle.plays.specs.Listing.{Playing, played, fieldLine}
 
 -- the board whose arrays and numbers these are

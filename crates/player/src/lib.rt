@@ -297,7 +297,7 @@ fn unready(len: usize, ids: &[u32], lens: &[u16], s: State) -> u8
     if s.at < sent.0 as usize / SENT_PER_LOG_BYTE {
         return codes::SPOILT;
     }
-    calls::early(ids, lens, s.board)
+    spoilt::early(ids, lens, s.board)
 }
 
 // The last piece: what was written, and the listing is over.

@@ -8,3 +8,4 @@ pub mod Spelling
 pub mod Clauses
 pub mod Passing
 pub mod Decided
+pub mod Before

@@ -3,6 +3,8 @@ ghost use mathlib.Core.Path.{_≡_};
 ghost use Prim.Native.Nat.{ℕ, _<_};
 ghost use lib.ListN.{length};
 ghost use Rattle.spoilt.specs.Test.{tablesWhole, entryOf, lengthInRange, laneInRange, lanesInRange, slotOpen, slotInRange, orderRules, soundTest};
+ghost use Rattle.spoilt.specs.Early.{earlyCode};
+ghost use Rattle.board.specs.Leaving.{Known};
 ghost use Rattle.base.specs.Tests.{every};
 ghost use Rattle.spoilt_places.specs.Ranges.{placesInRange};
 use board::Board;
@@ -12,6 +14,7 @@ use numbers::LAST_LINK;
 use numbers::NO_LINK;
 use numbers::PLACES;
 use numbers::TABLE_ENTRIES;
+use numbers::codes;
 use units::Bytes;
 use units::Parts;
 
@@ -191,4 +194,22 @@ pub fn sound(ids: &[u32], lens: &[u16], b: Board) -> bool
         return false;
     }
     orders_sound(b)
+}
+
+// The code that comes before all others: TABLE_LENGTH, SPOILT, or DONE where the board is known to be good.
+pub fn early(ids: &[u32], lens: &[u16], b: Board) -> u8
+    ensures { λ r. ⌜
+        (r ≡ earlyCode b (now (ids .entry)) (now (lens .entry)))
+        × (r ≡ 0 → Known b (now (ids .entry)) (now (lens .entry))) ⌝ }
+{
+    if ids.len() != TABLE_ENTRIES {
+        return codes::TABLE_LENGTH;
+    }
+    if lens.len() != TABLE_ENTRIES {
+        return codes::TABLE_LENGTH;
+    }
+    if sound(ids, lens, b) {
+        return codes::DONE;
+    }
+    codes::SPOILT
 }

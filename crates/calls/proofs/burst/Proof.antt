@@ -5,7 +5,7 @@ use Rattle.calls.proofs.burst.Tie as tie
 use Rattle.calls.proofs.burst.Reads as reads
 use Rattle.calls.proofs.burst.Lts as lts
 use Rattle.calls.proofs.burst_board.Reads as burst-board-reads
-use Rattle.calls.proofs.early.Reads as early-reads
+use Rattle.spoilt.proofs.early.Reads as early-reads
 
 early-requires : tie.Need-early-requires
 early-requires c κs = search needs

@@ -1,5 +1,6 @@
-use Rattle.calls.proofs.Promises.{can-known, sent-index, burstFrom, burst-start, burst-stop, burst-on, on-room, on-fits, on-known}
-use Rattle.calls.specs.Promises.{Known}
+use Rattle.serving.proofs.Known.{can-known, sent-index}
+use Rattle.calls.proofs.Promises.{burstFrom, burst-start, burst-stop, burst-on, on-room, on-fits, on-known}
+use Rattle.board.specs.Leaving.{Known}
 use Rattle.calls.specs.Contract.{goodBurst}
 use Rattle.board.specs.Memory.{engineNow, numbersNow, withEngine}
 use lib.ListN.{length, length-set}

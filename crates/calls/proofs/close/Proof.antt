@@ -6,7 +6,7 @@ use Rattle.calls.proofs.close.Tie as tie
 use Rattle.calls.proofs.close.Reads as reads
 use Rattle.calls.proofs.close.Lts as lts
 use Rattle.calls.proofs.close_block.Reads as close-block-reads
-use Rattle.calls.proofs.early.Reads as early-reads
+use Rattle.spoilt.proofs.early.Reads as early-reads
 
 early-requires : tie.Need-early-requires
 early-requires c κs = search needs

@@ -1,4 +1,4 @@
-use Rattle.calls.proofs.Known.{close-needs, close-known}
+use Rattle.blocks.proofs.Answers.{close-needs, close-known}
 use Rattle.calls.proofs.close_block.Statement.{statement}
 use Rattle.calls.proofs.close_block.Tie as tie
 

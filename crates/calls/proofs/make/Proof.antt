@@ -1,4 +1,4 @@
-use Rattle.calls.proofs.Making.{ids-wrong, lens-wrong, none-wrong}
+use Rattle.board.proofs.Tables.{ids-wrong, lens-wrong, none-wrong}
 use Rattle.calls.specs.Promises.{made}
 use Rattle.rules.specs.Calls.{make}
 use borrow.Author.Tests.{lt-leb, le-leb}

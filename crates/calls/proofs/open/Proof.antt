@@ -5,7 +5,7 @@ use Rattle.calls.proofs.open.Statement.{statement}
 use Rattle.calls.proofs.open.Tie as tie
 use Rattle.calls.proofs.open.Reads as reads
 use Rattle.calls.proofs.open.Lts as lts
-use Rattle.calls.proofs.early.Reads as early-reads
+use Rattle.spoilt.proofs.early.Reads as early-reads
 use Rattle.calls.proofs.open_block.Reads as open-block-reads
 
 early-requires : tie.Need-early-requires

@@ -1,4 +1,4 @@
-use Rattle.calls.proofs.Known.{open-known}
+use Rattle.blocks.proofs.Answers.{open-known}
 use borrow.Author.Needs.{needs}
 use Rattle.calls.proofs.open_block.Statement.{statement}
 use Rattle.calls.proofs.open_block.Tie as tie

@@ -5,7 +5,7 @@ use Rattle.calls.proofs.record.Statement.{statement}
 use Rattle.calls.proofs.record.Tie as tie
 use Rattle.calls.proofs.record.Reads as reads
 use Rattle.calls.proofs.record.Lts as lts
-use Rattle.calls.proofs.early.Reads as early-reads
+use Rattle.spoilt.proofs.early.Reads as early-reads
 use Rattle.calls.proofs.take_record.Reads as take-record-reads
 
 early-requires : tie.Need-early-requires

@@ -5,7 +5,7 @@ use Rattle.calls.proofs.rename.Statement.{statement}
 use Rattle.calls.proofs.rename.Tie as tie
 use Rattle.calls.proofs.rename.Reads as reads
 use Rattle.calls.proofs.rename.Lts as lts
-use Rattle.calls.proofs.early.Reads as early-reads
+use Rattle.spoilt.proofs.early.Reads as early-reads
 use Rattle.calls.proofs.rename_block.Reads as rename-block-reads
 
 early-requires : tie.Need-early-requires

@@ -1,4 +1,4 @@
-use Rattle.calls.proofs.Known.{rename-known}
+use Rattle.blocks.proofs.Answers.{rename-known}
 use borrow.Author.Needs.{needs}
 use Rattle.calls.proofs.rename_block.Statement.{statement}
 use Rattle.calls.proofs.rename_block.Tie as tie

@@ -4,7 +4,7 @@ use Rattle.calls.proofs.serve.Statement.{statement}
 use Rattle.calls.proofs.serve.Tie as tie
 use Rattle.calls.proofs.serve.Reads as reads
 use Rattle.calls.proofs.serve.Lts as lts
-use Rattle.calls.proofs.early.Reads as early-reads
+use Rattle.spoilt.proofs.early.Reads as early-reads
 use Rattle.calls.proofs.serve_board.Reads as serve-board-reads
 
 early-requires : tie.Need-early-requires

@@ -1,4 +1,5 @@
-use Rattle.calls.proofs.Promises.{can-known, sent-index, serve-stops, serve-goes}
+use Rattle.serving.proofs.Known.{can-known, sent-index}
+use Rattle.calls.proofs.Promises.{serve-stops, serve-goes}
 use native.Mathlib.Omega.{arith}
 use borrow.Author.Needs.{needs}
 use Rattle.calls.proofs.serve_board.Statement.{statement}

@@ -1,4 +1,4 @@
-use Rattle.calls.proofs.Known.{record-needs, record-known}
+use Rattle.taking.proofs.Answers.{record-needs, record-known}
 use borrow.Author.Needs.{needs}
 use Rattle.calls.proofs.take_record.Statement.{statement}
 use Rattle.calls.proofs.take_record.Tie as tie

@@ -3,7 +3,8 @@ use native.Mathlib.Omega.{arith}
 use mathlib.Core.Path.{_≡_, subst, refl}
 use mathlib.Core.Bool.{true}
 use Rattle.log.specs.declared.Event.{Event}
-use Rattle.calls.proofs.Known.{record-needs, close-needs}
+use Rattle.taking.proofs.Answers.{record-needs}
+use Rattle.blocks.proofs.Answers.{close-needs}
 use Rattle.log.specs.Format.{inTurn}
 use Rattle.player.proofs.Fields.{open-plays, close-plays, rename-plays, record-plays, passed-plays, no-second}
 use borrow.Author.Needs.{needs}

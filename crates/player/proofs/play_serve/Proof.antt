@@ -2,7 +2,7 @@
 use Rattle.player.specs.Fields.{memory}
 use mathlib.Core.List.{[]}
 use native.Mathlib.Omega.{arith}
-use Rattle.calls.proofs.Promises.{can-known, sent-index}
+use Rattle.serving.proofs.Known.{can-known, sent-index}
 use Rattle.player.proofs.Fields.{serve-small, serve-plays}
 use Rattle.player.proofs.play_serve.Statement.{statement}
 use Rattle.player.proofs.play_serve.Tie as tie

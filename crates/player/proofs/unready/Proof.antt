@@ -1,5 +1,5 @@
 -- `player::unready` meets its contract. Test by test, in the order of the codes. Assumes nothing.
-use Rattle.calls.proofs.Making.{ids-wrong, lens-wrong}
+use Rattle.board.proofs.Tables.{ids-wrong, lens-wrong}
 use Rattle.player.specs.Pieces.{pieceCode}
 use borrow.Author.Tests.{lt-ltb, le-ltb, not-true, not-false}
 use mathlib.Core.Path.{refl, sym, _∙_}

@@ -20,14 +20,14 @@ use Rattle.rules.proofs.Cases.{refusal-not0, CallCases, call-cases}
 use Rattle.rules.proofs.Frame.{seventeen-step}
 use Rattle.rules.proofs.Orders.{pl}
 use Rattle.rules.proofs.TidyCalls.{tidy-step}
 use Rattle.board.specs.declared.Board as struct
 use Rattle.board.specs.Reading.{laneOf, encode, view, Holds}
 use Rattle.board.proofs.Rings.{lane-by, lane-put, lane-away, entry-apart, empty-lane}
 use Rattle.board.proofs.Reading.{Fit, view-encode}
 use Rattle.board.proofs.Sound.{sound-encode, fit-view, holds-view}
-use Rattle.calls.specs.declared.Reply.{Reply}
-use Rattle.calls.specs.Promises.{Returned, returned, NoSecondAnswer, replied, Known, ruled}
-use Rattle.calls.proofs.Answers.{turned}
+use Rattle.board.specs.declared.Reply.{Reply}
+use Rattle.board.specs.Leaving.{Returned, returned, NoSecondAnswer, replied, Known, ruled}
+use Rattle.board.proofs.Agrees.{turned}
 
 -- ---- THE TABLES HOLD THE LANES after it
 

@@ -3,14 +3,14 @@ use mathlib.Core.Bool.{true, false}
 use native.Mathlib.Omega.{arith}
 use borrow.Author.Tests.{eq-eqb, ne-eqb}
 use Rattle.board.specs.Reading.{Sized}
-use Rattle.calls.specs.Promises.{earlyCode}
-use Rattle.calls.proofs.Calling.{early-by, known-by}
+use Rattle.spoilt.specs.Early.{earlyCode}
+use Rattle.spoilt.proofs.Before.{early-by, known-by}
 use borrow.Author.Needs.{needs}
-use Rattle.calls.proofs.early.Statement.{statement}
-use Rattle.calls.proofs.early.Tie as tie
-use Rattle.calls.proofs.early.Reads as reads
-use Rattle.calls.proofs.early.Lts as lts
+use Rattle.spoilt.proofs.early.Statement.{statement}
+use Rattle.spoilt.proofs.early.Tie as tie
+use Rattle.spoilt.proofs.early.Reads as reads
+use Rattle.spoilt.proofs.early.Lts as lts
 use Rattle.spoilt.proofs.sound.Reads as sound-reads
 
 returns : tie.Need-returns
 unfolding earlyCode

@@ -1,0 +1,155 @@
+-- RENAME, OPEN AND CLOSE: codes and steps of the code are the rules' turns, with the tables; on a value that is known to
+-- be good what the code asks holds, and what it leaves is the promise.
+use mathlib.Core.Path.{_≡_, refl, sym, ap, ap₂, subst, _∙_}
+use mathlib.Core.Bool.{false, _||_, true≢false}
+use mathlib.Core.Logic.{_⊎_, inl, inr}
+use mathlib.Core.List.{List}
+use Prim.Native.Nat.{ℕ, suc, _+_, _-_, _≤_, _<_}
+use native.Mathlib.Omega.{arith}
+use lib.Dec.{eqb, leb, ltb}
+use lib.ListN.{length, getD, set}
+use borrow.Author.Tests.{eq-eqb}
+use Rattle.base.proofs.Numbers.{split, leb-yes, leb-no, false-lt}
+use Rattle.rules.specs.Board
+use Rattle.rules.specs.Board.{Place, freePlace, at, waits, out, spent}
+use Rattle.rules.specs.Spoilt.{isQueued}
+use Rattle.rules.specs.Choice.{Turn, whereIs, numberOutside, noneHas, someHas, goOn}
+use Rattle.rules.specs.Blocks.{opened, freeAt, shareOutside, allTaken, overFree, openBlock, renameBlock, closed, closeBlock}
+use Rattle.rules.specs.Calls.{open!, rename!, close!, step, one, done! }
+use Rattle.rules.proofs.Cases.{or-right, in-range, free-found, CanClose, can-close}
+use Rattle.rules.proofs.Calls.{in-places, empty-out}
+use Rattle.board.specs.declared.Board as struct
+use Rattle.board.specs.declared.Reply.{Reply}
+use Rattle.board.specs.Reading.{encode, view}
+use Rattle.board.specs.Leaving.{Returned, returned, replied, written, Known, ruled}
+use Rattle.board.proofs.Reading.{Fit}
+use Rattle.board.proofs.Sound.{fit-view}
+use Rattle.board.proofs.Fields.{share-is, count-at}
+use Rattle.board.proofs.Bounds.{bought, within, held-most}
+use Rattle.board.proofs.Agrees.{turned, agrees, by-spelling}
+use Rattle.finding.proofs.Finding.{not-zeroth, free-is, none-is, free-le, unknown-is, found-is, taken-number}
+use Rattle.blocks.specs.Blocks.{Renaming, renaming, renamedIn, withRenaming, totalOf, Opening, opening, openedIn, withOpening, heldWith, Closing, closing, closedIn, withClosing, CloseNeeds}
+use Rattle.blocks.proofs.Sums.{total-map, total-tab}
+use Rattle.blocks.proofs.Blocks.{rename-is, open-is, close-is, quiet-active}
+
+module _ (m : Board.Board) (f : Fit m) where
+  spent-is : totalOf (encode m .shares) + totalOf (encode m .held) ≡ spent m
+  unfolding encode spent
+  spent-is = ap₂ (λ (a c : ℕ). a + c) (total-map (λ (y : Place). y .share) (m .places)) (total-tab 17 (m .held))
+
+  room-is : (s : ℕ) → 1 ≤ s → ltb 65536 (totalOf (encode m .shares) + totalOf (encode m .held) + s) ≡ overFree m s
+  room-is s pos = ap (λ (n : ℕ). ltb 65536 (n + s)) spent-is ∙ go (split (65537 - spent m) s)
+    where
+      go : (65537 - spent m ≤ s) ⊎ (s < 65537 - spent m) → leb 65537 (spent m + s) ≡ leb (suc (65536 - spent m)) s
+      go (inl h) = leb-yes 65537 (spent m + s) (omega arith) ∙ sym (leb-yes (suc (65536 - spent m)) s (omega arith))
+      go (inr h) = leb-no 65537 (spent m + s) (omega arith) ∙ sym (leb-no (suc (65536 - spent m)) s (omega arith))
+
+  inside : (p : ℕ) → leb 64 p ≡ false → p < length (m .places)
+  inside p e = omega (arith, false-lt 64 p e, f .tidy .shape .all64)
+
+-- ---- RENAME
+module _ (m : Board.Board) (f : Fit m) (ids lens : List ℕ) (old new : ℕ) where
+  abbrev renamedTo : Renaming → Returned Reply
+  renamedTo x = returned (replied (x .code) (withRenaming (encode m) x)) ids lens
+
+  abbrev numbers : List ℕ
+  numbers = encode m .numbers
+
+  abbrev by-rename : Turn → Returned Reply
+  by-rename = turned (encode m) ids lens m (rename! old new)
+
+  pub renamed-is : renamedTo (renamedIn (encode m .numbers) old new) ≡ written (encode m) ids lens (done! m (one (rename! old new)))
+  unfolding renamedIn step renameBlock
+  renamed-is =
+      agrees renamedTo by-rename m _ (numberOutside new) 4 _ _ _ refl refl λ e4.
+      agrees renamedTo by-rename m _ (noneHas m old) 6 _ _ _ (unknown-is m f old) refl λ e6.
+      agrees renamedTo by-rename m _ (someHas m new) 5 _ _ _ (taken-number m f new (λ q. true≢false (sym (eq-eqb new 0 q) ∙ e4))) refl λ e5.
+      ap (λ (i : ℕ). renamedTo (renaming 0 (set numbers i new))) (found-is m f old e6)
+      ∙ ap (λ (c : struct.Board). returned (replied 0 c) ids lens) (rename-is m (f .tidy) (whereIs m old) (inside m f (whereIs m old) e6) new)
+
+-- ---- OPEN
+module _ (m : Board.Board) (f : Fit m) (ids lens : List ℕ) (n s : ℕ) where
+  abbrev openedTo : Opening → Returned Reply
+  openedTo x = returned (replied (x .code) (withOpening (encode m) x)) ids lens
+
+  abbrev openedAt : ℕ → Opening
+  openedAt i = opening 0 (set (encode m .numbers) i n) (set (encode m .shares) i s)
+
+  abbrev by-open : Turn → Returned Reply
+  by-open = turned (encode m) ids lens m (open! n s)
+
+  opened-at : leb 64 (freeAt m) ≡ false → withOpening (encode m) (openedAt (freeAt m)) ≡ encode (goOn m (freeAt m) (opened n s))
+  opened-at e = go (f .tidy .shape .placeOk p .named)
+    where
+      p : ℕ
+      p = freeAt m
+
+      go : (at m p ≡ freePlace) ⊎ ((1 ≤ at m p .number) × (1 ≤ at m p .share)) → withOpening (encode m) (openedAt p) ≡ encode (goOn m p (opened n s))
+      go (inl q) =
+          open-is m (f .tidy) p (inside m f p e) (ap (λ (y : Place). y .stand) q) (ap (λ (y : Place). length (y .lane)) q)
+          (ap (λ (y : Place). y .deficit) q) n s (ap (λ (y : Place). y .start) q)
+      go (inr h) = absurd (omega (arith, free-found m (false-lt 64 (freeAt m) e)))
+
+  pub opened-is : openedTo (openedIn (encode m .numbers) (encode m .shares) (encode m .held) n s) ≡ written (encode m) ids lens (done! m (one (open! n s)))
+  unfolding openedIn step openBlock
+  opened-is =
+      agrees openedTo by-open m _ (numberOutside n || shareOutside s) 4 _ _ _ refl refl λ e4.
+      agrees openedTo by-open m _ (someHas m n) 5 _ _ _ (taken-number m f n (not-zeroth n (shareOutside s) e4)) refl λ e5.
+      agrees openedTo by-open m _ (allTaken m) 7 _ _ _ (ap (λ (i : ℕ). eqb i 64) (free-is m (f .tidy)) ∙ none-is (freeAt m) (free-le m f)) refl λ e7.
+      agrees openedTo by-open m _ (overFree m s) 8 _ _ _ (room-is m f s (in-range s 65536 (or-right (numberOutside n) (shareOutside s) e4) .0)) refl λ e8.
+      ap (λ (i : ℕ). openedTo (openedAt i)) (free-is m (f .tidy)) ∙ ap (λ (c : struct.Board). returned (replied 0 c) ids lens) (opened-at e7)
+
+-- ---- CLOSE
+module _ (m : Board.Board) (f : Fit m) (ids lens : List ℕ) (n : ℕ) where
+  abbrev closedTo : Closing → Returned Reply
+  closedTo x = returned (replied (x .code) (withClosing (encode m) x)) ids lens
+
+  abbrev closedAt : ℕ → ℕ → Closing
+  closedAt i share = closing 0 (set (encode m .numbers) i 0) (set (encode m .shares) i 0) (set (encode m .starts) i 0) (heldWith (encode m .active) share (encode m .held))
+
+  abbrev by-close : Turn → Returned Reply
+  by-close = turned (encode m) ids lens m (close! n)
+
+  closed-at : CanClose m (whereIs m n) n → withClosing (encode m) (closedAt (whereIs m n) (at m (whereIs m n) .share)) ≡ encode (closed m (whereIs m n))
+  closed-at can =
+      let owed = f .tidy .shape .placeOk p .clear (ap (λ s. isQueued s) was) in
+      close-is m (f .tidy) p (in-places m (f .tidy .shape) p (can .has .inside)) was (can .empty) owed (quiet-active m (f .tidy))
+    where
+      p : ℕ
+      p = whereIs m n
+
+      was : at m (whereIs m n) .stand ≡ out
+      was = empty-out m (f .tidy .shape) (whereIs m n) (omega (arith, can .empty))
+
+  pub closed-is : closedTo (closedIn (encode m .active) (encode m .numbers) (encode m .shares) (encode m .starts) (encode m .counts) (encode m .held) n) ≡ written (encode m) ids lens (done! m (one (close! n)))
+  unfolding closedIn step closeBlock
+  closed-is =
+      agrees closedTo by-close m _ (noneHas m n) 6 _ _ _ (unknown-is m f n) refl λ e6.
+      agrees closedTo by-close m _ (waits (at m (whereIs m n))) 10 _ _ _ (ap (ltb 0) (count-at m (whereIs m n) _ (found-is m f n e6))) refl λ e10.
+      ap (λ (i : ℕ). closedTo (closedAt i (getD (encode m .shares) i 0))) (found-is m f n e6)
+      ∙ ap (λ (s : ℕ). closedTo (closedAt (whereIs m n) s)) (share-is m (whereIs m n))
+      ∙ ap (λ (c : struct.Board). returned (replied 0 c) ids lens) (closed-at (can-close m n (e6, (e10, tt))))
+
+module _ (m : Board.Board) (f : Fit m) where
+  written-close-needs : CloseNeeds (encode m .numbers) (encode m .shares) (encode m .held)
+  written-close-needs = record { low = bought m f; high = within m f; most = held-most m f }
+
+-- ---- On a value that is known to be good
+module _ (b : struct.Board) (ids lens : List ℕ) (k : Known b ids lens) where
+  abbrev m : Board.Board
+  m = view b ids lens
+
+  f : Fit (view b ids lens)
+  f = fit-view b ids lens (k .sound)
+
+  pub close-needs : CloseNeeds (b .numbers) (b .shares) (b .held)
+  close-needs = subst (λ (c : struct.Board). CloseNeeds (c .numbers) (c .shares) (c .held)) (k .sound .spells) (written-close-needs m f)
+
+  pub rename-known : (old new : ℕ) (x : Renaming) → x ≡ renamedIn (b .numbers) old new → returned (replied (x .code) (withRenaming b x)) ids lens ≡ ruled b ids lens (rename! old new)
+  rename-known old new x e = rw e (by-spelling b ids lens k (rename! old new) (λ c. returned (replied (renamedIn (c .numbers) old new .code) (withRenaming c (renamedIn (c .numbers) old new))) ids lens) (renamed-is m f ids lens old new))
+
+  pub open-known : (n s : ℕ) (x : Opening) → x ≡ openedIn (b .numbers) (b .shares) (b .held) n s → returned (replied (x .code) (withOpening b x)) ids lens ≡ ruled b ids lens (open! n s)
+  open-known n s x e = rw e (by-spelling b ids lens k (open! n s) (λ c. let x = openedIn (c .numbers) (c .shares) (c .held) n s in returned (replied (x .code) (withOpening c x)) ids lens) (opened-is m f ids lens n s))
+
+  pub close-known : (n : ℕ) (x : Closing) → x ≡ closedIn (b .active) (b .numbers) (b .shares) (b .starts) (b .counts) (b .held) n → returned (replied (x .code) (withClosing b x)) ids lens ≡ ruled b ids lens (close! n)
+  close-known n x e = rw e (by-spelling b ids lens k (close! n) (λ c. let x = closedIn (c .active) (c .numbers) (c .shares) (c .starts) (c .counts) (c .held) n in returned (replied (x .code) (withClosing c x)) ids lens) (closed-is m f ids lens n))
