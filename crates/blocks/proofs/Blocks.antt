@@ -27,7 +27,7 @@ use Rattle.rules.proofs.Turns.{lit}
 use Rattle.rules.proofs.Calls.{set-field}
 use Rattle.rules.proofs.Waiting.{some-quiet}
 use Rattle.rules.proofs.Tidy.{Tidy}
-use Rattle.board.specs.With.{with-numbers, with-shares, with-starts, with-held}
+use Rattle.board.specs.Memory.{withBlocks}
 use Rattle.board.specs.Reading.{tab, behind, encode}
 use Rattle.board.proofs.Lists.{getD-tab, tab-ext, tab-set, behind-none}
 use Rattle.board.proofs.Moves.{due-ext, due-away, active-here, active-set, left-away, left-same}
@@ -47,7 +47,8 @@ module _ (m : Board.Board) (g : Tidy m) (p : ℕ) (inL : p < length (m .places))
   l = m .places
 
   -- RENAME
-  pub rename-is : (n : ℕ) → with-numbers (encode m) (set (encode m .numbers) p n) ≡ encode (goOn m p (renamed n (at m p)))
+  pub rename-is : (n : ℕ) → withBlocks (encode m) (set (encode m .numbers) p n) (encode m .shares) (encode m .starts) (encode m .held)
+      ≡ encode (goOn m p (renamed n (at m p)))
   unfolding encode
   rename-is n = same (record {
     numbers = sym (map-set (λ (w : Place). w .number) l p y);
@@ -77,7 +78,7 @@ module _ (m : Board.Board) (g : Tidy m) (p : ℕ) (inL : p < length (m .places))
     gone j = listed-out (m .places) (m .orders) (g .shape .listed) j p (ap isQueued was)
 
     idle-is : (n s st : ℕ) (H : ℕ → ℕ) (held′ : List ℕ) → held′ ≡ tab 17 H
-        → with-held (with-starts (with-shares (with-numbers (encode m) (set (encode m .numbers) p n)) (set (encode m .shares) p s)) (set (encode m .starts) p st)) held′
+        → withBlocks (encode m) (set (encode m .numbers) p n) (set (encode m .shares) p s) (set (encode m .starts) p st) held′
         ≡ encode (lit (m .largest) (m .clock) (set (m .places) p (record { number = n; share = s; start = st; lane = []; deficit = 0; stand = out })) (m .orders) (m .slot) H)
     unfolding encode
     idle-is n s st H held′ e = same (record {
@@ -111,8 +112,8 @@ module _ (m : Board.Board) (g : Tidy m) (p : ℕ) (inL : p < length (m .places))
     start-kept z = ap (set (map (λ (w : Place). w .start) l) p) (sym (List·getD-map (λ (w : Place). w .start) l p freePlace ∙ z)) ∙ set-getD (map (λ (w : Place). w .start) l) p 0
 
     -- OPEN
-    pub open-is : (n s : ℕ) → at m p .start ≡ 0 → with-shares (with-numbers (encode m) (set (encode m .numbers) p n)) (set (encode m .shares) p s) ≡ encode (goOn m p (opened n s))
-    open-is n s z = ap (λ (st : List ℕ). with-starts (with-shares (with-numbers (encode m) (set (encode m .numbers) p n)) (set (encode m .shares) p s)) st) (sym (start-kept z)) ∙ idle-is n s 0 (m .held) (encode m .held) (held-of m)
+    pub open-is : (n s : ℕ) → at m p .start ≡ 0 → withBlocks (encode m) (set (encode m .numbers) p n) (set (encode m .shares) p s) (encode m .starts) (encode m .held) ≡ encode (goOn m p (opened n s))
+    open-is n s z = ap (λ (st : List ℕ). withBlocks (encode m) (set (encode m .numbers) p n) (set (encode m .shares) p s) st (encode m .held)) (sym (start-kept z)) ∙ idle-is n s 0 (m .held) (encode m .held) (held-of m)
 
     -- CLOSE: the share is held, unless nobody waits
     abbrev H : Bool → ℕ → ℕ
@@ -129,7 +130,7 @@ module _ (m : Board.Board) (g : Tidy m) (p : ℕ) (inL : p < length (m .places))
         k17 = omega (arith, class-le (at m p .share))
 
     pub close-is : eqb (encode m .active) 0 ≡ quiet m
-        → with-held (with-starts (with-shares (with-numbers (encode m) (set (encode m .numbers) p 0)) (set (encode m .shares) p 0)) (set (encode m .starts) p 0)) (heldWith (encode m .active) (at m p .share) (encode m .held)) ≡ encode (closed m p)
+        → withBlocks (encode m) (set (encode m .numbers) p 0) (set (encode m .shares) p 0) (set (encode m .starts) p 0) (heldWith (encode m .active) (at m p .share) (encode m .held)) ≡ encode (closed m p)
     unfolding closed
     close-is q = idle-is 0 0 0 (H (quiet m)) _ (held-eq (encode m .active) (at m p .share) (encode m .held) (quiet m) q ∙ held-close (quiet m))
 

@@ -8,7 +8,7 @@ use lib.ListN.{getD, set, length}
 use Rattle.base.specs.Sums.{below}
 use Rattle.units.specs.Classes.{classOf}
 use Rattle.board.specs.declared.Board.{Board}
-use Rattle.board.specs.With.{with-numbers, with-shares, with-starts, with-held}
+use Rattle.board.specs.Memory.{withBlocks}
 use Rattle.finding.specs.Finding.{foundIn, isUnknown}
 
 -- ---- RENAME
@@ -28,7 +28,7 @@ renamedIn numbers old new =
     (renaming 0 (set numbers (foundIn numbers old) new))))
 
 abbrev pub withRenaming : Board → Renaming → Board
-withRenaming b r = with-numbers b (r .numbers)
+withRenaming b r = withBlocks b (r .numbers) (b .shares) (b .starts) (b .held)
 
 -- ---- OPEN
 
@@ -54,7 +54,7 @@ openedIn numbers shares held n s =
     (opening 0 (set numbers p n) (set shares p s)))))
 
 abbrev pub withOpening : Board → Opening → Board
-withOpening b o = with-shares (with-numbers b (o .numbers)) (o .shares)
+withOpening b o = withBlocks b (o .numbers) (o .shares) (b .starts) (b .held)
 
 -- ---- CLOSE
 
@@ -80,7 +80,7 @@ closedIn active numbers shares starts counts held n =
     (closing 0 (set numbers i 0) (set shares i 0) (set starts i 0) (heldWith active (getD shares i 0) held)))
 
 abbrev pub withClosing : Board → Closing → Board
-withClosing b c = with-held (with-starts (with-shares (with-numbers b (c .numbers)) (c .shares)) (c .starts)) (c .held)
+withClosing b c = withBlocks b (c .numbers) (c .shares) (c .starts) (c .held)
 
 -- what must hold of the lists for any number: a place with a number has a share, and the sums fit
 pub record CloseNeeds (numbers shares held : List ℕ) : Type 0 where

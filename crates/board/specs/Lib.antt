@@ -1,4 +1,3 @@
-pub mod With
 pub mod Memory
 pub mod Reading
 pub mod Leaving

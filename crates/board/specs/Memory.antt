@@ -1,10 +1,45 @@
--- A BOARD IN MEMORY: its arrays and numbers as they are lent one by one, packed.
+-- A BOARD IN MEMORY: the parts of it that a step is lent, packed, and a board with such a part changed. Where a field is
+-- added to the board, `boardNow` and the two changes below it name it, and no other definition names all fields but the
+-- spelling of a board (Reading).
 use mathlib.Core.List.{List}
 use Prim.Native.Nat.{ℕ}
 use Rattle.board.specs.declared.Board.{Board}
 use Rattle.board.specs.declared.After.{After}
 
--- ---- What serving changes of a board
+abbrev pub numbersNow : (clock active pending slot left : ℕ) → After
+numbersNow clock active pending slot left = record { clock = clock; active = active; pending = pending; slot = slot; left = record { 0 = left } }
+
+abbrev pub numbersOf : Board → After
+numbersOf b = numbersNow (b .clock) (b .active) (b .pending) (b .slot) (b .left .0)
+
+-- the board whose arrays and numbers these are
+abbrev pub boardNow : (numbers shares starts counts deficits ready next heads tails held : List ℕ) (largest : ℕ) → After → Board
+boardNow numbers shares starts counts deficits ready next heads tails held largest now =
+    record {
+      numbers = numbers;
+      shares = shares;
+      deficits = deficits;
+      starts = starts;
+      counts = counts;
+      ready = ready;
+      next = next;
+      heads = heads;
+      tails = tails;
+      held = held;
+      largest = largest;
+      clock = now .clock;
+      active = now .active;
+      pending = now .pending;
+      slot = now .slot;
+      left = now .left;
+    }
+
+-- what opening, renaming and closing change
+abbrev pub withBlocks : Board → (numbers shares starts held : List ℕ) → Board
+withBlocks b numbers shares starts held =
+    boardNow numbers shares starts (b .counts) (b .deficits) (b .ready) (b .next) (b .heads) (b .tails) held (b .largest) (numbersOf b)
+
+-- ---- What serving changes
 
 -- the arrays that a slot's beginning and its end change
 pub record Queues : Type 0 where
@@ -15,8 +50,9 @@ pub record Queues : Type 0 where
   pub tails : List ℕ
   pub held : List ℕ
 
-abbrev pub queuesNow : List ℕ → List ℕ → List ℕ → List ℕ → List ℕ → List ℕ → Queues
-queuesNow deficits ready next heads tails held = record { deficits = deficits; ready = ready; next = next; heads = heads; tails = tails; held = held }
+abbrev pub queuesNow : (deficits ready next heads tails held : List ℕ) → Queues
+queuesNow deficits ready next heads tails held =
+    record { deficits = deficits; ready = ready; next = next; heads = heads; tails = tails; held = held }
 
 -- all its arrays, and its numbers
 pub record Engine : Type 0 where
@@ -25,33 +61,58 @@ pub record Engine : Type 0 where
   pub queues : Queues
   pub now : After
 
-abbrev pub engineNow : List ℕ → List ℕ → List ℕ → List ℕ → List ℕ → List ℕ → List ℕ → List ℕ → After → Engine
+abbrev pub engineNow : (starts counts deficits ready next heads tails held : List ℕ) → After → Engine
 engineNow starts counts deficits ready next heads tails held now =
     record { starts = starts; counts = counts; queues = queuesNow deficits ready next heads tails held; now = now }
 
-abbrev pub numbersNow : ℕ → ℕ → ℕ → ℕ → ℕ → After
-numbersNow clock active pending slot left = record { clock = clock; active = active; pending = pending; slot = slot; left = record { 0 = left } }
-
 abbrev pub engineOf : Board → Engine
-engineOf b = engineNow (b .starts) (b .counts) (b .deficits) (b .ready) (b .next) (b .heads) (b .tails) (b .held) (numbersNow (b .clock) (b .active) (b .pending) (b .slot) (b .left .0))
+engineOf b =
+    engineNow (b .starts) (b .counts) (b .deficits) (b .ready) (b .next) (b .heads) (b .tails) (b .held) (numbersOf b)
 
 abbrev pub withEngine : Board → Engine → Board
 withEngine b e =
-    record {
-      numbers = b .numbers;
-      shares = b .shares;
-      deficits = e .queues .deficits;
-      starts = e .starts;
-      counts = e .counts;
-      ready = e .queues .ready;
-      next = e .queues .next;
-      heads = e .queues .heads;
-      tails = e .queues .tails;
-      held = e .queues .held;
-      largest = b .largest;
-      clock = e .now .clock;
-      active = e .now .active;
-      pending = e .now .pending;
-      slot = e .now .slot;
-      left = e .now .left;
-    }
+    let q = e .queues in
+    boardNow (b .numbers) (b .shares) (e .starts) (e .counts) (q .deficits) (q .ready) (q .next) (q .heads) (q .tails) (q .held) (b .largest) (e .now)
+
+-- ---- What taking a record changes
+
+-- the part that joining an order changes
+pub record Orders : Type 0 where
+  pub next : List ℕ
+  pub heads : List ℕ
+  pub tails : List ℕ
+  pub ready : List ℕ
+  pub active : ℕ
+
+abbrev pub ordersNow : (next heads tails ready : List ℕ) (active : ℕ) → Orders
+ordersNow next heads tails ready active =
+    record { next = next; heads = heads; tails = tails; ready = ready; active = active }
+
+-- and the counts
+pub record Taking : Type 0 where
+  pub counts : List ℕ
+  pub orders : Orders
+
+abbrev pub taking : List ℕ → Orders → Taking
+taking counts orders = record { counts = counts; orders = orders }
+
+abbrev pub takingOf : Board → Taking
+takingOf b = taking (b .counts) (ordersNow (b .next) (b .heads) (b .tails) (b .ready) (b .active))
+
+abbrev pub withTaking : Board → Taking → Board
+withTaking b t =
+    let o = t .orders in
+    let now = numbersNow (b .clock) (o .active) (b .pending) (b .slot) (b .left .0) in
+    withEngine b (engineNow (b .starts) (t .counts) (b .deficits) (o .ready) (o .next) (o .heads) (o .tails) (b .held) now)
+
+-- what it reads and leaves as it is
+pub record Blocks : Type 0 where
+  pub numbers : List ℕ
+  pub shares : List ℕ
+  pub starts : List ℕ
+
+abbrev pub blocks : (numbers shares starts : List ℕ) → Blocks
+blocks numbers shares starts = record { numbers = numbers; shares = shares; starts = starts }
+
+abbrev pub blocksOf : Board → Blocks
+blocksOf b = blocks (b .numbers) (b .shares) (b .starts)

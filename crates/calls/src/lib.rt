@@ -10,13 +10,13 @@ ghost use Rattle.spoilt.specs.Early.{earlyCode};
 ghost use Rattle.board.specs.Leaving.{returned, Known, ruled};
 use board::Board;
 use board::Reply;
-use serving::Step;
 use numbers::CLASSES;
 use numbers::GREATEST_LARGEST;
 use numbers::LEAST_LARGEST;
 use numbers::PLACES;
 use numbers::TABLE_ENTRIES;
 use numbers::codes;
+use serving::Step;
 use units::Bytes;
 
 // The answer of a serve: its code; the block that is served, the number and the length of the record sent, and the slot's clock.

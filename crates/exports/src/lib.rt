@@ -2,11 +2,10 @@
 // a log. Each promises what the call or the player below it promises, and asks nothing of a caller but what the types say.
 ghost use mathlib.Core.Path.{_≡_};
 ghost use Rattle.rules.specs.Calls.{record! };
-ghost use Rattle.board.specs.Memory.{numbersNow};
+ghost use Rattle.board.specs.Memory.{numbersNow, boardNow};
 ghost use Rattle.calls.specs.Contract.{burstNow, calledServe, calledBurst};
 ghost use Rattle.calls.specs.Promises.{called};
 ghost use Rattle.board.specs.Leaving.{returned, replied};
-ghost use Rattle.player.specs.Fields.{boardNow};
 ghost use Rattle.exports.specs.Listed.{Listed};
 use board::Board;
 use lines::LINE_ROOM;

@@ -25,9 +25,9 @@ use Rattle.log.specs.declared.Event.the-variants.{Largest, Open, Close, Rename,
 use Rattle.log.specs.Format.{inTurn}
 use Rattle.lines.specs.Text.{Line}
 use Rattle.lines.specs.Listing.{openLine, closeLine, nameLine, inLine}
-use Rattle.taking.specs.Taking.{takingOf, withTaking, blocksOf, Recording, recordedIn}
+use Rattle.board.specs.Memory.{takingOf, withTaking, blocksOf, engineOf, withEngine}
+use Rattle.taking.specs.Taking.{Recording, recordedIn}
 use Rattle.blocks.specs.Blocks.{Renaming, renamedIn, withRenaming, Opening, openedIn, withOpening, Closing, closedIn, withClosing}
-use Rattle.board.specs.Memory.{engineOf, withEngine}
 use Rattle.serving.specs.Serving.{Within, engineAfter}
 use Rattle.board.proofs.Fields.{number-is}
 use Rattle.serving.proofs.Within.{fit-serve, Stops, Goes}

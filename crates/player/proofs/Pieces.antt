@@ -34,9 +34,8 @@ use Rattle.board.specs.declared.Reply.{Reply}
 use Rattle.board.specs.Leaving.{Returned, returned, Known}
 use Rattle.spoilt.specs.Early.{earlyCode}
 use Rattle.calls.specs.Promises.{made}
-use Rattle.board.proofs.Tables.{right-tables}
+use Rattle.board.proofs.Tables.{right-tables, none-wrong}
 use Rattle.spoilt.proofs.Before.{sound-known, early-none}
-use Rattle.board.proofs.Tables.{none-wrong}
 use Rattle.board.proofs.Fresh.{Starts}
 use Rattle.calls.proofs.Making.{made-starts}
 use Rattle.plays.specs.Listing.{Playing, unmade, waiting, listingFrom, listingOf}
@@ -44,8 +43,7 @@ use Rattle.plays.proofs.Listing.{listing-whole, listing-broken, listing-end, li
 use Rattle.player.specs.declared.State.{State}
 use Rattle.player.specs.declared.Piece.{Piece}
 use Rattle.player.specs.Fields.{Memory, memory, reads, KnownMemory, FieldPlayed}
-use Rattle.player.specs.Pieces.{beforeFirst, readTo, restOf, restAfter, unfit, pieceCode, CanGoOn, refusedPiece, endedPiece, PieceDone, PieceOf, Pieces, last, more, howMany, Roomy}
-use Rattle.player.specs.Pieces.{PiecesListing, PiecesFew}
+use Rattle.player.specs.Pieces.{beforeFirst, readTo, restOf, restAfter, unfit, pieceCode, CanGoOn, refusedPiece, endedPiece, PieceDone, PieceOf, Pieces, last, more, howMany, Roomy, PiecesListing, PiecesFew}
 
 -- ---- The code, test by test
 module _ (len : ℕ) (s : State) (ids lens : List ℕ) (a : length ids ≡ 2048) (d : length lens ≡ 2048) where

@@ -9,31 +9,8 @@ use Rattle.board.specs.Reading.{view}
 use Rattle.log.specs.declared.Event.{Event}
 use Rattle.lines.specs.Text.{Line}
 use Rattle.lines.specs.Listing.{outLine, refusedLine}
-use Rattle.board.specs.declared.After.{After}
 use Rattle.board.specs.Leaving.{Known}
 use Rattle.plays.specs.Listing.{Playing, played, fieldLine}
-
--- the board whose arrays and numbers these are
-abbrev pub boardNow : List ℕ → List ℕ → List ℕ → List ℕ → List ℕ → List ℕ → List ℕ → List ℕ → List ℕ → List ℕ → ℕ → After → struct.Board
-boardNow numbers shares starts counts deficits ready next heads tails held largest now =
-    record {
-      numbers = numbers;
-      shares = shares;
-      deficits = deficits;
-      starts = starts;
-      counts = counts;
-      ready = ready;
-      next = next;
-      heads = heads;
-      tails = tails;
-      held = held;
-      largest = largest;
-      clock = now .clock;
-      active = now .active;
-      pending = now .pending;
-      slot = now .slot;
-      left = now .left;
-    }
 
 -- what stands between two fields
 pub record Memory : Type 0 where

@@ -32,8 +32,8 @@ use Rattle.board.proofs.Lists.{getD-tab, tab-ext}
 use Rattle.board.proofs.Reading.{Fit, small, class, once}
 use Rattle.board.proofs.Moves.{nexts, heads, tails, nexts-join, heads-join, tails-join, due-away, due-snoc, active-here, active-set}
 use Rattle.board.proofs.Same.{same, kept}
-use Rattle.taking.specs.Taking.{Orders, ordersNow, joinedOrders}
-use Rattle.board.specs.Memory.{Queues, Engine, engineNow, numbersNow, engineOf, withEngine, queuesNow}
+use Rattle.board.specs.Memory.{Orders, ordersNow, Queues, Engine, engineNow, numbersNow, engineOf, withEngine, queuesNow}
+use Rattle.taking.specs.Taking.{joinedOrders}
 use Rattle.slots.specs.Slots.{Turned, turnedNow, turned, stillActive, EmptyEnd, WaitingEnd, emptyEndNow, endedEmpty, waitingEndNow, endedWaiting}
 use Rattle.slots.proofs.Sets.{active-order, nobody}
 use Rattle.slots.proofs.Clock.{clock-is}

@@ -24,8 +24,7 @@ use Rattle.rules.specs.Board.{Record, noRecord, Place, freePlace, blockClass, a
 use Rattle.rules.specs.Choice.{isNone, Out, refused, done, taken, sent, Turn, leftOf, leftAfter, leastReady, upd, started, emptied, short, going, ended, goOn, sendFrom, send, begin, lowest, chosen, serve}
 use Rattle.rules.specs.Spoilt.{count, inClass}
 use Rattle.rules.proofs.Orders.{pl, upd-other, in-head, count-head}
-use Rattle.rules.proofs.Shape.{LeastIs, least-is, Chosen, choose, all-front, release-le, queued-in}
-use Rattle.rules.proofs.Shape.{Fit as record-fit}
+use Rattle.rules.proofs.Shape.{LeastIs, least-is, Chosen, choose, all-front, release-le, queued-in, Fit as record-fit}
 use Rattle.rules.proofs.Slot.{serving-ok}
 use Rattle.rules.proofs.Turns.{busy}
 use Rattle.rules.proofs.Tidy.{Tidy, tidy-send, tidy-begin}

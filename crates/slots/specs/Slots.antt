@@ -11,8 +11,8 @@ use Rattle.units.specs.Classes.{classOf, nextStart}
 use Rattle.units.specs.Credit.{charged, chargeOf, creditOf}
 use Rattle.board.specs.declared.Board.{Board}
 use Rattle.board.specs.declared.After.{After}
-use Rattle.board.specs.Memory.{Queues, queuesNow, Engine, numbersNow}
-use Rattle.taking.specs.Taking.{ordersNow, joinedOrders}
+use Rattle.board.specs.Memory.{Queues, queuesNow, Engine, numbersNow, ordersNow}
+use Rattle.taking.specs.Taking.{joinedOrders}
 use Rattle.slots.specs.declared.Begun.{Begun}
 use Rattle.slots.specs.declared.Choice.{Choice}
 use Rattle.slots.specs.declared.Choice.the-variants.{Stop, Go}

@@ -2,7 +2,6 @@
 ghost use mathlib.Core.Path.{_≡_};
 ghost use Prim.Native.Nat.{_+_, _-_, _*_, _^_, _<_, _≤_};
 ghost use lib.ListN.{getD, set, replicate};
-ghost use Rattle.taking.specs.Taking.{taking};
 ghost use Rattle.board.specs.Memory.{queuesNow};
 ghost use Rattle.slots.specs.Slots.{turnedNow, turned, chosenClass, slotClock, choice, CanChoose, linksNow, leftLinks, stillPending, stillActive, beginningNow, beganAt, CanBegin, emptyEndNow, endedEmpty, waitingEndNow, endedWaiting};
 use board::After;

@@ -24,7 +24,8 @@ use Rattle.board.proofs.Bounds.{bought, within, rings, linked}
 use Rattle.board.proofs.Agrees.{turned, agrees, by-spelling}
 use Rattle.finding.specs.Finding.{foundIn}
 use Rattle.finding.proofs.Finding.{not-zeroth, where-is, none-is, where-le}
-use Rattle.taking.specs.Taking.{takenAt, takingOf, withTaking, blocksOf, RecordNeeds, Recording, recording, entryAt, recordedIn}
+use Rattle.board.specs.Memory.{takingOf, withTaking, blocksOf}
+use Rattle.taking.specs.Taking.{takenAt, RecordNeeds, Recording, recording, entryAt, recordedIn}
 use Rattle.taking.proofs.Taking.{take-is}
 
 module _ (m : Board.Board) (f : Fit m) (ids lens : List ℕ) (n id len : ℕ) where

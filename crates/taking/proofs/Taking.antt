@@ -30,7 +30,8 @@ use Rattle.board.proofs.Lists.{getD-tab, tab-ext}
 use Rattle.board.proofs.Reading.{once, small, class}
 use Rattle.board.proofs.Moves.{nexts, heads, tails, nexts-join, heads-join, tails-join, due-ext, due-away, due-snoc, isActive, active-here, active-set, left-away, left-same}
 use Rattle.board.proofs.Same.{same, kept}
-use Rattle.taking.specs.Taking.{ordersNow, joinedOrders, Taking, taking, takenAt, takingOf, withTaking}
+use Rattle.board.specs.Memory.{ordersNow, Taking, taking, takingOf, withTaking}
+use Rattle.taking.specs.Taking.{joinedOrders, takenAt}
 use Rattle.board.proofs.Fields.{count-is, share-is}
 
 -- the engine's step, with what it reads named

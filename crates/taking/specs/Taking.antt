@@ -8,22 +8,10 @@ use lib.Dec.{ltb, leb, eqb}
 use lib.ListN.{getD, set, length}
 use Rattle.bits.specs.Sets.{withBit}
 use Rattle.units.specs.Classes.{classOf, nextStart}
-use Rattle.board.specs.declared.Board.{Board}
+use Rattle.board.specs.Memory.{Orders, ordersNow, Taking, taking, Blocks}
 use Rattle.finding.specs.Finding.{foundIn}
-use Rattle.board.specs.With.{with-next, with-heads, with-tails, with-ready, with-active, with-counts}
 
 -- ---- JOINING
-
--- the part of a board that joining an order changes
-pub record Orders : Type 0 where
-  pub next : List ℕ
-  pub heads : List ℕ
-  pub tails : List ℕ
-  pub ready : List ℕ
-  pub active : ℕ
-
-abbrev pub ordersNow : List ℕ → List ℕ → List ℕ → List ℕ → ℕ → Orders
-ordersNow next heads tails ready active = record { next = next; heads = heads; tails = tails; ready = ready; active = active }
 
 unfoldable pub joinedOrders : Orders → ℕ → ℕ → ℕ → Orders
 joinedOrders o place k time =
@@ -36,33 +24,13 @@ joinedOrders o place k time =
       active = withBit (o .active) k;
     }
 
-abbrev pub ordersOf : Board → Orders
-ordersOf b = ordersNow (b .next) (b .heads) (b .tails) (b .ready) (b .active)
-
-abbrev pub withOrders : Board → Orders → Board
-withOrders b o = with-active (with-ready (with-tails (with-heads (with-next b (o .next)) (o .heads)) (o .tails)) (o .ready)) (o .active)
-
 -- ---- TAKING
-
--- the part that taking a record changes
-pub record Taking : Type 0 where
-  pub counts : List ℕ
-  pub orders : Orders
-
-abbrev pub taking : List ℕ → Orders → Taking
-taking counts orders = record { counts = counts; orders = orders }
 
 -- place i has one record more
 unfoldable pub takenAt : List ℕ → ℕ → ℕ → Taking → Taking
 takenAt shares clock i t =
     let k = classOf (getD shares i 0) in
     taking (set (t .counts) i (getD (t .counts) i 0 + 1)) (cond (eqb (getD (t .counts) i 0) 0) (joinedOrders (t .orders) i k (nextStart k clock)) (t .orders))
-
-abbrev pub takingOf : Board → Taking
-takingOf b = taking (b .counts) (ordersOf b)
-
-abbrev pub withTaking : Board → Taking → Board
-withTaking b t = withOrders (with-counts b (t .counts)) (t .orders)
 
 -- what the lists must have for a record to be taken at place i
 pub record TakeNeeds (shares counts tails : List ℕ) (clock i : ℕ) : Type 0 where
@@ -74,18 +42,6 @@ pub record TakeNeeds (shares counts tails : List ℕ) (clock i : ℕ) : Type 0 w
   pub last : (k : ℕ) → k < 17 → getD tails k 0 ≤ 64
 
 -- ---- A RECORD COMES, with its codes
-
--- the lists that the call reads and leaves as they are
-pub record Blocks : Type 0 where
-  pub numbers : List ℕ
-  pub shares : List ℕ
-  pub starts : List ℕ
-
-abbrev pub blocks : List ℕ → List ℕ → List ℕ → Blocks
-blocks numbers shares starts = record { numbers = numbers; shares = shares; starts = starts }
-
-abbrev pub blocksOf : Board → Blocks
-blocksOf b = blocks (b .numbers) (b .shares) (b .starts)
 
 -- what must hold of the lists for any number: a place with a number has a share
 pub record RecordNeeds (x : Blocks) (tails : List ℕ) (clock : ℕ) (ids lens : List ℕ) : Type 0 where

@@ -2,7 +2,8 @@
 ghost use mathlib.Core.Path.{_≡_};
 ghost use Prim.Native.Nat.{_+_, _-_, _*_, _<_, _≤_};
 ghost use lib.ListN.{length, getD, set};
-ghost use Rattle.taking.specs.Taking.{ordersNow, joinedOrders, taking, takenAt, TakeNeeds, blocks, RecordNeeds, recording, recordedIn};
+ghost use Rattle.board.specs.Memory.{ordersNow, taking, blocks};
+ghost use Rattle.taking.specs.Taking.{joinedOrders, takenAt, TakeNeeds, RecordNeeds, recording, recordedIn};
 use numbers::CLASSES;
 use numbers::LANE_DEPTH;
 use numbers::LANE_ENTRIES;
