@@ -85,9 +85,9 @@ module _ (L c : ℕ) (l : List Place) (o : ℕ → List ℕ) (H : ℕ → ℕ) (
       go true e = tidy-ended (emptied (pl l p)) o refl (same (emptied (pl l p)) refl refl refl refl (Slot.emptied-ok L c l o H p (g .shape) (g .one)))
       go false e = two (false-lt (length (pl l p .lane)) 1 e) (ltb rest nx) refl
 
-pub tidy-send : (b : Board) (p : ℕ) → b .slot ≡ some p → Tidy b → Tidy (send b p .next)
+pub tidy-send : (began : Bool) (b : Board) (p : ℕ) → b .slot ≡ some p → Tidy b → Tidy (send began b p .next)
 unfolding send
-tidy-send b p e = subst (λ (s : Option ℕ). Tidy (set-slot s) → Tidy (sendFrom (set-slot s) p)) (sym e) (tidy-lit (b .largest) (b .clock) (b .places) (b .orders) (b .held) p)
+tidy-send began b p e = subst (λ (s : Option ℕ). Tidy (set-slot s) → Tidy (sendFrom (set-slot s) p)) (sym e) (tidy-lit (b .largest) (b .clock) (b .places) (b .orders) (b .held) p)
   where
     set-slot : Option ℕ → Board
     set-slot s = lit (b .largest) (b .clock) (b .places) (b .orders) s (b .held)
@@ -121,6 +121,6 @@ module _ (b : Board) (r : ℕ) (free : b .slot ≡ none) (least : LeastIs (b .pl
           go (yes e) = rw (e, getD-set-same (b .places) p (started (b .largest) (at b p)) freePlace h) (sym (eqb-yes p p refl))
           go (no e) = rw (getD-set-other (b .places) p q (started (b .largest) (at b p)) freePlace e, eqb-no q p e) (g .one q ∙ ap (isAt q) free)
 
-  pub tidy-sent : Tidy (send (begin b t) p .next)
+  pub tidy-sent : Tidy (send true (begin b t) p .next)
   unfolding begin
-  tidy-sent = tidy-send (begin b t) p refl tidy-begin
+  tidy-sent = tidy-send true (begin b t) p refl tidy-begin
