@@ -14,9 +14,9 @@ use Rattle.base.proofs.Numbers.{split, leb-yes, leb-no, false-lt, eqb-true}
 use Rattle.rules.specs.Board
 use Rattle.rules.specs.Board.{Record, Place, freePlace, at, waits, entry, firstEntry, out, spent}
 use Rattle.rules.specs.Choice.{Turn, refuse, whereIs, numberOutside, noneHas, someHas, lengthOutside, laneFull, tookAt, takeRecord, goOn}
-use Rattle.rules.specs.Blocks.{opened, freeAt, shareOutside, allTaken, overFree, openBlock, renameBlock, closed, closeBlock}
+use Rattle.rules.specs.Blocks.{opening, opened, freeAt, shareOutside, allTaken, overFree, openBlock, renameBlock, closed, closeBlock}
 use Rattle.rules.specs.Calls.{Single, open!, rename!, close!, record!, step, one, told, writes, done! }
-use Rattle.rules.proofs.Cases.{or-right, in-range, where-has, free-found, CanClose, can-close}
+use Rattle.rules.proofs.Cases.{or-right, in-range, some-in, where-has, free-found, CanClose, can-close}
 use Rattle.rules.proofs.Calls.{in-places, empty-out}
 use Rattle.rules.proofs.Shape.{named-num}
 use Rattle.rules.proofs.Tidy.{Tidy}
@@ -26,8 +26,8 @@ use Rattle.board.proofs.Reading.{Fit}
 use Rattle.calls.specs.declared.Reply.{Reply}
 use Rattle.calls.specs.Promises.{Returned, returned, replied, written}
 use Rattle.engine.specs.Steps.{foundIn, takenAt, takingOf, withTaking, blocksOf, Recording, recording, entryAt, recordedIn}
-use Rattle.engine.specs.Opening.{Renaming, renaming, isUnknown, renamedIn, withRenaming, totalOf, Opening, opening, openedIn, withOpening, heldWith, Closing, closing, closedIn, withClosing}
-use Rattle.engine.proofs.Finding.{not-zeroth, where-is, free-is, none-is}
+use Rattle.engine.specs.Opening.{Renaming, renaming, isUnknown, renamedIn, withRenaming, totalOf, AfterOpening, afterOpening, openedIn, withOpening, heldWith, Closing, closing, closedIn, withClosing}
+use Rattle.engine.proofs.Finding.{not-zeroth, where-is, free-is, none-found, none-is}
 use Rattle.engine.proofs.Sums.{total-map, total-tab}
 use Rattle.engine.proofs.Taking.{take-is}
 use Rattle.engine.proofs.Opening.{rename-is, open-is, close-is, quiet-active}
@@ -37,6 +37,10 @@ use Rattle.engine.proofs.Fields.{count-is, share-is, start-is}
 -- what a turn of the rules leaves in memory
 abbrev pub turned : struct.Board → List ℕ → List ℕ → Board.Board → Single → Turn → Returned Reply
 turned b ids lens m x t = written b ids lens (record { answer = told m (t .out); board = some (t .next); entries = writes x (t .out); list = [] })
+
+not-not : (t : Bool) → not (not t) ≡ t
+not-not true = refl
+not-not false = refl
 
 -- ---- THE TESTS are the rules' tests
 module _ (m : Board.Board) (f : Fit m) where
@@ -67,19 +71,18 @@ module _ (m : Board.Board) (f : Fit m) where
       ne : eqb n 0 ≡ false → n ≢ 0
       ne e q = true≢false (sym (eq-eqb n 0 q) ∙ e)
 
-      go : (t : Bool) → eqb n 0 ≡ t → t || eqb (foundIn (encode m .numbers) n) 64 ≡ leb 64 (whereIs m n)
-      go true e = sym (leb-yes 64 (whereIs m n) (nowhere (eqb-true n 0 e) (split 64 (whereIs m n))))
-      go false e = ap (λ (i : ℕ). eqb i 64) (where-is m g n (ne e)) ∙ none-is (whereIs m n) (where-le n)
+      go : (t : Bool) → eqb n 0 ≡ t → t || eqb (foundIn (encode m .numbers) n) 64 ≡ noneHas m n
+      go true e = let h = nowhere (eqb-true n 0 e) (split 64 (whereIs m n)) in sym (ap not (leb-no (suc (whereIs m n)) 64 (omega arith)))
+      go false e = ap (λ (i : ℕ). eqb i 64) (where-is m g n (ne e)) ∙ none-found (whereIs m n) (where-le n)
 
   found-is : (n : ℕ) → noneHas m n ≡ false → foundIn (encode m .numbers) n ≡ whereIs m n
-  found-is n e = where-is m g n (open-named n (false-lt 64 (whereIs m n) e))
+  found-is n e = where-is m g n (open-named n (some-in m n e))
 
   taken-number : (n : ℕ) → n ≢ 0 → not (eqb (foundIn (encode m .numbers) n) 64) ≡ someHas m n
-  taken-number n ne = ap (λ (i : ℕ). not (eqb i 64)) (where-is m g n ne) ∙ ap not (none-is (whereIs m n) (where-le n)) ∙ go (split 64 (whereIs m n))
-    where
-      go : (64 ≤ whereIs m n) ⊎ (whereIs m n < 64) → not (leb 64 (whereIs m n)) ≡ leb (suc (whereIs m n)) 64
-      go (inl h) = rw (leb-yes 64 (whereIs m n) h) (sym (leb-no (suc (whereIs m n)) 64 (omega arith)))
-      go (inr h) = rw (leb-no 64 (whereIs m n) h) (sym (leb-yes (suc (whereIs m n)) 64 h))
+  taken-number n ne =
+      ap (λ (i : ℕ). not (eqb i 64)) (where-is m g n ne)
+      ∙ ap not (none-found (whereIs m n) (where-le n))
+      ∙ not-not (someHas m n)
 
   spent-is : totalOf (encode m .shares) + totalOf (encode m .held) ≡ spent m
   unfolding encode spent
@@ -92,8 +95,8 @@ module _ (m : Board.Board) (f : Fit m) where
       go (inl h) = leb-yes 65537 (spent m + s) (omega arith) ∙ sym (leb-yes (suc (65536 - spent m)) s (omega arith))
       go (inr h) = leb-no 65537 (spent m + s) (omega arith) ∙ sym (leb-no (suc (65536 - spent m)) s (omega arith))
 
-  inside : (p : ℕ) → leb 64 p ≡ false → p < length (m .places)
-  inside p e = omega (arith, false-lt 64 p e, g .shape .all64)
+  inside : (p : ℕ) → p < 64 → p < length (m .places)
+  inside p h = omega (arith, g .shape .all64)
 
 -- the count of the place that the engine finds
 count-at : (m : Board.Board) (p i : ℕ) → i ≡ p → getD (encode m .counts) i 0 ≡ length (at m p .lane)
@@ -136,9 +139,9 @@ module _ (m : Board.Board) (f : Fit m) (ids lens : List ℕ) (n id len : ℕ) wh
   unfolding recordedIn step takeRecord encode
   record-is =
       agrees recorded by-record m _ (numberOutside n || lengthOutside m len) 4 _ _ _ refl refl λ e4.
-      agrees recorded by-record m _ (noneHas m n) 6 _ _ _ (ap (λ (i : ℕ). eqb i 64) (found e4) ∙ none-is (whereIs m n) (where-le m f n)) refl λ e6.
+      agrees recorded by-record m _ (noneHas m n) 6 _ _ _ (ap (λ (i : ℕ). eqb i 64) (found e4) ∙ none-found (whereIs m n) (where-le m f n)) refl λ e6.
       agrees recorded by-record m _ (laneFull (at m (whereIs m n))) 9 _ _ _ (ap (leb 32) (count-at m (whereIs m n) _ (found e4))) refl λ e9.
-      ap (λ (i : ℕ). recorded (took i)) (found e4) ∙ took-is (false-lt 64 (whereIs m n) e6)
+      ap (λ (i : ℕ). recorded (took i)) (found e4) ∙ took-is (some-in m n e6)
     where
       found : numberOutside n || lengthOutside m len ≡ false → foundIn (encode m .numbers) n ≡ whereIs m n
       found e = where-is m (f .tidy) n (not-zeroth n (lengthOutside m len) e)
@@ -161,32 +164,32 @@ module _ (m : Board.Board) (f : Fit m) (ids lens : List ℕ) (old new : ℕ) whe
       agrees renamedTo by-rename m _ (noneHas m old) 6 _ _ _ (unknown-is m f old) refl λ e6.
       agrees renamedTo by-rename m _ (someHas m new) 5 _ _ _ (taken-number m f new (λ q. true≢false (sym (eq-eqb new 0 q) ∙ e4))) refl λ e5.
       ap (λ (i : ℕ). renamedTo (renaming 0 (set numbers i new))) (found-is m f old e6)
-      ∙ ap (λ (c : struct.Board). returned (replied 0 c) ids lens) (rename-is m (f .tidy) (whereIs m old) (inside m f (whereIs m old) e6) new)
+      ∙ ap (λ (c : struct.Board). returned (replied 0 c) ids lens) (rename-is m (f .tidy) (whereIs m old) (inside m f (whereIs m old) (some-in m old e6)) new)
 
 -- ---- OPEN
 module _ (m : Board.Board) (f : Fit m) (ids lens : List ℕ) (n s : ℕ) where
-  abbrev openedTo : Opening → Returned Reply
+  abbrev openedTo : AfterOpening → Returned Reply
   openedTo x = returned (replied (x .code) (withOpening (encode m) x)) ids lens
 
-  abbrev openedAt : ℕ → Opening
-  openedAt i = opening 0 (set (encode m .numbers) i n) (set (encode m .shares) i s)
+  abbrev openedAt : ℕ → AfterOpening
+  openedAt i = afterOpening 0 (set (encode m .numbers) i n) (set (encode m .shares) i s)
 
   abbrev by-open : Turn → Returned Reply
-  by-open = turned (encode m) ids lens m (open! n s)
+  by-open = turned (encode m) ids lens m (open! (opening n s))
 
-  opened-at : leb 64 (freeAt m) ≡ false → withOpening (encode m) (openedAt (freeAt m)) ≡ encode (goOn m (freeAt m) (opened n s))
+  opened-at : leb 64 (freeAt m) ≡ false → withOpening (encode m) (openedAt (freeAt m)) ≡ encode (goOn m (freeAt m) (opened (opening n s)))
   opened-at e = go (f .tidy .shape .placeOk p .named)
     where
       p : ℕ
       p = freeAt m
 
-      go : (at m p ≡ freePlace) ⊎ ((1 ≤ at m p .number) × (1 ≤ at m p .share)) → withOpening (encode m) (openedAt p) ≡ encode (goOn m p (opened n s))
+      go : (at m p ≡ freePlace) ⊎ ((1 ≤ at m p .number) × (1 ≤ at m p .share)) → withOpening (encode m) (openedAt p) ≡ encode (goOn m p (opened (opening n s)))
       go (inl q) =
-          open-is m (f .tidy) p (inside m f p e) (ap (λ (y : Place). y .stand) q) (ap (λ (y : Place). length (y .lane)) q)
-          (ap (λ (y : Place). y .deficit) q) n s (ap (λ (y : Place). y .start) q)
+          open-is m (f .tidy) p (inside m f p (false-lt 64 p e)) (ap (λ (y : Place). y .stand) q) (ap (λ (y : Place). length (y .lane)) q)
+          (ap (λ (y : Place). y .deficit) q) (opening n s) (ap (λ (y : Place). y .start) q)
       go (inr h) = absurd (omega (arith, free-found m (false-lt 64 (freeAt m) e)))
 
-  pub opened-is : openedTo (openedIn (encode m .numbers) (encode m .shares) (encode m .held) n s) ≡ written (encode m) ids lens (done! m (one (open! n s)))
+  pub opened-is : openedTo (openedIn (encode m .numbers) (encode m .shares) (encode m .held) n s) ≡ written (encode m) ids lens (done! m (one (open! (opening n s))))
   unfolding openedIn step openBlock
   opened-is =
       agrees openedTo by-open m _ (numberOutside n || shareOutside s) 4 _ _ _ refl refl λ e4.

@@ -1,6 +1,6 @@
 -- The place of a number in the array of numbers is the place of the block that has it; the place of 0 is the lowest free one.
 use mathlib.Core.Path.{_≡_, refl, sym, ap, ap₂, _∙_}
-use mathlib.Core.Bool.{Bool, cond, _&&_, _||_, true≢false, false}
+use mathlib.Core.Bool.{Bool, not, cond, _&&_, _||_, true≢false, false}
 use mathlib.Core.Logic.{_⊎_, inl, inr, _≢_}
 use mathlib.Core.List.{List}
 use Prim.Native.Nat.{ℕ, zero, suc, _≤_, _<_}
@@ -79,6 +79,13 @@ module _ (m : Board.Board) (g : Tidy m) where
       by-name x (inr h) = ne-eqb (x .number) 0 (λ f. omega arith) ∙ sym (ne-eqb (x .share) 0 (λ f. omega arith))
 
 -- 64 is no place
+pub none-found : (n : ℕ) → n ≤ 64 → eqb n 64 ≡ not (ltb n 64)
+none-found n h = go (split 64 n)
+  where
+    go : (64 ≤ n) ⊎ (n < 64) → eqb n 64 ≡ not (ltb n 64)
+    go (inl a) = eq-eqb n 64 (omega arith) ∙ sym (ap not (leb-no (suc n) 64 (omega arith)))
+    go (inr a) = ne-eqb n 64 (λ e. omega arith) ∙ sym (ap not (leb-yes (suc n) 64 a))
+
 pub none-is : (n : ℕ) → n ≤ 64 → eqb n 64 ≡ leb 64 n
 none-is n h = go (split 64 n)
   where

@@ -8,7 +8,7 @@ ghost use lib.ListN.{length, getD, set, replicate};
 ghost use Rattle.rules.specs.Board.{fresh};
 ghost use Rattle.board.specs.Reading.{encode};
 ghost use Rattle.engine.specs.Steps.{foundIn, ordersNow, joinedOrders, taking, takenAt, TakeNeeds, blocks, RecordNeeds, recording, recordedIn};
-ghost use Rattle.engine.specs.Opening.{renaming, renamedIn, totalOf, opening, openedIn, heldWith, closing, closedIn, CloseNeeds};
+ghost use Rattle.engine.specs.Opening.{renaming, renamedIn, totalOf, afterOpening, openedIn, heldWith, closing, closedIn, CloseNeeds};
 ghost use Rattle.units.specs.Classes.{classOf};
 ghost use Rattle.engine.specs.Serving.{queuesNow, engineNow, numbersNow, turnedNow, turned, chosenClass, slotClock, choice, CanChoose, linksNow, leftLinks, stillPending, stillActive, beginningNow, beganAt, CanBegin, openedSlot, emptyEndNow, endedEmpty, waitingEndNow, endedWaiting, frontEntry, startAfter, sentFrom, CanSend, enacted, CanEnact, stayed, withinNow, servedWithin, CanServe};
 use board::Board;
@@ -212,7 +212,7 @@ pub fn open_in(
     shares: &mut [u32; PLACES],
     held: &[u32; CLASSES],
 ) -> u8
-    ensures { λ r. ⌜ opening r (now (numbers .exit)) (now (shares .exit)) ≡ openedIn (now (numbers .entry)) (now (shares .entry)) (now (held .entry)) block share ⌝ }
+    ensures { λ r. ⌜ afterOpening r (now (numbers .exit)) (now (shares .exit)) ≡ openedIn (now (numbers .entry)) (now (shares .entry)) (now (held .entry)) block share ⌝ }
 {
     if outside(block, share, GREATEST_SHARE) {
         return codes::OUT_OF_RANGE;

@@ -115,7 +115,7 @@ has-at b q n len h e = record { inside = go (split 64 q); bought = h; named = e 
     go (inl k) = absurd (omega (arith, ap (λ (x : Place). x .share) (List·getD-eq-default (b .places) freePlace {n = q} (omega arith))))
 
 -- a number that is found
-some-in : (b : Board) (n : ℕ) → noneHas b n ≡ false → whereIs b n < 64
+pub some-in : (b : Board) (n : ℕ) → noneHas b n ≡ false → whereIs b n < 64
 some-in b n e = true-le (suc (whereIs b n)) 64 (not-none (someHas b n) e)
   where
     not-none : (t : Bool) → not t ≡ false → t ≡ true

@@ -219,12 +219,12 @@ module _ (b : Board) (hs : List Hold) (g : Tidy b) (a : Agrees (b .clock) (b .he
     renames = λ p old new c w. as-was;
     closes = steps-close;
     takes = steps-take;
-    goesOn = λ p c w. rw (append-nil hs) (send-agrees b p hs (tidy-send false b p (c .slot) g) a w);
+    goesOn = λ p c w. rw (append-nil hs) (send-agrees b p hs (tidy-send b p (c .slot) g) a w);
     begins = begins;
   })
     where
       begins : (r t p : ℕ) → Begins b r t p → p ≡ chosen b t → Steps serve! (send true (begin b t) p)
-      begins r t p c e w = rw (append-nil hs) (send-agrees (begin b t) p hs (tidy-send true (begin b t) p (begin-slot b t ∙ ap some (sym e)) gb) (begin-agrees b t hs (omega (arith, c .time)) a) w)
+      begins r t p c e w = rw (append-nil hs) (send-agrees (begin b t) p hs (tidy-send (begin b t) p (begin-slot b t ∙ ap some (sym e)) gb) (begin-agrees b t hs (omega (arith, c .time)) a) w)
         where
           gb : Tidy (begin b t)
           gb = subst (λ (z : ℕ). Tidy (begin b z)) (sym (c .time)) (tidy-begin b r (c .slot) (subst (LeastIs (b .places)) (c .least) (least-is (b .places))) (rw (← c .time) (c .soon)) g)

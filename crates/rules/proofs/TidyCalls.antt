@@ -18,7 +18,7 @@ use Rattle.units.proofs.Classes.{class-le}
 use Rattle.rules.specs.Calls.{Single, step}
 use Rattle.rules.specs.Spoilt.{isQueued, isServing}
 use Rattle.rules.specs.Board.{Record, out, Place, freePlace, blockClass, Board, at, spent}
-use Rattle.rules.specs.Choice.{upd, leastReady, readyOf, isNone, goOn, more, joins, joining, takenIn, whereIs, serve}
+use Rattle.rules.specs.Choice.{upd, leastReady, readyOf, isNone, goOn, more, joins, joining, takenIn, whereIs, send, serve}
 use Rattle.rules.specs.Blocks.{Opening, opened, freeAt, quiet, closed, renamed}
 use Rattle.rules.proofs.Orders.{pl, upd-same, upd-other}
 use Rattle.rules.proofs.Shape.{Shape, Distinct, PlaceOk, names-kept, free-ok, shape-same, shape-join}
@@ -130,9 +130,10 @@ tidy-close b p n can g =
     room false = omega (arith, g .shape .spent, below-one held (b .held) 17 k (omega (arith, class-le (at b p .share))) (λ j e. upd-other (b .held) k (b .held k + at b p .share) j e), upd-same (b .held) k (b .held k + at b p .share))
 
 pub tidy-serve : (b : Board) → Tidy b → Tidy (serve b .next)
+unfolding send
 tidy-serve b g = serve-turns b (λ u. Tidy (u .next))
     (λ code u. g)
-    (λ p e. tidy-send false b p e g)
+    (λ p e. tidy-send b p e g)
     (λ r m. tidy-sent b r (m .slot) (least-of b r (m .least)) (m .soon) g)
 
 -- EVERY CALL
