@@ -14,9 +14,9 @@ use Rattle.rules.specs.Board
 use Rattle.rules.specs.Board.{Place, freePlace, at, waits, out, spent}
 use Rattle.rules.specs.Spoilt.{isQueued}
 use Rattle.rules.specs.Choice.{Turn, whereIs, numberOutside, noneHas, someHas, goOn}
-use Rattle.rules.specs.Blocks.{opened, freeAt, shareOutside, allTaken, overFree, openBlock, renameBlock, closed, closeBlock}
+use Rattle.rules.specs.Blocks.{opening, opened, freeAt, shareOutside, allTaken, overFree, openBlock, renameBlock, closed, closeBlock}
 use Rattle.rules.specs.Calls.{open!, rename!, close!, step, one, done! }
-use Rattle.rules.proofs.Cases.{or-right, in-range, free-found, CanClose, can-close}
+use Rattle.rules.proofs.Cases.{or-right, in-range, some-in, free-found, CanClose, can-close}
 use Rattle.rules.proofs.Calls.{in-places, empty-out}
 use Rattle.board.specs.declared.Board as struct
 use Rattle.board.specs.declared.Reply.{Reply}
@@ -28,7 +28,7 @@ use Rattle.board.proofs.Fields.{share-is, count-at}
 use Rattle.board.proofs.Bounds.{bought, within, held-most}
 use Rattle.board.proofs.Agrees.{turned, agrees, by-spelling}
 use Rattle.finding.proofs.Finding.{not-zeroth, free-is, none-is, free-le, unknown-is, found-is, taken-number}
-use Rattle.blocks.specs.Blocks.{Renaming, renaming, renamedIn, withRenaming, totalOf, Opening, opening, openedIn, withOpening, heldWith, Closing, closing, closedIn, withClosing, CloseNeeds}
+use Rattle.blocks.specs.Blocks.{Renaming, renaming, renamedIn, withRenaming, totalOf, AfterOpening, afterOpening, openedIn, withOpening, heldWith, Closing, closing, closedIn, withClosing, CloseNeeds}
 use Rattle.blocks.proofs.Sums.{total-map, total-tab}
 use Rattle.blocks.proofs.Blocks.{rename-is, open-is, close-is, quiet-active}
 
@@ -44,8 +44,8 @@ module _ (m : Board.Board) (f : Fit m) where
       go (inl h) = leb-yes 65537 (spent m + s) (omega arith) ∙ sym (leb-yes (suc (65536 - spent m)) s (omega arith))
       go (inr h) = leb-no 65537 (spent m + s) (omega arith) ∙ sym (leb-no (suc (65536 - spent m)) s (omega arith))
 
-  inside : (p : ℕ) → leb 64 p ≡ false → p < length (m .places)
-  inside p e = omega (arith, false-lt 64 p e, f .tidy .shape .all64)
+  inside : (p : ℕ) → p < 64 → p < length (m .places)
+  inside p h = omega (arith, f .tidy .shape .all64)
 
 -- ---- RENAME
 module _ (m : Board.Board) (f : Fit m) (ids lens : List ℕ) (old new : ℕ) where
@@ -65,32 +65,32 @@ module _ (m : Board.Board) (f : Fit m) (ids lens : List ℕ) (old new : ℕ) whe
       agrees renamedTo by-rename m _ (noneHas m old) 6 _ _ _ (unknown-is m f old) refl λ e6.
       agrees renamedTo by-rename m _ (someHas m new) 5 _ _ _ (taken-number m f new (λ q. true≢false (sym (eq-eqb new 0 q) ∙ e4))) refl λ e5.
       ap (λ (i : ℕ). renamedTo (renaming 0 (set numbers i new))) (found-is m f old e6)
-      ∙ ap (λ (c : struct.Board). returned (replied 0 c) ids lens) (rename-is m (f .tidy) (whereIs m old) (inside m f (whereIs m old) e6) new)
+      ∙ ap (λ (c : struct.Board). returned (replied 0 c) ids lens) (rename-is m (f .tidy) (whereIs m old) (inside m f (whereIs m old) (some-in m old e6)) new)
 
 -- ---- OPEN
 module _ (m : Board.Board) (f : Fit m) (ids lens : List ℕ) (n s : ℕ) where
-  abbrev openedTo : Opening → Returned Reply
+  abbrev openedTo : AfterOpening → Returned Reply
   openedTo x = returned (replied (x .code) (withOpening (encode m) x)) ids lens
 
-  abbrev openedAt : ℕ → Opening
-  openedAt i = opening 0 (set (encode m .numbers) i n) (set (encode m .shares) i s)
+  abbrev openedAt : ℕ → AfterOpening
+  openedAt i = afterOpening 0 (set (encode m .numbers) i n) (set (encode m .shares) i s)
 
   abbrev by-open : Turn → Returned Reply
-  by-open = turned (encode m) ids lens m (open! n s)
+  by-open = turned (encode m) ids lens m (open! (opening n s))
 
-  opened-at : leb 64 (freeAt m) ≡ false → withOpening (encode m) (openedAt (freeAt m)) ≡ encode (goOn m (freeAt m) (opened n s))
+  opened-at : leb 64 (freeAt m) ≡ false → withOpening (encode m) (openedAt (freeAt m)) ≡ encode (goOn m (freeAt m) (opened (opening n s)))
   opened-at e = go (f .tidy .shape .placeOk p .named)
     where
       p : ℕ
       p = freeAt m
 
-      go : (at m p ≡ freePlace) ⊎ ((1 ≤ at m p .number) × (1 ≤ at m p .share)) → withOpening (encode m) (openedAt p) ≡ encode (goOn m p (opened n s))
+      go : (at m p ≡ freePlace) ⊎ ((1 ≤ at m p .number) × (1 ≤ at m p .share)) → withOpening (encode m) (openedAt p) ≡ encode (goOn m p (opened (opening n s)))
       go (inl q) =
-          open-is m (f .tidy) p (inside m f p e) (ap (λ (y : Place). y .stand) q) (ap (λ (y : Place). length (y .lane)) q)
-          (ap (λ (y : Place). y .deficit) q) n s (ap (λ (y : Place). y .start) q)
+          open-is m (f .tidy) p (inside m f p (false-lt 64 p e)) (ap (λ (y : Place). y .stand) q) (ap (λ (y : Place). length (y .lane)) q)
+          (ap (λ (y : Place). y .deficit) q) (opening n s) (ap (λ (y : Place). y .start) q)
       go (inr h) = absurd (omega (arith, free-found m (false-lt 64 (freeAt m) e)))
 
-  pub opened-is : openedTo (openedIn (encode m .numbers) (encode m .shares) (encode m .held) n s) ≡ written (encode m) ids lens (done! m (one (open! n s)))
+  pub opened-is : openedTo (openedIn (encode m .numbers) (encode m .shares) (encode m .held) n s) ≡ written (encode m) ids lens (done! m (one (open! (opening n s))))
   unfolding openedIn step openBlock
   opened-is =
       agrees openedTo by-open m _ (numberOutside n || shareOutside s) 4 _ _ _ refl refl λ e4.
@@ -148,8 +148,8 @@ module _ (b : struct.Board) (ids lens : List ℕ) (k : Known b ids lens) where
   pub rename-known : (old new : ℕ) (x : Renaming) → x ≡ renamedIn (b .numbers) old new → returned (replied (x .code) (withRenaming b x)) ids lens ≡ ruled b ids lens (rename! old new)
   rename-known old new x e = rw e (by-spelling b ids lens k (rename! old new) (λ c. returned (replied (renamedIn (c .numbers) old new .code) (withRenaming c (renamedIn (c .numbers) old new))) ids lens) (renamed-is m f ids lens old new))
 
-  pub open-known : (n s : ℕ) (x : Opening) → x ≡ openedIn (b .numbers) (b .shares) (b .held) n s → returned (replied (x .code) (withOpening b x)) ids lens ≡ ruled b ids lens (open! n s)
-  open-known n s x e = rw e (by-spelling b ids lens k (open! n s) (λ c. let x = openedIn (c .numbers) (c .shares) (c .held) n s in returned (replied (x .code) (withOpening c x)) ids lens) (opened-is m f ids lens n s))
+  pub open-known : (n s : ℕ) (x : AfterOpening) → x ≡ openedIn (b .numbers) (b .shares) (b .held) n s → returned (replied (x .code) (withOpening b x)) ids lens ≡ ruled b ids lens (open! (opening n s))
+  open-known n s x e = rw e (by-spelling b ids lens k (open! (opening n s)) (λ c. let x = openedIn (c .numbers) (c .shares) (c .held) n s in returned (replied (x .code) (withOpening c x)) ids lens) (opened-is m f ids lens n s))
 
   pub close-known : (n : ℕ) (x : Closing) → x ≡ closedIn (b .active) (b .numbers) (b .shares) (b .starts) (b .counts) (b .held) n → returned (replied (x .code) (withClosing b x)) ids lens ≡ ruled b ids lens (close! n)
   close-known n x e = rw e (by-spelling b ids lens k (close! n) (λ c. let x = closedIn (c .active) (c .numbers) (c .shares) (c .starts) (c .counts) (c .held) n in returned (replied (x .code) (withClosing c x)) ids lens) (closed-is m f ids lens n))

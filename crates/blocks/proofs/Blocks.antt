@@ -19,7 +19,7 @@ use Rattle.units.proofs.Classes.{class-le}
 use Rattle.rules.specs.Board
 use Rattle.rules.specs.Board.{out, Place, freePlace, at, blockClass, waits, someWait, anyWaits, dueBy}
 use Rattle.rules.specs.Choice.{upd, goOn}
-use Rattle.rules.specs.Blocks.{opened, renamed, quiet, closed}
+use Rattle.rules.specs.Blocks.{Opening, opened, renamed, quiet, closed}
 use Rattle.rules.specs.Spoilt.{isQueued, isServing, readyNum, count}
 use Rattle.rules.proofs.Orders.{pl, map-set, upd-same, upd-other}
 use Rattle.rules.proofs.Shape.{listed-out}
@@ -112,8 +112,12 @@ module _ (m : Board.Board) (g : Tidy m) (p : ℕ) (inL : p < length (m .places))
     start-kept z = ap (set (map (λ (w : Place). w .start) l) p) (sym (List·getD-map (λ (w : Place). w .start) l p freePlace ∙ z)) ∙ set-getD (map (λ (w : Place). w .start) l) p 0
 
     -- OPEN
-    pub open-is : (n s : ℕ) → at m p .start ≡ 0 → withBlocks (encode m) (set (encode m .numbers) p n) (set (encode m .shares) p s) (encode m .starts) (encode m .held) ≡ encode (goOn m p (opened n s))
-    open-is n s z = ap (λ (st : List ℕ). withBlocks (encode m) (set (encode m .numbers) p n) (set (encode m .shares) p s) st (encode m .held)) (sym (start-kept z)) ∙ idle-is n s 0 (m .held) (encode m .held) (held-of m)
+    pub open-is : (o : Opening) → at m p .start ≡ 0
+        → withBlocks (encode m) (set (encode m .numbers) p (o .number)) (set (encode m .shares) p (o .share)) (encode m .starts) (encode m .held)
+        ≡ encode (goOn m p (opened o))
+    open-is o z =
+        ap (λ (st : List ℕ). withBlocks (encode m) (set (encode m .numbers) p (o .number)) (set (encode m .shares) p (o .share)) st (encode m .held)) (sym (start-kept z))
+        ∙ idle-is (o .number) (o .share) 0 (m .held) (encode m .held) (held-of m)
 
     -- CLOSE: the share is held, unless nobody waits
     abbrev H : Bool → ℕ → ℕ

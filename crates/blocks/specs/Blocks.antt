@@ -36,24 +36,24 @@ withRenaming b r = withBlocks b (r .numbers) (b .shares) (b .starts) (b .held)
 unfoldable pub totalOf : List ℕ → ℕ
 totalOf l = below (λ i. getD l i 0) (length l)
 
-pub record Opening : Type 0 where
+pub record AfterOpening : Type 0 where
   pub code : ℕ
   pub numbers : List ℕ
   pub shares : List ℕ
 
-abbrev pub opening : ℕ → List ℕ → List ℕ → Opening
-opening code numbers shares = record { code = code; numbers = numbers; shares = shares }
+abbrev pub afterOpening : ℕ → List ℕ → List ℕ → AfterOpening
+afterOpening code numbers shares = record { code = code; numbers = numbers; shares = shares }
 
-unfoldable pub openedIn : List ℕ → List ℕ → List ℕ → ℕ → ℕ → Opening
+unfoldable pub openedIn : List ℕ → List ℕ → List ℕ → ℕ → ℕ → AfterOpening
 openedIn numbers shares held n s =
     let p = foundIn numbers 0 in
-    cond (eqb n 0 || (eqb s 0 || ltb 65536 s)) (opening 4 numbers shares)
-    (cond (not (eqb (foundIn numbers n) 64)) (opening 5 numbers shares)
-    (cond (eqb p 64) (opening 7 numbers shares)
-    (cond (ltb 65536 (totalOf shares + totalOf held + s)) (opening 8 numbers shares)
-    (opening 0 (set numbers p n) (set shares p s)))))
+    cond (eqb n 0 || (eqb s 0 || ltb 65536 s)) (afterOpening 4 numbers shares)
+    (cond (not (eqb (foundIn numbers n) 64)) (afterOpening 5 numbers shares)
+    (cond (eqb p 64) (afterOpening 7 numbers shares)
+    (cond (ltb 65536 (totalOf shares + totalOf held + s)) (afterOpening 8 numbers shares)
+    (afterOpening 0 (set numbers p n) (set shares p s)))))
 
-abbrev pub withOpening : Board → Opening → Board
+abbrev pub withOpening : Board → AfterOpening → Board
 withOpening b o = withBlocks b (o .numbers) (o .shares) (b .starts) (b .held)
 
 -- ---- CLOSE

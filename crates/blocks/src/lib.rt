@@ -4,7 +4,7 @@ ghost use Prim.Native.Nat.{ℕ, _+_, _-_, _*_, _^_, _<_, _≤_};
 ghost use lib.ListN.{length, getD};
 ghost use Rattle.rules.specs.Board.{fresh};
 ghost use Rattle.board.specs.Reading.{encode};
-ghost use Rattle.blocks.specs.Blocks.{renaming, renamedIn, totalOf, opening, openedIn, heldWith, closing, closedIn, CloseNeeds};
+ghost use Rattle.blocks.specs.Blocks.{renaming, renamedIn, totalOf, afterOpening, openedIn, heldWith, closing, closedIn, CloseNeeds};
 use board::Board;
 use numbers::CLASSES;
 use numbers::GREATEST_SHARE;
@@ -59,7 +59,7 @@ pub fn open_in(
     shares: &mut [u32; PLACES],
     held: &[u32; CLASSES],
 ) -> u8
-    ensures { λ r. ⌜ opening r (now (numbers .exit)) (now (shares .exit)) ≡ openedIn (now (numbers .entry)) (now (shares .entry)) (now (held .entry)) block share ⌝ }
+    ensures { λ r. ⌜ afterOpening r (now (numbers .exit)) (now (shares .exit)) ≡ openedIn (now (numbers .entry)) (now (shares .entry)) (now (held .entry)) block share ⌝ }
 {
     if finding::outside(block, share, GREATEST_SHARE) {
         return codes::OUT_OF_RANGE;

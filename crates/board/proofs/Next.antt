@@ -110,7 +110,7 @@ fit-step : (m : Board.Board) (x : Single) → Fit m → Fit (step m x .next)
 fit-step m x f = record { tidy = tidy-step m x (f .tidy); classes = seventeen-step m x (f .classes) }
 
 no-writes : (x : Single) (code : ℕ) → writes x (refused code) ≡ kept
-no-writes (open! n s) code = refl
+no-writes (open! o) code = refl
 no-writes (rename! old new) code = refl
 no-writes (close! n) code = refl
 no-writes (record! n r) code = refl
@@ -137,7 +137,7 @@ module _ (b : struct.Board) (ids lens : List ℕ) (k : Known b ids lens) where
   unfolding closed
   cases = record {
     refused = λ x code r fit e. rw (no-writes x code, refusal-not0 code r) (record { code = refl; same = λ ne. refl; reads = refl; good = k });
-    opens = λ n s can fit e. next-good _ ids lens refl fit (holds-idle m ids lens f holds (freeAt m) (can .inside) (opened n s) refl) (k .ids-all) (k .lens-all);
+    opens = λ o can fit e. next-good _ ids lens refl fit (holds-idle m ids lens f holds (freeAt m) (can .inside) (opened o) refl) (k .ids-all) (k .lens-all);
     renames = λ p old new can fit e. next-good _ ids lens refl fit (holds-renamed m ids lens f holds p (can .has .inside) new) (k .ids-all) (k .lens-all);
     closes = λ p n can fit e. next-good _ ids lens refl fit (holds-idle m ids lens f holds p (can .has .inside) freePlace refl) (k .ids-all) (k .lens-all);
     takes = λ p n r can fit e. next-good _ _ _ refl fit (holds-taken m ids lens f holds p (can .has .inside) r (can .room) (k .ids-all) (k .lens-all)) (length-set ids _ (r .number) ∙ k .ids-all) (length-set lens _ (r .bytes) ∙ k .lens-all);

@@ -56,10 +56,13 @@ module _ (b : struct.Board) (ids lens : List ℕ) (known : Known b ids lens) whe
         go : Stops m bytes 1 w ⊎ Goes m ids lens bytes 1 w
             → _≡_ {A = Served} (record { code = 0; block = getD (b .numbers) (w .step .place) 0; number = getD ids (w .step .entry) 0; length = getD lens (w .step .entry) 0; clock = w .step .time; board = n }) (goodServe b ids lens)
         go (inl s) = absurd (s .code z)
-        go (inr g) = rw (g .out) (λ j. record { code = 0; block = block j; number = g .number-is j; length = g .bytes-is j; clock = w .step .time; board = (n-is ∙ after-is b ids lens known w (g .next)) j })
+        go (inr g) = rw (g .out) (λ j. record { code = 0; block = block j; number = g .number-is j; length = g .bytes-is j; clock = g .clock-is j; board = (n-is ∙ after-is b ids lens known w (g .next)) j })
           where
-            block : getD (b .numbers) (w .step .place) 0 ≡ at m (w .step .place) .number
-            block = ap (λ (c : struct.Board). getD (c .numbers) (w .step .place) 0) (sym (spells b ids lens known)) ∙ number-is m (w .step .place)
+            block : getD (b .numbers) (w .step .place) 0 ≡ at m (g .sends .place) .number
+            block =
+                ap (λ (c : struct.Board). getD (c .numbers) (w .step .place) 0) (sym (spells b ids lens known))
+                ∙ number-is m (w .step .place)
+                ∙ ap (λ (p : ℕ). at m p .number) (g .place-is)
 
   -- AFTER A SERVE the board is not spoilt, and reads as the rules' next board
   pub serve-known : Known (goodServe b ids lens .board) ids lens × (view (goodServe b ids lens .board) ids lens ≡ serve m .next)
@@ -68,7 +71,7 @@ module _ (b : struct.Board) (ids lens : List ℕ) (known : Known b ids lens) whe
     where
       go : (o : Out) → serve m .out ≡ o → ByAnswer m ids lens o (serve m .next) → Known (goodServe b ids lens .board) ids lens × (view (goodServe b ids lens .board) ids lens ≡ serve m .next)
       go (refused code) e w = rw e (known, sym (w .stays))
-      go (sent p r t) e w = rw e (known-next b ids lens known (w .holds), view-encode (serve m .next) ids lens (fit-serve m (fit b ids lens known)) (w .holds))
+      go (sent s) e w = rw e (known-next b ids lens known (w .holds), view-encode (serve m .next) ids lens (fit-serve m (fit b ids lens known)) (w .holds))
 
 -- ---- A burst under way: count records are sent, and total bytes; the rest is a burst of the rules
 abbrev then : ℕ → ℕ → List ℕ → Burst → BurstOutcome
@@ -161,7 +164,7 @@ module _ (b : struct.Board) (ids lens : List ℕ) (known : Known b ids lens) (by
 
     pub burst-on : burstFrom b ids lens bytes count total list ≡ burstFrom (withEngine b (engineAfter w)) ids lens bytes (count + 1) (total + w .step .bytes .0) (set list count (getD ids (w .step .entry) 0))
     unfolding burstFrom
-    burst-on = ap (then count total list) (goes .burst-is) ∙ sent-first bytes count total list (goes .sends) on-room (serve mb .next) (view (withEngine b (engineAfter w)) ids lens) (w .step .bytes .0) (getD ids (w .step .entry) 0) view-is (goes .charge-is) (goes .number-is)
+    burst-on = ap (then count total list) (goes .burst-is) ∙ sent-first bytes count total list (goes .sends .front) on-room (serve mb .next) (view (withEngine b (engineAfter w)) ids lens) (w .step .bytes .0) (getD ids (w .step .entry) 0) view-is (goes .charge-is) (goes .number-is)
 
 -- so many serves leave a board whose lanes the tables hold
 burst-kept : (room bytes : ℕ) (m : Board.Board) (ids lens : List ℕ) → Fit m → Holds m ids lens → Fit (burst m bytes room .next) × Holds (burst m bytes room .next) ids lens
@@ -172,7 +175,7 @@ burst-kept zero bytes m ids lens f h = go (serve m .out)
     go (refused code) = (f, h)
     go done = (f, h)
     go (taken a) = (f, h)
-    go (sent p r t) = (f, h)
+    go (sent s) = (f, h)
 burst-kept (suc room) bytes m ids lens f h = go (serve m .out) (serve-by m f ids lens h) (λ x. burst-kept room (bytes - chargeNext (serve m .out)) (serve m .next) ids lens (fit-serve m f) x)
   where
     rest : Burst
@@ -184,7 +187,7 @@ burst-kept (suc room) bytes m ids lens f h = go (serve m .out) (serve-by m f ids
 
     go : (o : Out) → ByAnswer m ids lens o (serve m .next) → (Holds (serve m .next) ids lens → Fit (rest .next) × Holds (rest .next) ids lens) → Fit (withRoom m bytes o rest .next) × Holds (withRoom m bytes o rest .next) ids lens
     go (refused code) w k = (f, h)
-    go (sent p r t) w k = either (ltb bytes (charge r)) r (k (w .holds))
+    go (sent s) w k = either (ltb bytes (charge (s .front))) (s .front) (k (w .holds))
 
 -- AFTER A BURST the board is not spoilt, and reads as the rules' next board
 pub burst-known : (b : struct.Board) (ids lens : List ℕ) (bytes : ℕ) (list : List ℕ) → Known b ids lens

@@ -1,6 +1,7 @@
 // The calls of the box, on a board by value and the two lent tables.
 ghost use mathlib.Core.Path.{_≡_};
 ghost use lib.ListN.{length, replicate};
+ghost use Rattle.rules.specs.Blocks.{opening};
 ghost use Rattle.rules.specs.Calls.{open!, rename!, close!, record! };
 ghost use Rattle.board.specs.Memory.{withEngine};
 ghost use Rattle.serving.specs.Serving.{withinNow, engineAfter};
@@ -114,7 +115,7 @@ fn open_block(ids: &[u32], lens: &[u16], block: u32, share: u32, b: Board) -> Re
     requires { ⌜ Known b (now ids) (now lens) ⌝ }
     ensures { λ r. ⌜
         returned r (now (ids .exit)) (now (lens .exit))
-        ≡ ruled b (now (ids .entry)) (now (lens .entry)) (open! block share) ⌝ }
+        ≡ ruled b (now (ids .entry)) (now (lens .entry)) (open! (opening block share)) ⌝ }
 {
     let held = b.held;
     let mut numbers = b.numbers;
@@ -348,7 +349,7 @@ fn burst_board(bytes: Bytes, list: &mut [u32], ids: &[u32], lens: &[u16], b: Boa
 pub fn open(ids: &[u32], lens: &[u16], block: u32, share: u32, b: Board) -> Reply
     ensures { λ r. ⌜
         returned r (now (ids .exit)) (now (lens .exit))
-        ≡ called b (now (ids .entry)) (now (lens .entry)) (open! block share) ⌝ }
+        ≡ called b (now (ids .entry)) (now (lens .entry)) (open! (opening block share)) ⌝ }
 {
     let code = spoilt::early(ids, lens, b);
     if code != codes::DONE {

@@ -48,7 +48,7 @@ reply-told : (m : Board.Board) → Tidy m → (x : Single) → Tells m x (step m
 unfolding send
 reply-told m t = call-cases m t (Tells m) (record {
   refused = λ x code n e r c. rw (c, refusal-not0 code n) (no-record x code);
-  opens = λ n s can e r c. rw c;
+  opens = λ o can e r c. rw c;
   renames = λ p old new can e r c. rw c;
   closes = λ p n can e r c. rw c;
   takes = λ p n x can e r c. rw c;
@@ -57,7 +57,7 @@ reply-told m t = call-cases m t (Tells m) (record {
 })
   where
     no-record : (x : Single) (code : ℕ) → cond (isRecord x && false) (takes (record { code = 0 })) (gives code) ≡ gives code
-    no-record (open! n s) code = refl
+    no-record (open! o) code = refl
     no-record (rename! old new) code = refl
     no-record (close! n) code = refl
     no-record (record! n r) code = refl
@@ -74,7 +74,7 @@ served-told b m = go (serve m .out) (serve-codes m)
     go (refused code) e = rw (refusal code e)
     go done e = absurd e
     go (taken a) e = absurd e
-    go (sent p r t) e = refl
+    go (sent s) e = refl
 
 burst-told : (b : struct.Board) (ids lens : List ℕ) (bytes : ℕ) (list : List ℕ) → burstTells (goodBurst b ids lens bytes list .answer) ≡ done! (view b ids lens) (burst! bytes list) .answer
 unfolding goodBurst

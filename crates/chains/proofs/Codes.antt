@@ -16,14 +16,14 @@ use Rattle.rules.specs.Board
 use Rattle.rules.specs.Board.{tableLength, Record, Stand, out, queued, serving, at, depth, waits, spent, Has}
 use Rattle.rules.specs.Choice.{Out, refused, done, taken, sent, Turn, refuse, whereIs, numberOutside, noneHas, someHas, lengthOutside, laneFull, takeRecord}
 use Rattle.rules.specs.Choice.{isNone, leastReady, send, serve}
-use Rattle.rules.specs.Blocks.{shareOutside, allTaken, overFree, openBlock, renameBlock, closeBlock}
+use Rattle.rules.specs.Blocks.{Opening, shareOutside, allTaken, overFree, openBlock, renameBlock, closeBlock}
 use Rattle.rules.specs.Spoilt.{isQueued, readyNum, unspoilt}
 use Rattle.rules.specs.Calls.{Single, open!, rename!, close!, record!, serve!, step, Call, one, burst!, told, codeOf}
 use Rattle.rules.specs.Calls.{Outcome, wrongTables, done!, refusedBy, unlessSpoilt, byBoard, byTables, call, makeBy, make}
 use Rattle.rules.specs.Burst.{Burst, burst}
 use Rattle.rules.specs.Runs.{answer}
 use Rattle.rules.specs.Promises.{serves, Stopped, byCall, byList, byBytes}
-use Rattle.rules.proofs.Cases.{Unserved, nobody, late, Begins, Refusal, where-has, least-of, serve-cases}
+use Rattle.rules.proofs.Cases.{Unserved, nobody, late, Begins, Refusal, some-in, where-has, least-of, serve-cases}
 use Rattle.rules.proofs.Exact.{found-decides, unknown-decides, taken-decides, free-decides, waits-decides, none-wait}
 use Rattle.rules.proofs.Names.{has-where}
 use Rattle.rules.proofs.Shape.{LeastIs, queued-ok}
@@ -120,7 +120,7 @@ module _ (m : Board.Board) (g : Tidy m) where
   -- a test of the place that is found decides the fact of the place that has the number
   at-found : (n : ℕ) {t : Bool} (P : ℕ → Type 0) → noneHas m n ≡ false → Decides t (P (whereIs m n)) → Decides t ((p : ℕ) × Has m p n × P p)
   at-found n P e d = record {
-    yes = λ h. (whereIs m n, where-has m n (false-lt 64 (whereIs m n) e), d .yes h);
+    yes = λ h. (whereIs m n, where-has m n (some-in m n e), d .yes h);
     no = λ w. d .no (subst P (sym (has-where m (w .0) n g (w .1))) (w .2));
   }
 
@@ -130,9 +130,11 @@ module _ (m : Board.Board) (g : Tidy m) where
 
   -- ---- the calls that look for a number
 
-  open-falls : (n share : ℕ) → Falls (codeBy m (step m (open! n share))) (openLines m n share)
+  open-falls : (o : Opening) → Falls (codeBy m (step m (open! o))) (openLines m o)
   unfolding step openBlock
-  open-falls n share =
+  open-falls o =
+      let n = o .number in
+      let share = o .share in
       falls-check m (numberOutside n || shareOutside share) 4 _ _ (d-or (d-eqb n 0) (d-or (d-eqb share 0) (d-leb (suc 65536) share))) λ e4.
       falls-check m (someHas m n) 5 _ _ (found-decides m n) λ e5.
       falls-check m (allTaken m) 7 _ _ (taken-decides m) λ e7.
@@ -291,7 +293,7 @@ module _ (b : struct.Board) (ids lens : List ℕ) where
       code-is (refused k) e = refl
       code-is done e = absurd e
       code-is (taken a) e = absurd e
-      code-is (sent p x t) e = refl
+      code-is (sent s) e = refl
 
   called-burst : (bytes : ℕ) (list : List ℕ)
       → let w = calledBurst b ids lens bytes list in
@@ -337,8 +339,8 @@ pub codes-exact : Codes
 unfolding absent apart
 codes-exact = record {
   making = λ ids lens L. exactly _ (makeLines ids lens L) refl (make-falls ids lens L);
-  opening = λ b ids lens n share. let own = openLines (view b ids lens) n share in
-      exactly _ (lentLines b ids lens own) refl (single-falls b ids lens (open! n share) own (λ g. open-falls (view b ids lens) g n share));
+  opening = λ b ids lens o. let own = openLines (view b ids lens) o in
+      exactly _ (lentLines b ids lens own) refl (single-falls b ids lens (open! o) own (λ g. open-falls (view b ids lens) g o));
   closing = λ b ids lens n. let own = closeLines (view b ids lens) n in
       exactly _ (lentLines b ids lens own) refl (single-falls b ids lens (close! n) own (λ g. close-falls (view b ids lens) g n));
   renaming = λ b ids lens old new. let own = renameLines (view b ids lens) old new in

@@ -13,8 +13,8 @@ use Rattle.units.specs.Classes.{Start, classOf}
 use Rattle.units.specs.Credit.{largestCharge}
 use Rattle.rules.specs.Board
 use Rattle.rules.specs.Board.{Place, freePlace, at, waits, someWait, fresh, Has}
-use Rattle.rules.specs.Choice.{Out, refused, done, taken, sent, Turn, goOn, send}
-use Rattle.rules.specs.Blocks.{opened, freeAt}
+use Rattle.rules.specs.Choice.{Out, refused, done, taken, Sending, sent, Turn, goOn, send}
+use Rattle.rules.specs.Blocks.{Opening, opened, freeAt}
 use Rattle.rules.specs.Burst.{Burst, burst}
 use Rattle.rules.specs.Calls.{Single, open!, rename!, close!, record!, serve!, step, Call, one, burst!, Sent, Answer, gives, takes, sends, bursts, told, codeOf, make}
 use Rattle.rules.specs.Runs
@@ -86,7 +86,7 @@ seat-story share st b p (x ∷ xs) g s = seat-story share (tells (st .closed) st
 
 -- an opening that is done gives it one
 abbrev OpenedBy : Board.Board → Single → Turn → Type 0
-OpenedBy b (open! n s) t = codeOf (told b (t .out)) ≡ 0 → (p : ℕ) × Seat s (begins n) (t .next) p
+OpenedBy b (open! o) t = codeOf (told b (t .out)) ≡ 0 → (p : ℕ) × Seat (o .share) (begins (o .number)) (t .next) p
 OpenedBy b (rename! old new) t = Unit {0}
 OpenedBy b (close! n) t = Unit {0}
 OpenedBy b (record! n r) t = Unit {0}
@@ -96,38 +96,37 @@ opened-by : (b : Board.Board) → Tidy b → (x : Single) → OpenedBy b x (step
 opened-by b g = call-cases b g (OpenedBy b) (record { refused = no-open; opens = opens; renames = λ p old new c. tt; closes = λ p n c. tt; takes = λ p n r c. tt; goesOn = λ p c. tt; begins = λ r t p c e. tt })
   where
     no-open : (x : Single) (code : ℕ) → Refusal code → OpenedBy b x (record { out = refused code; next = b })
-    no-open (open! n s) code r = λ e. absurd (true≢false (sym (eqb-yes code 0 e) ∙ refusal-not0 code r))
+    no-open (open! o) code r = λ e. absurd (true≢false (sym (eqb-yes code 0 e) ∙ refusal-not0 code r))
     no-open (rename! old new) code r = tt
     no-open (close! n) code r = tt
     no-open (record! n x) code r = tt
     no-open serve! code r = tt
 
-    opens : (n s : ℕ) → CanOpen b n s → OpenedBy b (open! n s) (record { out = done; next = goOn b (freeAt b) (opened n s) })
-    opens n s c e = (freeAt b, λ _. (record { inside = c .inside; bought = rw (ap (λ (x : Place). x .share) here) (c .share); named = ap (λ (x : Place). x .number) here }, ap (λ (x : Place). x .share) here))
+    opens : (o : Opening) → CanOpen b o → OpenedBy b (open! o) (record { out = done; next = goOn b (freeAt b) (opened o) })
+    opens o c e = (freeAt b, λ _. (record { inside = c .inside; bought = rw (ap (λ (x : Place). x .share) here) (c .share); named = ap (λ (x : Place). x .number) here }, ap (λ (x : Place). x .share) here))
       where
-        here : getD (set (b .places) (freeAt b) (opened n s)) (freeAt b) freePlace ≡ opened n s
-        here = getD-set-same (b .places) (freeAt b) (opened n s) freePlace (omega (arith, c .inside, g .shape .all64))
+        here : getD (set (b .places) (freeAt b) (opened o)) (freeAt b) freePlace ≡ opened o
+        here = getD-set-same (b .places) (freeAt b) (opened o) freePlace (omega (arith, c .inside, g .shape .all64))
 
 -- what is known of a block on the board b after its story
-record Lives (share : ℕ) (st : Story) (b : Board.Board) : Type 0 where
+record Lives (given : Opening) (st : Story) (b : Board.Board) : Type 0 where
   accounted : Accounted st b
-  seat : st .closed ≡ false → (p : ℕ) × Seat share st b p
+  seat : st .closed ≡ false → (p : ℕ) × Seat (given .share) st b p
 
-record Opening (L share : ℕ) (st : Story) (b : Board.Board) : Type 0 where
+record FromOpening (L : ℕ) (given : Opening) (st : Story) (b : Board.Board) : Type 0 where
   from : Board.Board
   run : OfRun L from
   tidy : Tidy from
-  n : ℕ
-  opens : codeOf (answer from (open! n share)) ≡ 0
+  opens : codeOf (answer from (open! given)) ≡ 0
   xs : List Single
-  is : b ≡ play (step from (open! n share) .next) xs
-  tale : st ≡ Runs.story (begins n) (step from (open! n share) .next) xs
+  is : b ≡ play (step from (open! given) .next) xs
+  tale : st ≡ Runs.story (begins (given .number)) (step from (open! given) .next) xs
 
-opening-lives : (L share : ℕ) (st : Story) (b : Board.Board) → Opening L share st b → Lives share st b
-opening-lives L share st b o = rw (o .is, o .tale) (record {
-  accounted = Promises.conserved-all L (o .from) (o .run) (o .n) share (o .xs) (o .opens);
-  seat = λ c. let w = opened-by (o .from) (o .tidy) (open! (o .n) share) (o .opens) in
-      (w .0, seat-story share (begins (o .n)) (step (o .from) (open! (o .n) share) .next) (w .0) (o .xs) (tidy-step (o .from) (open! (o .n) share) (o .tidy)) (w .1));
+opening-lives : (L : ℕ) (given : Opening) (st : Story) (b : Board.Board) → FromOpening L given st b → Lives given st b
+opening-lives L given st b o = rw (o .is, o .tale) (record {
+  accounted = Promises.conserved-all L (o .from) (o .run) given (o .xs) (o .opens);
+  seat = λ c. let w = opened-by (o .from) (o .tidy) (open! given) (o .opens) in
+      (w .0, seat-story (given .share) (begins (given .number)) (step (o .from) (open! given) .next) (w .0) (o .xs) (tidy-step (o .from) (open! given) (o .tidy)) (w .1));
 })
 
 -- one call more
@@ -140,63 +139,61 @@ play-more : (b : Board.Board) (xs : List Single) (x : Single) → step (play b x
 unfolding play
 play-more b xs x = play-join b xs (x ∷ [])
 
-opening-more : (L share : ℕ) (st : Story) (b : Board.Board) (x : Single) → Opening L share st b → Opening L share (tells (st .closed) st x (answer b x)) (step b x .next)
-opening-more L share st b x o = record {
+opening-more : (L : ℕ) (given : Opening) (st : Story) (b : Board.Board) (x : Single) → FromOpening L given st b → FromOpening L given (tells (st .closed) st x (answer b x)) (step b x .next)
+opening-more L given st b x o = record {
   from = o .from;
   run = o .run;
   tidy = o .tidy;
-  n = o .n;
   opens = o .opens;
   xs = o .xs ++ (x ∷ []);
-  is = ap (λ (z : Board.Board). step z x .next) (o .is) ∙ play-more (step (o .from) (open! (o .n) share) .next) (o .xs) x;
-  tale = ap₂ (λ (t : Story) (z : Board.Board). tells (t .closed) t x (answer z x)) (o .tale) (o .is) ∙ sym (story-more (begins (o .n)) (step (o .from) (open! (o .n) share) .next) (o .xs) x);
+  is = ap (λ (z : Board.Board). step z x .next) (o .is) ∙ play-more (step (o .from) (open! given) .next) (o .xs) x;
+  tale = ap₂ (λ (t : Story) (z : Board.Board). tells (t .closed) t x (answer z x)) (o .tale) (o .is) ∙ sym (story-more (begins (given .number)) (step (o .from) (open! given) .next) (o .xs) x);
 }
 
-opened-at : (L n share : ℕ) (last : Option ℕ) (o : Holding) → Opened L n share last o → At L o
-opened-at L n share last o w = at-did L (at-on L (at-made L (w .start) (w .made)) (w .row .chain)) (w .opens)
+opened-at : (L : ℕ) (given : Opening) (last : Option ℕ) (o : Holding) → Opened L given last o → At L o
+opened-at L given last o w = at-did L (at-on L (at-made L (w .start) (w .made)) (w .row .chain)) (w .opens)
 
-life-at : (L share : ℕ) (st : Story) (last : Option ℕ) (e : Holding) → Life L share st last e → At L e
-life-at L share st last e l = at-on L (opened-at L (l .number) share (l .first) (l .opening) (l .opened)) (l .row .chain)
+life-at : (L : ℕ) (given : Opening) (st : Story) (last : Option ℕ) (e : Holding) → Life L given st last e → At L e
+life-at L given st last e l = at-on L (opened-at L given (l .first) (l .opening) (l .opened)) (l .row .chain)
 
-life-opening : (L share : ℕ) (st : Story) (last : Option ℕ) (e : Holding) → Life L share st last e → Opening L share st (reads e)
-life-opening L share st last e l = record {
+life-opening : (L : ℕ) (given : Opening) (st : Story) (last : Option ℕ) (e : Holding) → Life L given st last e → FromOpening L given st (reads e)
+life-opening L given st last e l = record {
   from = reads (w .before);
   run = h .run;
   tidy = at-tidy L (w .before) h;
-  n = l .number;
   opens = ap codeOf (sym (d .told!));
   xs = l .xs;
   is = a .board ∙ ap (λ (b : Board.Board). play b (l .xs)) (d .after);
-  tale = sym (l .told!) ∙ ap (story (begins (l .number)) (l .xs)) (a .answers) ∙ story-said (begins (l .number)) (reads (l .opening)) (l .xs) ∙ ap (λ (b : Board.Board). Runs.story (begins (l .number)) b (l .xs)) (d .after);
+  tale = sym (l .told!) ∙ ap (story (begins (given .number)) (l .xs)) (a .answers) ∙ story-said (begins (given .number)) (reads (l .opening)) (l .xs) ∙ ap (λ (b : Board.Board). Runs.story (begins (given .number)) b (l .xs)) (d .after);
 }
   where
-    w : Opened L (l .number) share (l .first) (l .opening)
+    w : Opened L given (l .first) (l .opening)
     w = l .opened
 
     h : At L (w .before)
     h = at-on L (at-made L (w .start) (w .made)) (w .row .chain)
 
-    d : Agrees (w .before) (one (open! (l .number) share)) (gives 0) (l .opening)
-    d = did-agrees (w .before) (l .opening) (one (open! (l .number) share)) (gives 0) (h .good) (w .opens)
+    d : Agrees (w .before) (one (open! given)) (gives 0) (l .opening)
+    d = did-agrees (w .before) (l .opening) (one (open! given)) (gives 0) (h .good) (w .opens)
 
     a : Along (reads (l .opening)) (l .xs) (l .said) e
-    a = along (l .xs) (opened-at L (l .number) share (l .first) (l .opening) w .good) (l .row .singles)
+    a = along (l .xs) (opened-at L given (l .first) (l .opening) w .good) (l .row .singles)
 
 -- ---- demand 2
 
 pub conserved : Conserved
-conserved L share st last e l = opening-lives L share st (reads e) (life-opening L share st last e l) .accounted
+conserved L given st last e l = opening-lives L given st (reads e) (life-opening L given st last e l) .accounted
 
 -- a place that is sent from has an open block
 abbrev Named : Board.Board → Out → Type 0
 Named b (refused code) = Unit {0}
 Named b done = Unit {0}
 Named b (taken a) = Unit {0}
-Named b (sent p r t) = Has b p (at b p .number)
+Named b (sent s) = Has b (s .place) (at b (s .place) .number)
 
 named : (b : Board.Board) → Tidy b → (x : Single) → Named b (step b x .out)
 unfolding send
-named b g = call-cases b g (λ x t. Named b (t .out)) (record { refused = λ x code r. tt; opens = λ n s c. tt; renames = λ p old new c. tt; closes = λ p n c. tt; takes = λ p n r c. tt; goesOn = λ p c. record { inside = c .inside; bought = c .bought; named = refl }; begins = λ r t p c e. record { inside = c .inside; bought = c .bought; named = refl } })
+named b g = call-cases b g (λ x t. Named b (t .out)) (record { refused = λ x code r. tt; opens = λ o c. tt; renames = λ p old new c. tt; closes = λ p n c. tt; takes = λ p n r c. tt; goesOn = λ p c. record { inside = c .inside; bought = c .bought; named = refl }; begins = λ r t p c e. record { inside = c .inside; bought = c .bought; named = refl } })
 
 abbrev sentBy : Sent → Answer → Sent
 sentBy s (gives code) = s
@@ -228,8 +225,11 @@ sends-front L s f g cs told′ a made! chain d = subst (λ (z : Board.Board). la
     w : Agrees f (one serve!) (sends a) g
     w = did-agrees f g (one serve!) (sends a) (h .good) d
 
-    here : (p : ℕ) (r : Board.Record) (t : ℕ) → step b serve! .out ≡ sent p r t → Has b p (at b p .number) → laneOf b (at b p .number) ≡ r ∷ laneOf nb (at b p .number)
-    here p r t e k =
+    here : (s : Sending) → let p = s .place in
+        step b serve! .out ≡ sent s → Has b p (at b p .number) → laneOf b (at b p .number) ≡ s .front ∷ laneOf nb (at b p .number)
+    here s e k =
+        let p = s .place in
+        let r = s .front in
         has-lane b p (at b p .number) tidy k
         ∙ sym (append-nil (at b p .lane))
         ∙ flow-step b serve! tidy p
@@ -241,7 +241,7 @@ sends-front L s f g cs told′ a made! chain d = subst (λ (z : Board.Board). la
     go (refused code) e k q = absurd (true≢false (ap isSend q))
     go done e k q = absurd (true≢false (ap isSend q))
     go (taken x) e k q = absurd (true≢false (ap isSend q))
-    go (sent p r t) e k q = subst (λ (z : Sent). laneOf b (z .block) ≡ record { number = z .number; bytes = z .bytes } ∷ laneOf nb (z .block)) (sym (ap (sentBy a) q)) (here p r t e k)
+    go (sent s) e k q = subst (λ (z : Sent). laneOf b (z .block) ≡ record { number = z .number; bytes = z .bytes } ∷ laneOf nb (z .block)) (sym (ap (sentBy a) q)) (here s e k)
 
 -- ---- what was taken in and not sent stands in the lane
 
@@ -264,22 +264,22 @@ waits-in st b a ne = go (st .closed) refl
 -- ---- demand 3
 
 -- a call of a chain that brings a record to the front, as the rules tell it
-record Fronted (L share : ℕ) (b : Board.Board) (n : ℕ) (x : Single) : Type 0 where
+record Fronted (L : ℕ) (given : Opening) (b : Board.Board) (n : ℕ) (x : Single) : Type 0 where
   comes : Runs.ComesToFront b n x
-  class : classAt (step b x .next) n ≡ classOf share
+  class : classAt (step b x .next) n ≡ classOf (given .share)
 
-class-at : (share : ℕ) (st : Story) (b : Board.Board) → Tidy b → Lives share st b → st .closed ≡ false → classAt b (st .number) ≡ classOf share
-class-at share st b g l c = let w = l .seat c in let s = w .1 c in ap classOf (has-share b (w .0) (st .number) g (s .0) ∙ s .1)
+class-at : (given : Opening) (st : Story) (b : Board.Board) → Tidy b → Lives given st b → st .closed ≡ false → classAt b (st .number) ≡ classOf (given .share)
+class-at given st b g l c = let w = l .seat c in let s = w .1 c in ap classOf (has-share b (w .0) (st .number) g (s .0) ∙ s .1)
 
-fronted : (L share : ℕ) (st : Story) (b : Board.Board) (x : Single) (a : Answer) → a ≡ answer b x → Tidy b → Lives share st b → Lives share (goesOn st x (answer b x)) (step b x .next) → st .closed ≡ false
-    → ComesToFront st x a → Fronted L share b (st .number) x
-fronted L share st b x a q g l l′ c (intoEmpty r a′ i e) = record {
+fronted : (L : ℕ) (given : Opening) (st : Story) (b : Board.Board) (x : Single) (a : Answer) → a ≡ answer b x → Tidy b → Lives given st b → Lives given (goesOn st x (answer b x)) (step b x .next) → st .closed ≡ false
+    → ComesToFront st x a → Fronted L given b (st .number) x
+fronted L given st b x a q g l l′ c (intoEmpty r a′ i e) = record {
   comes = Runs.intoEmpty r (ap isDone (sym q) ∙ i) (nothing-more (st .sent) (laneOf b (st .number)) (sym e ∙ l .accounted .whenOpen c .1));
-  class = class-at share (goesOn st (record! (st .number) r) (answer b (record! (st .number) r))) (step b (record! (st .number) r) .next) (tidy-step b (record! (st .number) r) g) l′ refl;
+  class = class-at given (goesOn st (record! (st .number) r) (answer b (record! (st .number) r))) (step b (record! (st .number) r) .next) (tidy-step b (record! (st .number) r) g) l′ refl;
 }
-fronted L share st b x a q g l l′ c (nextUp a′ i ne) = record {
+fronted L given st b x a q g l l′ c (nextUp a′ i ne) = record {
   comes = Runs.nextUp sends! (waits-in (goesOn st serve! (answer b serve!)) (step b serve! .next) (l′ .accounted) some! .1);
-  class = class-at share (goesOn st serve! (answer b serve!)) (step b serve! .next) (tidy-step b serve! g) l′ refl;
+  class = class-at given (goesOn st serve! (answer b serve!)) (step b serve! .next) (tidy-step b serve! g) l′ refl;
 }
   where
     sends! : isFor (st .number) (answer b serve!) ≡ true
@@ -289,50 +289,50 @@ fronted L share st b x a q g l l′ c (nextUp a′ i ne) = record {
     some! e = ne (sym (append-nil (st .taken)) ∙ e ∙ ap (λ (t : Bool). st .sent ++ cond t (recordOf (answer b serve!)) []) sends! ∙ ap (λ (z : Answer). st .sent ++ recordOf z) (sym q))
 
 -- what a chain tells of a block, one call of it more
-record Told (L share : ℕ) (st : Story) (f : Holding) (x : Single) (a : Answer) (g : Holding) : Type 0 where
+record Told (L : ℕ) (given : Opening) (st : Story) (f : Holding) (x : Single) (a : Answer) (g : Holding) : Type 0 where
   here : At L f
-  lives : Lives share st (reads f)
-  next : Lives share (goesOn st x (answer (reads f) x)) (step (reads f) x .next)
+  lives : Lives given st (reads f)
+  next : Lives given (goesOn st x (answer (reads f) x)) (step (reads f) x .next)
   is : a ≡ answer (reads f) x
   after : reads g ≡ step (reads f) x .next
   there : At L g
 
-told-at : (L share : ℕ) (st : Story) (last : Option ℕ) (f g : Holding) (x : Single) (a : Answer) → Life L share st last f → st .closed ≡ false → Did f (one x) a g → Told L share st f x a g
-told-at L share st last f g x a l c d = record {
+told-at : (L : ℕ) (given : Opening) (st : Story) (last : Option ℕ) (f g : Holding) (x : Single) (a : Answer) → Life L given st last f → st .closed ≡ false → Did f (one x) a g → Told L given st f x a g
+told-at L given st last f g x a l c d = record {
   here = h;
-  lives = opening-lives L share st (reads f) o;
-  next = subst (λ (t : Bool). Lives share (tells t st x (answer (reads f) x)) (step (reads f) x .next)) c (opening-lives L share _ (step (reads f) x .next) (opening-more L share st (reads f) x o));
+  lives = opening-lives L given st (reads f) o;
+  next = subst (λ (t : Bool). Lives given (tells t st x (answer (reads f) x)) (step (reads f) x .next)) c (opening-lives L given _ (step (reads f) x .next) (opening-more L given st (reads f) x o));
   is = w .told!;
   after = w .after;
   there = at-did L h d;
 }
   where
     h : At L f
-    h = life-at L share st last f l
+    h = life-at L given st last f l
 
-    o : Opening L share st (reads f)
-    o = life-opening L share st last f l
+    o : FromOpening L given st (reads f)
+    o = life-opening L given st last f l
 
     w : Agrees f (one x) a g
     w = did-agrees f g (one x) a (h .good) d
 
-told-front : (L share : ℕ) (st : Story) (f g : Holding) (x : Single) (a : Answer) → Told L share st f x a g → st .closed ≡ false → ComesToFront st x a → Fronted L share (reads f) (st .number) x
-told-front L share st f g x a t c z = fronted L share st (reads f) x a (t .is) (at-tidy L f (t .here)) (t .lives) (t .next) c z
+told-front : (L : ℕ) (given : Opening) (st : Story) (f g : Holding) (x : Single) (a : Answer) → Told L given st f x a g → st .closed ≡ false → ComesToFront st x a → Fronted L given (reads f) (st .number) x
+told-front L given st f g x a t c z = fronted L given st (reads f) x a (t .is) (at-tidy L f (t .here)) (t .lives) (t .next) c z
 
 -- The byte bound, its time and the slot promises at a call of a chain, over any single calls after it: Passages has them at every moment.
-pub byte-bound-from : (L share : ℕ) (st : Story) (last : Option ℕ) (f g e : Holding) (x : Single) (a : Answer) (xs : List Single) (said : List Answer)
-    → Life L share st last f → Did f (one x) a g → Chain g (map one xs) said e → StaysInFront st x a xs said
-    → bytesIn said ≤ bound L (classOf share)
-byte-bound-from L share st last f g e x a xs said l d r s! =
+pub byte-bound-from : (L : ℕ) (given : Opening) (st : Story) (last : Option ℕ) (f g e : Holding) (x : Single) (a : Answer) (xs : List Single) (said : List Answer)
+    → Life L given st last f → Did f (one x) a g → Chain g (map one xs) said e → StaysInFront st x a xs said
+    → bytesIn said ≤ bound L (classOf (given .share))
+byte-bound-from L given st last f g e x a xs said l d r s! =
     subst (λ (k : ℕ). bytesIn said ≤ bound L k) (w .class)
     (subst (λ (n : ℕ). n ≤ bound L (classAt (step (reads f) x .next) (st .number))) (sym count)
     (Promises.byte-bound L (reads f) (t .here .run) (st .number) x xs (w .comes) unsent))
   where
-    t : Told L share st f x a g
-    t = told-at L share st last f g x a l (s! .still) d
+    t : Told L given st f x a g
+    t = told-at L given st last f g x a l (s! .still) d
 
-    w : Fronted L share (reads f) (st .number) x
-    w = told-front L share st f g x a t (s! .still) (s! .comes)
+    w : Fronted L given (reads f) (st .number) x
+    w = told-front L given st f g x a t (s! .still) (s! .comes)
 
     s : Along (reads g) xs said e
     s = along xs (t .there .good) r
@@ -345,17 +345,17 @@ byte-bound-from L share st last f g e x a xs said l d r s! =
     count : bytesIn said ≡ Runs.bytesIn (step (reads f) x .next) xs
     count = ap bytesIn (s .answers) ∙ bytes-said (reads g) xs ∙ ap (λ (b : Board.Board). Runs.bytesIn b xs) (t .after)
 
-pub sent-in-time-from : (L share : ℕ) (st : Story) (last : Option ℕ) (f g e : Holding) (x : Single) (a : Answer) (xs : List Single) (said : List Answer)
-    → Life L share st last f → Did f (one x) a g → Chain g (map one xs) said e → StaysInFront st x a xs said → NotSpent said
-    → Runs.servesIn xs ≤ bound L (classOf share)
-sent-in-time-from L share st last f g e x a xs said l d r s! v =
+pub sent-in-time-from : (L : ℕ) (given : Opening) (st : Story) (last : Option ℕ) (f g e : Holding) (x : Single) (a : Answer) (xs : List Single) (said : List Answer)
+    → Life L given st last f → Did f (one x) a g → Chain g (map one xs) said e → StaysInFront st x a xs said → NotSpent said
+    → Runs.servesIn xs ≤ bound L (classOf (given .share))
+sent-in-time-from L given st last f g e x a xs said l d r s! v =
     subst (λ (k : ℕ). Runs.servesIn xs ≤ bound L k) (w .class) (Promises.sent-in-time L (reads f) (t .here .run) (st .number) x xs (w .comes) unsent spent)
   where
-    t : Told L share st f x a g
-    t = told-at L share st last f g x a l (s! .still) d
+    t : Told L given st f x a g
+    t = told-at L given st last f g x a l (s! .still) d
 
-    w : Fronted L share (reads f) (st .number) x
-    w = told-front L share st f g x a t (s! .still) (s! .comes)
+    w : Fronted L given (reads f) (st .number) x
+    w = told-front L given st f g x a t (s! .still) (s! .comes)
 
     s : Along (reads g) xs said e
     s = along xs (t .there .good) r
@@ -380,25 +380,25 @@ some-wait (x ∷ xs) (suc p) w = rw (some-wait xs p w) (or-true (waits x))
     or-true false = refl
 
 -- a block of which not all was sent makes every serve send, or give 11
-serve-waiting : (L share : ℕ) (st : Story) (last : Option ℕ) (f : Holding) → Life L share st last f → st .closed ≡ false → st .taken ≢ st .sent
+serve-waiting : (L : ℕ) (given : Opening) (st : Story) (last : Option ℕ) (f : Holding) → Life L given st last f → st .closed ≡ false → st .taken ≢ st .sent
     → (answer (reads f) serve! ≡ gives 11) ⊎ ((s : Sent) × (answer (reads f) serve! ≡ sends s))
-serve-waiting L share st last f l c ne = Promises.serves-send L (reads f) (h .run) (some-wait (reads f .places) (w .0) waiting)
+serve-waiting L given st last f l c ne = Promises.serves-send L (reads f) (h .run) (some-wait (reads f .places) (w .0) waiting)
   where
     h : At L f
-    h = life-at L share st last f l
+    h = life-at L given st last f l
 
-    lives : Lives share st (reads f)
-    lives = opening-lives L share st (reads f) (life-opening L share st last f l)
+    lives : Lives given st (reads f)
+    lives = opening-lives L given st (reads f) (life-opening L given st last f l)
 
-    w : (p : ℕ) × Seat share st (reads f) p
+    w : (p : ℕ) × Seat (given .share) st (reads f) p
     w = lives .seat c
 
     waiting : 1 ≤ length (at (reads f) (w .0) .lane)
     waiting = subst (λ (r : List Board.Record). 1 ≤ length r) (has-lane (reads f) (w .0) (st .number) (at-tidy L f h) (w .1 c .0)) (waits-in st (reads f) (lives .accounted) ne .1)
 
 pub serves-send : ServesSend
-serves-send L share st last f g a l c ne d =
-    subst (λ (z : Answer). (z ≡ gives 11) ⊎ ((s : Sent) × (z ≡ sends s))) (sym (did-agrees f g (one serve!) a (life-at L share st last f l .good) d .told!)) (serve-waiting L share st last f l c ne)
+serves-send L given st last f g a l c ne d =
+    subst (λ (z : Answer). (z ≡ gives 11) ⊎ ((s : Sent) × (z ≡ sends s))) (sym (did-agrees f g (one serve!) a (life-at L given st last f l .good) d .told!)) (serve-waiting L given st last f l c ne)
 
 -- how many records a burst tells of
 abbrev pub countBy : Answer → ℕ
@@ -408,7 +408,7 @@ countBy (sends a) = 0
 countBy (bursts r) = r .count
 
 pub burst-sends : BurstSends
-burst-sends L share st last s f g cs told bytes list r made! chain d l c ne = go (i .stop)
+burst-sends L given st last s f g cs told bytes list r made! chain d l c ne = go (i .stop)
   where
     h : At L f
     h = at-on L (at-made L s made!) chain
@@ -430,7 +430,7 @@ burst-sends L share st last s f g cs told bytes list r made! chain d l c ne = go
     stops-by (inr (z, e)) q = absurd (false≢true (ap isSend (sym q ∙ e)))
 
     go : Promised.Stopped bytes (length list) B → (r .code ≡ 11) ⊎ (((r .code ≡ 14) × (r .count ≡ length list)) ⊎ (r .code ≡ 13))
-    go (Promised.byCall q) = inl (stops-by (serve-waiting L share st last g l c ne) (ap (λ (b : Board.Board). answer b serve!) (w .after) ∙ q))
+    go (Promised.byCall q) = inl (stops-by (serve-waiting L given st last g l c ne) (ap (λ (b : Board.Board). answer b serve!) (w .after) ∙ q))
     go (Promised.byList z q n e) = inr (inl (code ∙ e, ap countBy (w .told!) ∙ n))
     go (Promised.byBytes z q n m e) = inr (inr (code ∙ e))
 
@@ -443,10 +443,10 @@ made-fresh L s made! = chain-is-run L s s [] [] made! stops .board
 seen-same : {u v : Option ℕ} {b c : Board.Board} → u ≡ v → b ≡ c → Seen u b → Seen v c
 seen-same {v = v} {b = b} e f s = subst (Seen v) f (subst (λ (o : Option ℕ). Seen o b) e s)
 
-life-seen : (L share : ℕ) (st : Story) (last : Option ℕ) (e : Holding) → Life L share st last e → Seen last (reads e)
-life-seen L share st last e l = seen-same (ap (lastSlot (l .first)) (sym (at-end .answers)) ∙ l .latest) (sym (at-end .board)) (seen-play (l .first) (reads (l .opening)) (l .xs) (at-tidy L (l .opening) o) opening)
+life-seen : (L : ℕ) (given : Opening) (st : Story) (last : Option ℕ) (e : Holding) → Life L given st last e → Seen last (reads e)
+life-seen L given st last e l = seen-same (ap (lastSlot (l .first)) (sym (at-end .answers)) ∙ l .latest) (sym (at-end .board)) (seen-play (l .first) (reads (l .opening)) (l .xs) (at-tidy L (l .opening) o) opening)
   where
-    w : Opened L (l .number) share (l .first) (l .opening)
+    w : Opened L given (l .first) (l .opening)
     w = l .opened
 
     m : At L (w .start)
@@ -464,14 +464,14 @@ life-seen L share st last e l = seen-same (ap (lastSlot (l .first)) (sym (at-end
     a : Along (reads (w .start)) (w .xs) (w .said) (w .before)
     a = along (w .xs) (m .good) (w .row .singles)
 
-    d : Agrees (w .before) (one (open! (l .number) share)) (gives 0) (l .opening)
-    d = did-agrees (w .before) (l .opening) (one (open! (l .number) share)) (gives 0) (h .good) (w .opens)
+    d : Agrees (w .before) (one (open! given)) (gives 0) (l .opening)
+    d = did-agrees (w .before) (l .opening) (one (open! given)) (gives 0) (h .good) (w .opens)
 
     before : Seen (l .first) (reads (w .before))
     before = seen-same (ap (lastSlot none) (sym (a .answers)) ∙ w .latest) (sym (a .board)) (seen-play none (reads (w .start)) (w .xs) (at-tidy L (w .start) m) (seen-same refl (sym (made-fresh L (w .start) (w .made))) (seen-fresh L)))
 
     opening : Seen (l .first) (reads (l .opening))
-    opening = seen-same (ap (slotAfter (l .first)) (sym (d .told!))) (sym (d .after)) (seen-step (l .first) (reads (w .before)) (open! (l .number) share) (at-tidy L (w .before) h) before)
+    opening = seen-same (ap (slotAfter (l .first)) (sym (d .told!))) (sym (d .after)) (seen-step (l .first) (reads (w .before)) (open! given) (at-tidy L (w .before) h) before)
 
 pub clock-reads : (s : Holding) → reads s .clock ≡ clock s
 unfolding view
@@ -481,11 +481,11 @@ said-more : (b : Board.Board) (x : Single) (xs : List Single) (a : Answer) (said
 unfolding saidOf
 said-more b x xs a said e f = ap₂ (λ (z : Answer) (zs : List Answer). z ∷ zs) e f
 
-pub slot-once-from : (L share : ℕ) (st : Story) (last : Option ℕ) (f g e : Holding) (a : Answer) (lo : ℕ) (xs : List Single) (said : List Answer)
-    → Life L share st last f → Did f (one serve!) a g → Chain g (map one xs) said e
-    → WaitsAt (classOf share) lo st last (clock f) a (clock g) → lo + 2 ^ classOf share ≤ clock e
-    → slotsIn lo (lo + 2 ^ classOf share) (st .number) last (serve! ∷ xs) (a ∷ said) ≡ 1
-slot-once-from L share st last f g e a lo xs said l d r w h =
+pub slot-once-from : (L : ℕ) (given : Opening) (st : Story) (last : Option ℕ) (f g e : Holding) (a : Answer) (lo : ℕ) (xs : List Single) (said : List Answer)
+    → Life L given st last f → Did f (one serve!) a g → Chain g (map one xs) said e
+    → WaitsAt (classOf (given .share)) lo st last (clock f) a (clock g) → lo + 2 ^ classOf (given .share) ≤ clock e
+    → slotsIn lo (lo + 2 ^ classOf (given .share)) (st .number) last (serve! ∷ xs) (a ∷ said) ≡ 1
+slot-once-from L given st last f g e a lo xs said l d r w h =
     subst (λ (k : ℕ). slotsIn lo (lo + 2 ^ k) (st .number) last (serve! ∷ xs) (a ∷ said) ≡ 1) q
     (ap (slotsIn lo (lo + 2 ^ classAt b (st .number)) (st .number) last (serve! ∷ xs)) (said-more b serve! xs a said (t .is) (s .answers ∙ ap (λ (z : Board.Board). saidOf z xs) (t .after)))
     ∙ slots-said lo (lo + 2 ^ classAt b (st .number)) (st .number) last b (serve! ∷ xs) tidy seen
@@ -494,8 +494,8 @@ slot-once-from L share st last f g e a lo xs said l d r w h =
     b : Board.Board
     b = reads f
 
-    t : Told L share st f serve! a g
-    t = told-at L share st last f g serve! a l (w .still) d
+    t : Told L given st f serve! a g
+    t = told-at L given st last f g serve! a l (w .still) d
 
     s : Along (reads g) xs said e
     s = along xs (t .there .good) r
@@ -504,13 +504,13 @@ slot-once-from L share st last f g e a lo xs said l d r w h =
     tidy = at-tidy L f (t .here)
 
     seen : Seen last b
-    seen = life-seen L share st last f l
+    seen = life-seen L given st last f l
 
-    q : classAt b (st .number) ≡ classOf share
-    q = class-at share st b tidy (t .lives) (w .still)
+    q : classAt b (st .number) ≡ classOf (given .share)
+    q = class-at given st b tidy (t .lives) (w .still)
 
-    reached : lo + 2 ^ classOf share ≤ play (step b serve! .next) xs .clock
-    reached = subst (λ (n : ℕ). lo + 2 ^ classOf share ≤ n) (sym (clock-reads e) ∙ ap (λ (z : Board.Board). z .clock) (s .board ∙ ap (λ (z : Board.Board). play z xs) (t .after))) h
+    reached : lo + 2 ^ classOf (given .share) ≤ play (step b serve! .next) xs .clock
+    reached = subst (λ (n : ℕ). lo + 2 ^ classOf (given .share) ≤ n) (sym (clock-reads e) ∙ ap (λ (z : Board.Board). z .clock) (s .board ∙ ap (λ (z : Board.Board). play z xs) (t .after))) h
 
     still : (goesOn st serve! a .taken ≢ goesOn st serve! a .sent) ⊎ ((beginsSlot (st .number) last a ≡ true) × (lo ≤ clockOf a))
         → (1 ≤ length (laneOf (step b serve! .next) (st .number))) ⊎ ((Runs.beginsSlot (st .number) b serve! ≡ true) × (lo ≤ clockOf (answer b serve!)))
@@ -526,10 +526,10 @@ slot-once-from L share st last f g e a lo xs said l d r w h =
       after = still (w .after);
     }
 
-pub never-twice-from : (L share : ℕ) (st : Story) (last : Option ℕ) (f e : Holding) (lo : ℕ) (xs : List Single) (said : List Answer)
-    → Life L share st last f → st .closed ≡ false → Chain f (map one xs) said e → Start (classOf share) lo
-    → slotsIn lo (lo + 2 ^ classOf share) (st .number) last xs said ≤ 1
-never-twice-from L share st last f e lo xs said l c r start =
+pub never-twice-from : (L : ℕ) (given : Opening) (st : Story) (last : Option ℕ) (f e : Holding) (lo : ℕ) (xs : List Single) (said : List Answer)
+    → Life L given st last f → st .closed ≡ false → Chain f (map one xs) said e → Start (classOf (given .share)) lo
+    → slotsIn lo (lo + 2 ^ classOf (given .share)) (st .number) last xs said ≤ 1
+never-twice-from L given st last f e lo xs said l c r start =
     subst (λ (k : ℕ). slotsIn lo (lo + 2 ^ k) (st .number) last xs said ≤ 1) q
     (subst (λ (n : ℕ). n ≤ 1) (sym count)
     (Promises.never-twice L b (h .run) (st .number) (p .0) lo xs (has-find b (p .0) (st .number) tidy (p .1 c .0)) (subst (λ (k : ℕ). Start k lo) (sym q) start)))
@@ -538,19 +538,19 @@ never-twice-from L share st last f e lo xs said l c r start =
     b = reads f
 
     h : At L f
-    h = life-at L share st last f l
+    h = life-at L given st last f l
 
     tidy : Tidy b
     tidy = at-tidy L f h
 
-    lives : Lives share st b
-    lives = opening-lives L share st b (life-opening L share st last f l)
+    lives : Lives given st b
+    lives = opening-lives L given st b (life-opening L given st last f l)
 
-    p : (p : ℕ) × Seat share st b p
+    p : (p : ℕ) × Seat (given .share) st b p
     p = lives .seat c
 
-    q : classAt b (st .number) ≡ classOf share
-    q = class-at share st b tidy lives c
+    q : classAt b (st .number) ≡ classOf (given .share)
+    q = class-at given st b tidy lives c
 
     hi : ℕ
     hi = lo + 2 ^ classAt b (st .number)
@@ -558,7 +558,7 @@ never-twice-from L share st last f e lo xs said l c r start =
     count : slotsIn lo hi (st .number) last xs said ≡ Runs.slotsIn lo hi (st .number) b xs
     count =
         ap (slotsIn lo hi (st .number) last xs) (along xs (h .good) r .answers)
-        ∙ slots-said lo hi (st .number) last b xs tidy (life-seen L share st last f l)
+        ∙ slots-said lo hi (st .number) last b xs tidy (life-seen L given st last f l)
 
 pub slots-small : SlotsSmall
 slots-small L s e cs told xs said made! r t =
@@ -620,7 +620,7 @@ did-reply s x e = let w = called (s .board) (s .ids) (s .lens) x in (replyTells 
 
 -- each call can be made of any value
 pub has-did : (s : Holding) (c : Call) → (a : Answer) × (m : Holding) × Did s c a m
-has-did s (one (open! n k)) = did-reply s (open! n k) refl
+has-did s (one (open! o)) = did-reply s (open! o) refl
 has-did s (one (rename! old new)) = did-reply s (rename! old new) refl
 has-did s (one (close! n)) = did-reply s (close! n) refl
 has-did s (one (record! n r)) = did-reply s (record! n r) refl

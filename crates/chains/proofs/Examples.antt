@@ -14,7 +14,7 @@ use Rattle.units.specs.Credit.{framing, charged, largestCharge, creditOf}
 use Rattle.rules.specs.Board
 use Rattle.rules.specs.Board.{charge, firstEntry, entry, onward, someWait, anyDue, spent, fresh}
 use Rattle.rules.specs.Choice.{whereIs, upd, takenIn, takeRecord, release, leastReady, settle, ended, sendFrom, send, lowest, begin, serveBy, serve}
-use Rattle.rules.specs.Blocks.{freeAt, openBlock, renameBlock, quiet}
+use Rattle.rules.specs.Blocks.{opening, freeAt, openBlock, renameBlock, quiet}
 use Rattle.rules.specs.Burst.{burst}
 use Rattle.rules.specs.Calls.{Single, open!, rename!, record!, serve!, step, Call, one, burst!, Answer, gives, takes, sends, bursts, codeOf}
 use Rattle.rules.specs.Runs
@@ -64,7 +64,7 @@ withBurst = map one (take 7 worked) ++ (burst! 1000 (0 ∷ 0 ∷ 0 ∷ 0 ∷ 0 �
 -- with L 100: of the first burst's four records the third is block 12's; both blocks are renamed, block 11 to 12; the second burst sends a record of
 -- that one, and then the two that block 12 still has, under 13
 abbrev filling : List Single
-filling = open! 11 32768 ∷ open! 12 24576 ∷ record! 11 (rec 1 100) ∷ record! 11 (rec 2 100) ∷ record! 11 (rec 3 100) ∷ record! 11 (rec 4 100)
+filling = open! (opening 11 32768) ∷ open! (opening 12 24576) ∷ record! 11 (rec 1 100) ∷ record! 11 (rec 2 100) ∷ record! 11 (rec 3 100) ∷ record! 11 (rec 4 100)
     ∷ record! 12 (rec 5 100) ∷ record! 12 (rec 6 100) ∷ record! 12 (rec 7 100) ∷ []
 
 abbrev renaming : List Single
@@ -80,8 +80,7 @@ byBursts = map one filling ++ (burst! 1000 room ∷ (map one renaming ++ (burst!
 abbrev secondRecord : Parting
 secondRecord = record {
   first = take 1 filling;
-  number = 12;
-  share = 24576;
+  given = opening 12 24576;
   since = drop 2 filling ++ (serve! ∷ serve! ∷ []);
   at = serve!;
   during = serve! ∷ (renaming ++ (serve! ∷ []));
@@ -92,8 +91,7 @@ secondRecord = record {
 abbrev atFour : Parting
 atFour = record {
   first = take 1 filling;
-  number = 12;
-  share = 24576;
+  given = opening 12 24576;
   since = drop 2 filling ++ (serve! ∷ []);
   at = serve!;
   during = serve! ∷ serve! ∷ (renaming ++ (serve! ∷ []));
@@ -104,8 +102,7 @@ atFour = record {
 abbrev atEight : Parting
 atEight = record {
   first = [];
-  number = 11;
-  share = 32768;
+  given = opening 11 32768;
   since = drop 1 filling ++ (serve! ∷ serve! ∷ serve! ∷ serve! ∷ renaming);
   at = serve!;
   during = serve! ∷ serve! ∷ [];
@@ -116,8 +113,7 @@ atEight = record {
 abbrev fromEight : Parting
 fromEight = record {
   first = take 1 filling;
-  number = 12;
-  share = 24576;
+  given = opening 12 24576;
   since = drop 2 filling ++ (serve! ∷ serve! ∷ serve! ∷ serve! ∷ renaming);
   at = serve!;
   during = serve! ∷ serve! ∷ [];
@@ -129,7 +125,7 @@ abbrev lastInBurst : List Call
 lastInBurst = map one tight ++ (one (record! 9 (rec 5 64)) ∷ burst! 1000 (0 ∷ 0 ∷ 0 ∷ room) ∷ [])
 
 abbrev tightest : Parting
-tightest = record { first = []; number = 9; share = 32768; since = drop 1 tight; at = record! 9 (rec 5 64); during = waiting; rest = serve! ∷ [] }
+tightest = record { first = []; given = opening 9 32768; since = drop 1 tight; at = record! 9 (rec 5 64); during = waiting; rest = serve! ∷ [] }
 
 -- the renames of the rules' example, with a burst for each serve
 abbrev burstEach : List Call
@@ -140,7 +136,7 @@ burstEach = map one (take 4 renames)
 
 -- the boards of a parting: after its opening, before and after its one call, at the end of the part that lasts
 abbrev openedBy : ℕ → Parting → Board.Board
-openedBy L w = step (play (fresh L) (w .first)) (open! (w .number) (w .share)) .next
+openedBy L w = step (play (fresh L) (w .first)) (open! (w .given)) .next
 
 abbrev beforeBy : ℕ → Parting → Board.Board
 beforeBy L w = play (openedBy L w) (w .since)
@@ -209,7 +205,7 @@ heard-ruled L c w p = λ j. record {
         (along (w .first) (at-made L (c .start) (c .made) .good) (p .toOpening))
 
     opening : Single
-    opening = open! (w .number) (w .share)
+    opening = open! (w .given)
 
     opened! : reads (p .opened) ≡ openedBy L w
     opened! =
@@ -280,7 +276,7 @@ passing L cs w range q =
 -- which sends the record
 
 abbrev taleOf : Parting → Heard → Story
-taleOf w h = story (begins (w .number)) (w .since) (h .since)
+taleOf w h = story (begins (w .given .number)) (w .since) (h .since)
 
 abbrev lastBy : Heard → Option ℕ
 lastBy h = lastSlot (lastSlot none (h .first)) (h .since)
@@ -296,13 +292,13 @@ pub record Passed (w : Parting) (bytes serves : ℕ) (next : Answer) (h : Heard)
 
 pub record Reached (w : Parting) (lo : ℕ) (h : Heard) : Type 0 where
   pub serves : w .at ≡ serve!
-  pub waits : WaitsAt (classOf (w .share)) lo (taleOf w h) (lastBy h) (h .was) (h .at) (h .now)
-  pub ends : lo + 2 ^ classOf (w .share) ≤ h .then
+  pub waits : WaitsAt (classOf (w .given .share)) lo (taleOf w h) (lastBy h) (h .was) (h .at) (h .now)
+  pub ends : lo + 2 ^ classOf (w .given .share) ≤ h .then
 
 pub record Slotted (w : Parting) (lo : ℕ) (h : Heard) : Type 0 where
   pub still : taleOf w h .closed ≡ false
-  pub start : Start (classOf (w .share)) lo
-  pub slots : slotsIn lo (lo + 2 ^ classOf (w .share)) (taleOf w h .number) (lastBy h) (w .at ∷ w .during) (h .at ∷ h .during) ≡ 1
+  pub start : Start (classOf (w .given .share)) lo
+  pub slots : slotsIn lo (lo + 2 ^ classOf (w .given .share)) (taleOf w h .number) (lastBy h) (w .at ∷ w .during) (h .at ∷ h .during) ≡ 1
 
 -- ---- what the rules compute
 
@@ -321,8 +317,8 @@ record Computed : Type 0 where
   onceSlotted : Slotted fromEight 8 (ruled 100 fromEight)
   tightParts : Parts 64 lastInBurst tightest
   tightPassed : Passed tightest 382 6 (out 9 5 64 36) (ruled 64 tightest)
-  opensOne : codeOf (answer (runs (fresh 64) []) (open! 1 32768)) ≡ 0
-  burstEachRow : Runs.row (step (runs (fresh 64) []) (open! 1 32768) .next) burstEach ≡ renames
+  opensOne : codeOf (answer (runs (fresh 64) []) (open! (opening 1 32768))) ≡ 0
+  burstEachRow : Runs.row (step (runs (fresh 64) []) (open! (opening 1 32768)) .next) burstEach ≡ renames
 
 not11 : _≢_ {A = ℕ} 0 11
 not11 e = omega arith
@@ -431,9 +427,9 @@ passed-tightly = met 64 lastInBurst tightest range64 (computed .tightParts) (Pas
 -- ---- a block renamed while it is queued, while its slot is open, and again: each record left under the number of that moment, one still waits
 
 pub renamed : (last : Option ℕ) × (e : Holding)
-    × Life 64 32768 (record { number = 4; taken = rec 1 40 ∷ rec 2 20 ∷ rec 3 64 ∷ rec 4 9 ∷ []; sent = rec 1 40 ∷ rec 2 20 ∷ rec 3 64 ∷ []; closed = false }) last e
+    × Life 64 (opening 1 32768) (record { number = 4; taken = rec 1 40 ∷ rec 2 20 ∷ rec 3 64 ∷ rec 4 9 ∷ []; sent = rec 1 40 ∷ rec 2 20 ∷ rec 3 64 ∷ []; closed = false }) last e
 unfolding runs
 renamed =
-    let l = has-life 64 range64 [] 1 32768 burstEach (computed .opensOne) in
-    let tale = ap (Runs.story (begins 1) (step (fresh 64) (open! 1 32768) .next)) (computed .burstEachRow) ∙ Examples.computed .renamedStory in
-    (l .0, l .1, subst (λ (st : Story). Life 64 32768 st (l .0) (l .1)) tale (l .2))
+    let l = has-life 64 range64 [] (opening 1 32768) burstEach (computed .opensOne) in
+    let tale = ap (Runs.story (begins 1) (step (fresh 64) (open! (opening 1 32768)) .next)) (computed .burstEachRow) ∙ Examples.computed .renamedStory in
+    (l .0, l .1, subst (λ (st : Story). Life 64 (opening 1 32768) st (l .0) (l .1)) tale (l .2))

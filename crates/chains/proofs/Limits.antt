@@ -26,7 +26,7 @@ answer-in-time : (b : Board.Board) → Tidy b → (x : Single) → clockOf (answ
 unfolding send begin
 answer-in-time b g = call-cases b g (λ x u. clockOf (told b (u .out)) < 2 ^ 62) (record {
   refused = λ x code r. omega arith;
-  opens = λ n s c. omega arith;
+  opens = λ o c. omega arith;
   renames = λ p old new c. omega arith;
   closes = λ p n c. omega arith;
   takes = λ p n r c. omega arith;

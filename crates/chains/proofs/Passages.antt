@@ -84,7 +84,7 @@ has-passage L c w e q = record {
 }
   where
     opening : Single
-    opening = open! (w .number) (w .share)
+    opening = open! (w .given)
 
     p : Parted (c .start) (w .first) (opening ∷ (w .since ++ (w .at ∷ (w .during ++ w .rest)))) (c .said) (c .finish)
     p = parted (w .first) _ (subst (λ (xs : List Single). Chain (c .start) (map one xs) (c .said) (c .finish)) e (c .row .singles))
@@ -136,9 +136,8 @@ last-join last (a ∷ said) more = last-join (slotAfter last a) said more
 
 -- the life that single calls after a passage's opening make
 life-of : (L : ℕ) (c : Chained L) (w : Parting) (p : Passage L c w) (e : Holding) (xs : List Single) (said : List Answer)
-    → Chain (p .opened) (map one xs) said e → Life L (w .share) (story (begins (w .number)) xs said) (lastSlot (lastSlot none (p .firstSaid)) said) e
+    → Chain (p .opened) (map one xs) said e → Life L (w .given) (story (begins (w .given .number)) xs said) (lastSlot (lastSlot none (p .firstSaid)) said) e
 life-of L c w p e xs said chain = record {
-  number = w .number;
   first = lastSlot none (p .firstSaid);
   opening = p .opened;
   opened = record {
@@ -162,14 +161,14 @@ life-of L c w p e xs said chain = record {
   told! = refl;
 }
 
-life-then : (L : ℕ) (c : Chained L) (w : Parting) (p : Passage L c w) → Life L (w .share) (tale p) (lastOf p) (p .f)
+life-then : (L : ℕ) (c : Chained L) (w : Parting) (p : Passage L c w) → Life L (w .given) (tale p) (lastOf p) (p .f)
 life-then L c w p = life-of L c w p (p .f) (w .since) (p .sinceSaid) (p .toCall)
 
 pub passage-lives : PassageLives
 passage-lives L c w p = (
   life-then L c w p,
-  subst (λ (st : Story). Life L (w .share) st (laterLast p) (p .h)) (story-join (begins (w .number)) (w .since) xs said (p .toCall))
-      (subst (λ (last : Option ℕ). Life L (w .share) (story (begins (w .number)) (w .since ++ xs) (p .sinceSaid ++ said)) last (p .h))
+  subst (λ (st : Story). Life L (w .given) st (laterLast p) (p .h)) (story-join (begins (w .given .number)) (w .since) xs said (p .toCall))
+      (subst (λ (last : Option ℕ). Life L (w .given) (story (begins (w .given .number)) (w .since ++ xs) (p .sinceSaid ++ said)) last (p .h))
       (last-join (lastSlot none (p .firstSaid)) (p .sinceSaid) said) (life-of L c w p (p .h) (w .since ++ xs) (p .sinceSaid ++ said) on)),
 )
   where
@@ -189,36 +188,36 @@ passage-lives L c w p = (
 
 pub byte-bound : ByteBound
 byte-bound L c w p =
-    byte-bound-from L (w .share) (tale p) (lastOf p) (p .f) (p .g) (p .h) (w .at) (p .answered) (w .during) (p .duringSaid)
+    byte-bound-from L (w .given) (tale p) (lastOf p) (p .f) (p .g) (p .h) (w .at) (p .answered) (w .during) (p .duringSaid)
     (life-then L c w p) (p .did) (p .lasting)
 
 pub sent-in-time : SentInTime
 sent-in-time L c w p =
-    sent-in-time-from L (w .share) (tale p) (lastOf p) (p .f) (p .g) (p .h) (w .at) (p .answered) (w .during) (p .duringSaid)
+    sent-in-time-from L (w .given) (tale p) (lastOf p) (p .f) (p .g) (p .h) (w .at) (p .answered) (w .during) (p .duringSaid)
     (life-then L c w p) (p .did) (p .lasting)
 
 pub slot-once : SlotOnce
 slot-once L c w p lo is-serve waits ends =
     subst (λ (x : Single). slotsIn lo hi (tale p .number) (lastOf p) (x ∷ w .during) (p .answered ∷ p .duringSaid) ≡ 1) (sym is-serve)
-    (slot-once-from L (w .share) (tale p) (lastOf p) (p .f) (p .g) (p .h) (p .answered) lo (w .during) (p .duringSaid)
+    (slot-once-from L (w .given) (tale p) (lastOf p) (p .f) (p .g) (p .h) (p .answered) lo (w .during) (p .duringSaid)
     (life-then L c w p) served (p .lasting) waits ends)
   where
     hi : ℕ
-    hi = lo + 2 ^ classOf (w .share)
+    hi = lo + 2 ^ classOf (w .given .share)
 
     served : Did (p .f) (one serve!) (p .answered) (p .g)
     served = subst (λ (x : Single). Did (p .f) (one x) (p .answered) (p .g)) is-serve (p .did)
 
 pub never-twice : NeverTwice
 never-twice L c w p lo still =
-    never-twice-from L (w .share) (tale p) (lastOf p) (p .f) (p .h) lo (w .at ∷ w .during) (p .answered ∷ p .duringSaid)
+    never-twice-from L (w .given) (tale p) (lastOf p) (p .f) (p .h) lo (w .at ∷ w .during) (p .answered ∷ p .duringSaid)
     (life-then L c w p) still (goes (p .did) (p .lasting))
 
 -- ---- no promise is empty: stories with bursts
 
 -- an opening that is done is answered 0
 abbrev SaysDone : Board.Board → Single → Turn → Type 0
-SaysDone b (open! n s) t = codeOf (told b (t .out)) ≡ 0 → told b (t .out) ≡ gives 0
+SaysDone b (open! o) t = codeOf (told b (t .out)) ≡ 0 → told b (t .out) ≡ gives 0
 SaysDone b (rename! old new) t = Unit {0}
 SaysDone b (close! n) t = Unit {0}
 SaysDone b (record! n r) t = Unit {0}
@@ -227,7 +226,7 @@ SaysDone b serve! t = Unit {0}
 says-done : (b : Board.Board) → Tidy b → (x : Single) → SaysDone b x (step b x)
 says-done b g = call-cases b g (SaysDone b) (record {
   refused = says;
-  opens = λ n s c e. refl;
+  opens = λ o c e. refl;
   renames = λ p old new c. tt;
   closes = λ p n c. tt;
   takes = λ p n r c. tt;
@@ -236,7 +235,7 @@ says-done b g = call-cases b g (SaysDone b) (record {
 })
   where
     says : (x : Single) (code : ℕ) → Refusal code → SaysDone b x (record { out = refused code; next = b })
-    says (open! n s) code r = λ e. ap gives e
+    says (open! o) code r = λ e. ap gives e
     says (rename! old new) code r = tt
     says (close! n) code r = tt
     says (record! n x) code r = tt
@@ -253,25 +252,25 @@ spelt-row b (asServes bytes list r out n m rest) e =
     (spelt-row (burst b bytes (length list) .next) rest (ap (drop 1) e))
 
 pub has-life : HasLife
-has-life L range before n share after e = go (has-chain L range before)
+has-life L range before given after e = go (has-chain L range before)
   where
     b : Board.Board
     b = runs (fresh L) before
 
     o : Board.Board
-    o = step b (open! n share) .next
+    o = step b (open! given) .next
 
     go : ((s : Holding) × (told : List Answer) × (m : Holding) × Made L s × Chain s before told m)
-        → (last : Option ℕ) × (e : Holding) × Life L share (Runs.story (begins n) o (Runs.row o after)) last e × (reads e ≡ runs o after)
+        → (last : Option ℕ) × (e : Holding) × Life L given (Runs.story (begins (given .number)) o (Runs.row o after)) last e × (reads e ≡ runs o after)
     go (s, told′, m, made!, chain) =
         let h = at-on L (at-made L s made!) chain in
         let q = chain-is-run L s m before told′ made! chain .board in
         let r = row-from (at-made L s made! .good) chain in
-        let d = has-did m (one (open! n share)) in
-        let g = did-agrees m (d .1) (one (open! n share)) (d .0) (h .good) (d .2) in
-        let code = subst (λ (z : Board.Board). codeOf (answer z (open! n share)) ≡ 0) (sym q) e in
-        let zero! = g .told! ∙ says-done (reads m) (at-tidy L m h) (open! n share) code in
-        let opened! : reads (d .1) ≡ o = g .after ∙ ap (λ (z : Board.Board). step z (open! n share) .next) q in
+        let d = has-did m (one (open! given)) in
+        let g = did-agrees m (d .1) (one (open! given)) (d .0) (h .good) (d .2) in
+        let code = subst (λ (z : Board.Board). codeOf (answer z (open! given)) ≡ 0) (sym q) e in
+        let zero! = g .told! ∙ says-done (reads m) (at-tidy L m h) (open! given) code in
+        let opened! : reads (d .1) ≡ o = g .after ∙ ap (λ (z : Board.Board). step z (open! given) .next) q in
         let c = chain-of (d .1) after in
         let t = chain-from (g .good) (c .2) in
         let k = row-from (g .good) (c .2) in
@@ -280,7 +279,6 @@ has-life L range before n share after e = go (has-chain L range before)
           lastSlot (lastSlot none (r .1)) (k .1),
           c .1,
           record {
-            number = n;
             first = lastSlot none (r .1);
             opening = d .1;
             opened = record {
@@ -293,7 +291,7 @@ has-life L range before n share after e = go (has-chain L range before)
               before = m;
               row = r .2;
               latest = refl;
-              opens = subst (λ (z : Answer). Did m (one (open! n share)) z (d .1)) zero! (d .2);
+              opens = subst (λ (z : Answer). Did m (one (open! given)) z (d .1)) zero! (d .2);
             };
             cs = after;
             told = c .0;
@@ -301,8 +299,8 @@ has-life L range before n share after e = go (has-chain L range before)
             said = k .1;
             row = k .2;
             latest = refl;
-            told! = ap (story (begins n) (k .0)) (l .answers) ∙ story-said (begins n) (reads (d .1)) (k .0)
-                ∙ ap₂ (λ (z : Board.Board) (xs : List Single). Runs.story (begins n) z xs) opened! its-row;
+            told! = ap (story (begins (given .number)) (k .0)) (l .answers) ∙ story-said (begins (given .number)) (reads (d .1)) (k .0)
+                ∙ ap₂ (λ (z : Board.Board) (xs : List Single). Runs.story (begins (given .number)) z xs) opened! its-row;
           },
           t .1 ∙ ap (λ (z : Board.Board). runs z after) opened!,
         )

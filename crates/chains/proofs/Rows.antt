@@ -92,7 +92,7 @@ bytes-single : (b : Board.Board) (o : Out) → bytesOf (told b o) ≡ Runs.bytes
 bytes-single b (refused code) = refl
 bytes-single b done = refl
 bytes-single b (taken a) = refl
-bytes-single b (sent p r t) = refl
+bytes-single b (sent s) = refl
 
 pub bytes-said : (b : Board.Board) (xs : List Single) → bytesIn (saidOf b xs) ≡ Runs.bytesIn b xs
 unfolding bytesIn Runs.bytesIn saidOf

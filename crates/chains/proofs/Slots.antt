@@ -74,7 +74,7 @@ sees : (last : Option ℕ) (b : Board.Board) → Tidy b → Seen last b → (x :
 unfolding send closed takenIn
 sees last b g s = call-cases b g (λ x t. Sees last b t) (record {
   refused = λ x code r. record { after = s; begins = λ n. nothing (isNew last 0) (isNone (b .slot)) };
-  opens = λ n k c. record { after = s; begins = λ n. nothing (isNew last 0) (isNone (b .slot)) };
+  opens = λ o c. record { after = s; begins = λ n. nothing (isNew last 0) (isNone (b .slot)) };
   renames = λ p old new c. record { after = s; begins = λ n. nothing (isNew last 0) (isNone (b .slot)) };
   closes = λ p n c. record { after = s; begins = λ n. nothing (isNew last 0) (isNone (b .slot)) };
   takes = λ p n r c. record { after = took p r; begins = λ n. nothing (isNew last 0) (isNone (b .slot)) };

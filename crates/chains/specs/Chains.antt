@@ -24,7 +24,7 @@ pub record Holding : Type 0 where
 -- ---- An answer's number and values, in the rules' words
 
 abbrev pub isRecord : Single → Bool
-isRecord (open! n s) = false
+isRecord (open! o) = false
 isRecord (rename! old new) = false
 isRecord (close! n) = false
 isRecord (record! n r) = true

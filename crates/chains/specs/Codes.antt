@@ -11,6 +11,7 @@ use Rattle.base.specs.Sums.{sum, below}
 use Rattle.units.specs.Credit.{charged}
 use Rattle.rules.specs.Board
 use Rattle.rules.specs.Board.{tableLength, Record, Place, queued, at, depth, Has}
+use Rattle.rules.specs.Blocks.{Opening}
 use Rattle.rules.specs.Calls.{open!, rename!, close!, record!, serve!, Sent, sends}
 use Rattle.rules.specs.Runs.{answer}
 use Rattle.board.specs.declared.Board as struct
@@ -115,12 +116,12 @@ makeLines ids lens L = line 3 (WrongTables ids lens) (line 4 (SizeOutside L) las
 abbrev pub lentLines : struct.Board → (ids lens : List ℕ) → Lines → Lines
 lentLines b ids lens own = line 3 (WrongTables ids lens) (line 2 (Spoilt b ids lens) own)
 
-abbrev pub openLines : Board.Board → (n share : ℕ) → Lines
-openLines m n share =
-    line 4 ((n ≡ 0) ⊎ ShareOutside share)
-    (line 5 (SomeHas m n)
+abbrev pub openLines : Board.Board → Opening → Lines
+openLines m o =
+    line 4 ((o .number ≡ 0) ⊎ ShareOutside (o .share))
+    (line 5 (SomeHas m (o .number))
     (line 7 (AllTaken m)
-    (line 8 (OverFree m share)
+    (line 8 (OverFree m (o .share))
     last)))
 
 abbrev pub closeLines : Board.Board → (n : ℕ) → Lines
@@ -152,9 +153,9 @@ burstLines m bytes list count total =
 
 pub record Codes : Type 0 where
   pub making : (ids lens : List ℕ) (L : ℕ) → Exactly (made ids lens L .reply .code) (makeLines ids lens L)
-  pub opening : (b : struct.Board) (ids lens : List ℕ) (n share : ℕ)
+  pub opening : (b : struct.Board) (ids lens : List ℕ) (o : Opening)
       → let m = view b ids lens in
-      Exactly (called b ids lens (open! n share) .reply .code) (lentLines b ids lens (openLines m n share))
+      Exactly (called b ids lens (open! o) .reply .code) (lentLines b ids lens (openLines m o))
   pub closing : (b : struct.Board) (ids lens : List ℕ) (n : ℕ)
       → let m = view b ids lens in
       Exactly (called b ids lens (close! n) .reply .code) (lentLines b ids lens (closeLines m n))

@@ -13,6 +13,7 @@ use Rattle.units.specs.Classes.{Start, classOf}
 use Rattle.units.specs.Credit.{charged, largestCharge}
 use Rattle.rules.specs.Board
 use Rattle.rules.specs.Board.{fresh}
+use Rattle.rules.specs.Blocks.{Opening}
 use Rattle.rules.specs.Calls
 use Rattle.rules.specs.Calls.{Single, open!, record!, serve!, step, Call, one, burst!, done! }
 use Rattle.rules.specs.Calls.{Sent, Answer, gives, takes, sends, bursts, codeOf}
@@ -174,8 +175,8 @@ unfoldable pub lastSlot : Option ℕ → List Answer → Option ℕ
 lastSlot last [] = last
 lastSlot last (a ∷ said) = lastSlot (slotAfter last a) said
 
--- o is what the done opening of n left: after a done making with L and any calls
-pub record Opened (L n share : ℕ) (last : Option ℕ) (o : Holding) : Type 0 where
+-- o is what the done opening left that was given this: after a done making with L and any calls
+pub record Opened (L : ℕ) (given : Opening) (last : Option ℕ) (o : Holding) : Type 0 where
   pub start : Holding
   pub made : Made L start
   pub cs : List Call
@@ -185,21 +186,20 @@ pub record Opened (L n share : ℕ) (last : Option ℕ) (o : Holding) : Type 0 w
   pub before : Holding
   pub row : Row start cs told xs said before
   pub latest : lastSlot none said ≡ last
-  pub opens : Did before (one (open! n share)) (gives 0) o
+  pub opens : Did before (one (open! given)) (gives 0) o
 
--- e is what a chain left that tells this story of a block that it opened with that share; its last send, if any, has that clock
-pub record Life (L share : ℕ) (st : Story) (last : Option ℕ) (e : Holding) : Type 0 where
-  pub number : ℕ
+-- e is what a chain left that tells this story of a block whose opening was given this; its last send, if any, has that clock
+pub record Life (L : ℕ) (given : Opening) (st : Story) (last : Option ℕ) (e : Holding) : Type 0 where
   pub first : Option ℕ
   pub opening : Holding
-  pub opened : Opened L number share first opening
+  pub opened : Opened L given first opening
   pub cs : List Call
   pub told : List Answer
   pub xs : List Single
   pub said : List Answer
   pub row : Row opening cs told xs said e
   pub latest : lastSlot first said ≡ last
-  pub told! : story (begins number) xs said ≡ st
+  pub told! : story (begins (given .number)) xs said ≡ st
 
 -- ---- Any moment of a chain, inside a burst or not
 
@@ -214,19 +214,18 @@ pub record Chained (L : ℕ) : Type 0 where
   pub made : Made L start
   pub row : Row start cs told xs said finish
 
--- The row's calls in parts: those before a block's opening; the opening; those since; one call; those during which
+-- The row's calls in parts: those before a block's opening; what the opening was given; those since; one call; those during which
 -- something lasts; the rest. Each part may begin, and end, inside a burst.
 pub record Parting : Type 0 where
   pub first : List Single
-  pub number : ℕ
-  pub share : ℕ
+  pub given : Opening
   pub since : List Single
   pub at : Single
   pub during : List Single
   pub rest : List Single
 
 abbrev pub callsOf : Parting → List Single
-callsOf w = w .first ++ (open! (w .number) (w .share) ∷ (w .since ++ (w .at ∷ (w .during ++ w .rest))))
+callsOf w = w .first ++ (open! (w .given) ∷ (w .since ++ (w .at ∷ (w .during ++ w .rest))))
 
 -- the answers to each part, of which the opening's is 0, and the values between the parts: f is given to the one call,
 -- which leaves g, and h is what the part that lasts leaves
@@ -244,7 +243,7 @@ pub record Passage (L : ℕ) (c : Chained L) (w : Parting) : Type 0 where
   pub g : Holding
   pub h : Holding
   pub toOpening : Chain (c .start) (map one (w .first)) firstSaid before
-  pub opens : Did before (one (open! (w .number) (w .share))) (gives 0) opened
+  pub opens : Did before (one (open! (w .given))) (gives 0) opened
   pub toCall : Chain opened (map one (w .since)) sinceSaid f
   pub did : Did f (one (w .at)) answered g
   pub lasting : Chain g (map one (w .during)) duringSaid h
@@ -257,7 +256,7 @@ HasPassage = (L : ℕ) (c : Chained L) (w : Parting)
 
 -- what is told of the block, and the clock of the last send, before the one call; and at the end of the part that lasts
 abbrev pub tale : {L : ℕ} {c : Chained L} {w : Parting} → Passage L c w → Story
-tale {w = w} p = story (begins (w .number)) (w .since) (p .sinceSaid)
+tale {w = w} p = story (begins (w .given .number)) (w .since) (p .sinceSaid)
 
 abbrev pub lastOf : {L : ℕ} {c : Chained L} {w : Parting} → Passage L c w → Option ℕ
 lastOf p = lastSlot (lastSlot none (p .firstSaid)) (p .sinceSaid)
@@ -271,13 +270,13 @@ laterLast p = lastSlot (lastOf p) (p .answered ∷ p .duringSaid)
 -- Both moments have their life: what holds of every life, as Conserved and ServesSend below, holds inside a burst too.
 abbrev pub PassageLives : Type 0
 PassageLives = (L : ℕ) (c : Chained L) (w : Parting) (p : Passage L c w)
-    → Life L (w .share) (tale p) (lastOf p) (p .f) × Life L (w .share) (laterTale p) (laterLast p) (p .h)
+    → Life L (w .given) (tale p) (lastOf p) (p .f) × Life L (w .given) (laterTale p) (laterLast p) (p .h)
 
 -- ---- Demand 2: each record taken in is sent once, in its block's order, under the number that the block has when it is sent, or it still
 -- stands in its lane. A closed block has none left.
 
 abbrev pub Conserved : Type 0
-Conserved = (L share : ℕ) (st : Story) (last : Option ℕ) (e : Holding) → Life L share st last e → Accounted st (reads e)
+Conserved = (L : ℕ) (given : Opening) (st : Story) (last : Option ℕ) (e : Holding) → Life L given st last e → Accounted st (reads e)
 
 -- No other record is sent: the one that is answered stood at the front of the lane of the open block that is named.
 abbrev pub SendsFront : Type 0
@@ -310,25 +309,25 @@ pub record StaysInFront (st : Story) (x : Single) (a : Answer) (xs : List Single
 abbrev pub ByteBound : Type 0
 ByteBound = (L : ℕ) (c : Chained L) (w : Parting) (p : Passage L c w)
     → StaysInFront (tale p) (w .at) (p .answered) (w .during) (p .duringSaid)
-    → bytesIn (p .duringSaid) ≤ bound L (classOf (w .share))
+    → bytesIn (p .duringSaid) ≤ bound L (classOf (w .given .share))
 
 -- It is sent: no more than that many serving calls, those of bursts among them, pass it, unless one is answered 11.
 abbrev pub SentInTime : Type 0
 SentInTime = (L : ℕ) (c : Chained L) (w : Parting) (p : Passage L c w)
     → StaysInFront (tale p) (w .at) (p .answered) (w .during) (p .duringSaid) → NotSpent (p .duringSaid)
-    → servesIn (w .during) ≤ bound L (classOf (w .share))
+    → servesIn (w .during) ≤ bound L (classOf (w .given .share))
 
 -- While a record waits, a single serving call is answered with a record that is sent, or 11.
 abbrev pub ServesSend : Type 0
-ServesSend = (L share : ℕ) (st : Story) (last : Option ℕ) (f g : Holding) (a : Answer)
-    → Life L share st last f → st .closed ≡ false → st .taken ≢ st .sent → Did f (one serve!) a g
+ServesSend = (L : ℕ) (given : Opening) (st : Story) (last : Option ℕ) (f g : Holding) (a : Answer)
+    → Life L given st last f → st .closed ≡ false → st .taken ≢ st .sent → Did f (one serve!) a g
     → (a ≡ gives 11) ⊎ ((s : Sent) × (a ≡ sends s))
 
 -- A burst that leaves a record waiting was not stopped for want of records: it is answered 11, or 14 with a full list, or 13.
 abbrev pub BurstSends : Type 0
-BurstSends = (L share : ℕ) (st : Story) (last : Option ℕ) (s f g : Holding) (cs : List Call) (told : List Answer) (bytes : ℕ) (list : List ℕ) (r : Calls.Bursted)
+BurstSends = (L : ℕ) (given : Opening) (st : Story) (last : Option ℕ) (s f g : Holding) (cs : List Call) (told : List Answer) (bytes : ℕ) (list : List ℕ) (r : Calls.Bursted)
     → Made L s → Chain s cs told f → Did f (burst! bytes list) (bursts r) g
-    → Life L share st last g → st .closed ≡ false → st .taken ≢ st .sent
+    → Life L given st last g → st .closed ≡ false → st .taken ≢ st .sent
     → (r .code ≡ 11) ⊎ (((r .code ≡ 14) × (r .count ≡ length list)) ⊎ (r .code ≡ 13))
 
 -- ---- Slots, as the answers tell them: a send begins a slot if its clock is not that of the send before it, of whichever block
@@ -366,14 +365,14 @@ pub record WaitsAt (k lo : ℕ) (st : Story) (last : Option ℕ) (t : ℕ) (a : 
 -- A block already waiting when the clock reaches a start of its class has exactly one slot begun in that interval by the time the clock
 -- reaches its end. The clock may reach either inside a burst.
 abbrev pub SlotOnce : Type 0
-SlotOnce = (L : ℕ) (c : Chained L) (w : Parting) (p : Passage L c w) (lo : ℕ) → let k = classOf (w .share) in
+SlotOnce = (L : ℕ) (c : Chained L) (w : Parting) (p : Passage L c w) (lo : ℕ) → let k = classOf (w .given .share) in
     w .at ≡ serve! → WaitsAt k lo (tale p) (lastOf p) (clock (p .f)) (p .answered) (clock (p .g))
     → lo + 2 ^ k ≤ clock (p .h)
     → slotsIn lo (lo + 2 ^ k) (tale p .number) (lastOf p) (w .at ∷ w .during) (p .answered ∷ p .duringSaid) ≡ 1
 
 -- No block ever has two slots begun in one interval of its class.
 abbrev pub NeverTwice : Type 0
-NeverTwice = (L : ℕ) (c : Chained L) (w : Parting) (p : Passage L c w) (lo : ℕ) → let k = classOf (w .share) in
+NeverTwice = (L : ℕ) (c : Chained L) (w : Parting) (p : Passage L c w) (lo : ℕ) → let k = classOf (w .given .share) in
     tale p .closed ≡ false → Start k lo
     → slotsIn lo (lo + 2 ^ k) (tale p .number) (lastOf p) (w .at ∷ w .during) (p .answered ∷ p .duringSaid) ≤ 1
 
@@ -394,7 +393,7 @@ HasChain = (L : ℕ) → InRange L → (cs : List Call) → (s : Holding) × (to
 
 -- and every story of a run of the rules is told by a chain, bursts among its calls, which comes to that run's board
 abbrev pub HasLife : Type 0
-HasLife = (L : ℕ) → InRange L → (before : List Call) (n share : ℕ) (after : List Call)
-    → let b = runs (fresh L) before in let o = step b (open! n share) .next in codeOf (answer b (open! n share)) ≡ 0
+HasLife = (L : ℕ) → InRange L → (before : List Call) (given : Opening) (after : List Call)
+    → let b = runs (fresh L) before in let o = step b (open! given) .next in codeOf (answer b (open! given)) ≡ 0
     → (last : Option ℕ) × (e : Holding)
-    × Life L share (Runs.story (begins n) o (Runs.row o after)) last e × (reads e ≡ runs o after)
+    × Life L given (Runs.story (begins (given .number)) o (Runs.row o after)) last e × (reads e ≡ runs o after)

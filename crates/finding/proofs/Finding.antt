@@ -10,13 +10,13 @@ use lib.Dec.{eqb, leb, ltb}
 use lib.ListN.{getD}
 use borrow.Author.Tests.{eq-eqb, ne-eqb}
 use Rattle.base.specs.Tests.{least}
-use Rattle.base.proofs.Numbers.{split, leb-yes, leb-no, false-lt, eqb-true}
+use Rattle.base.proofs.Numbers.{split, leb-yes, leb-no, eqb-true}
 use Rattle.base.proofs.Tests.{least-le, least-true}
 use Rattle.rules.specs.Board
 use Rattle.rules.specs.Board.{Place, freePlace, at}
 use Rattle.rules.specs.Choice.{whereIs, noneHas, someHas}
 use Rattle.rules.specs.Blocks.{freeAt}
-use Rattle.rules.proofs.Cases.{not-zero, or-left, where-has}
+use Rattle.rules.proofs.Cases.{not-zero, or-left, some-in, where-has}
 use Rattle.rules.proofs.Shape.{named-num}
 use Rattle.rules.proofs.Tidy.{Tidy}
 use Rattle.board.specs.Reading.{encode}
@@ -81,12 +81,23 @@ module _ (m : Board.Board) (g : Tidy m) where
       by-name x (inr h) = ne-eqb (x .number) 0 (λ f. omega arith) ∙ sym (ne-eqb (x .share) 0 (λ f. omega arith))
 
 -- 64 is no place
+pub none-found : (n : ℕ) → n ≤ 64 → eqb n 64 ≡ not (ltb n 64)
+none-found n h = go (split 64 n)
+  where
+    go : (64 ≤ n) ⊎ (n < 64) → eqb n 64 ≡ not (ltb n 64)
+    go (inl a) = eq-eqb n 64 (omega arith) ∙ sym (ap not (leb-no (suc n) 64 (omega arith)))
+    go (inr a) = ne-eqb n 64 (λ e. omega arith) ∙ sym (ap not (leb-yes (suc n) 64 a))
+
 pub none-is : (n : ℕ) → n ≤ 64 → eqb n 64 ≡ leb 64 n
 none-is n h = go (split 64 n)
   where
     go : (64 ≤ n) ⊎ (n < 64) → eqb n 64 ≡ leb 64 n
     go (inl a) = eq-eqb n 64 (omega arith) ∙ sym (leb-yes 64 n a)
     go (inr a) = ne-eqb n 64 (λ e. omega arith) ∙ sym (leb-no 64 n a)
+
+not-not : (t : Bool) → not (not t) ≡ t
+not-not true = refl
+not-not false = refl
 
 -- ---- The tests on a number are the rules' tests
 module _ (m : Board.Board) (f : Fit m) where
@@ -117,16 +128,15 @@ module _ (m : Board.Board) (f : Fit m) where
       ne : eqb n 0 ≡ false → n ≢ 0
       ne e q = true≢false (sym (eq-eqb n 0 q) ∙ e)
 
-      go : (t : Bool) → eqb n 0 ≡ t → t || eqb (foundIn (encode m .numbers) n) 64 ≡ leb 64 (whereIs m n)
-      go true e = sym (leb-yes 64 (whereIs m n) (nowhere (eqb-true n 0 e) (split 64 (whereIs m n))))
-      go false e = ap (λ (i : ℕ). eqb i 64) (where-is m g n (ne e)) ∙ none-is (whereIs m n) (where-le n)
+      go : (t : Bool) → eqb n 0 ≡ t → t || eqb (foundIn (encode m .numbers) n) 64 ≡ noneHas m n
+      go true e = let h = nowhere (eqb-true n 0 e) (split 64 (whereIs m n)) in sym (ap not (leb-no (suc (whereIs m n)) 64 (omega arith)))
+      go false e = ap (λ (i : ℕ). eqb i 64) (where-is m g n (ne e)) ∙ none-found (whereIs m n) (where-le n)
 
   pub found-is : (n : ℕ) → noneHas m n ≡ false → foundIn (encode m .numbers) n ≡ whereIs m n
-  found-is n e = where-is m g n (open-named n (false-lt 64 (whereIs m n) e))
+  found-is n e = where-is m g n (open-named n (some-in m n e))
 
   pub taken-number : (n : ℕ) → n ≢ 0 → not (eqb (foundIn (encode m .numbers) n) 64) ≡ someHas m n
-  taken-number n ne = ap (λ (i : ℕ). not (eqb i 64)) (where-is m g n ne) ∙ ap not (none-is (whereIs m n) (where-le n)) ∙ go (split 64 (whereIs m n))
-    where
-      go : (64 ≤ whereIs m n) ⊎ (whereIs m n < 64) → not (leb 64 (whereIs m n)) ≡ leb (suc (whereIs m n)) 64
-      go (inl h) = rw (leb-yes 64 (whereIs m n) h) (sym (leb-no (suc (whereIs m n)) 64 (omega arith)))
-      go (inr h) = rw (leb-no 64 (whereIs m n) h) (sym (leb-yes (suc (whereIs m n)) 64 h))
+  taken-number n ne =
+      ap (λ (i : ℕ). not (eqb i 64)) (where-is m g n ne)
+      ∙ ap not (none-found (whereIs m n) (where-le n))
+      ∙ not-not (someHas m n)

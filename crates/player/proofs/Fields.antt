@@ -12,6 +12,7 @@ use Rattle.units.specs.Credit.{charged}
 use Rattle.rules.specs.Board
 use Rattle.rules.specs.Board.{Record, at, charge}
 use Rattle.rules.specs.Choice.{refused, sent, Turn, send, serve}
+use Rattle.rules.specs.Blocks.{opening}
 use Rattle.rules.specs.Calls.{Single, open!, rename!, close!, record!, serve!, step, told, codeOf}
 use Rattle.rules.specs.Runs.{isServe, answer, bytesOf}
 use Rattle.rules.proofs.Cases.{call-cases}
@@ -27,7 +28,7 @@ use Rattle.lines.specs.Text.{Line}
 use Rattle.lines.specs.Listing.{openLine, closeLine, nameLine, inLine}
 use Rattle.board.specs.Memory.{takingOf, withTaking, blocksOf, engineOf, withEngine}
 use Rattle.taking.specs.Taking.{Recording, recordedIn}
-use Rattle.blocks.specs.Blocks.{Renaming, renamedIn, withRenaming, Opening, openedIn, withOpening, Closing, closedIn, withClosing}
+use Rattle.blocks.specs.Blocks.{Renaming, renamedIn, withRenaming, AfterOpening, openedIn, withOpening, Closing, closedIn, withClosing}
 use Rattle.serving.specs.Serving.{Within, engineAfter}
 use Rattle.board.proofs.Fields.{number-is}
 use Rattle.serving.proofs.Within.{fit-serve, Stops, Goes}
@@ -48,7 +49,7 @@ none-sent : (m : Board.Board) → Tidy m → (x : Single) → Sends m x (step m 
 unfolding send
 none-sent m t = call-cases m t (Sends m) (record {
   refused = λ x code n e. refl;
-  opens = λ n s can e. refl;
+  opens = λ o can e. refl;
   renames = λ p old new can e. refl;
   closes = λ p n can e. refl;
   takes = λ p n x can e. refl;
@@ -95,9 +96,9 @@ module _ (s : Memory) (k : KnownMemory s) (before : List ℕ) (count : ℕ) (lin
       same : s .sent ≡ s .sent + bytesOf (answer m x)
       same = rw (none-sent m (fit-view (s .board) (s .ids) (s .lens) (k .sound) .tidy) x quiet) (sym (add-zero (s .sent)))
 
-  pub open-plays : (block share : ℕ) (x : Opening) → x ≡ openedIn (s .board .numbers) (s .board .shares) (s .board .held) block share → Line before (openLine block (x .code)) count line
+  pub open-plays : (block share : ℕ) (x : AfterOpening) → x ≡ openedIn (s .board .numbers) (s .board .shares) (s .board .held) block share → Line before (openLine block (x .code)) count line
       → FieldPlayed s (Open block share) (memory (withOpening (s .board) x) (s .ids) (s .lens) (s .sent)) before count line
-  open-plays block share x e l = by-call (open! block share) refl (x .code) (withOpening (s .board) x) (s .ids) (s .lens) (open-known (s .board) (s .ids) (s .lens) k block share x e) (Open block share) refl (openLine block) refl l
+  open-plays block share x e l = by-call (open! (opening block share)) refl (x .code) (withOpening (s .board) x) (s .ids) (s .lens) (open-known (s .board) (s .ids) (s .lens) k block share x e) (Open block share) refl (openLine block) refl l
 
   pub close-plays : (block : ℕ) (x : Closing) → x ≡ closedIn (s .board .active) (s .board .numbers) (s .board .shares) (s .board .starts) (s .board .counts) (s .board .held) block → Line before (closeLine block (x .code)) count line
       → FieldPlayed s (Close block) (memory (withClosing (s .board) x) (s .ids) (s .lens) (s .sent)) before count line
@@ -147,16 +148,19 @@ module _ (s : Memory) (k : KnownMemory s) (before : List ℕ) (count : ℕ) (lin
     sending g = record {
       good = subst (λ (c : struct.Board). Known c (s .ids) (s .lens)) (sym next-is) (known-next (s .board) (s .ids) (s .lens) k (g .holds));
       next = ap (λ (c : struct.Board). view c (s .ids) (s .lens)) next-is ∙ view-encode (serve m .next) (s .ids) (s .lens) (fit-serve m (fit-view (s .board) (s .ids) (s .lens) (k .sound))) (g .holds);
-      bytes = g .charge-is ∙ rw (g .out) (charge-is (g .sends));
-      shows = rw (eq-eqb (w .step .code) 0 (g .code), g .out, g .number-is, g .bytes-is, block) refl;
+      bytes = g .charge-is ∙ rw (g .out) (charge-is (g .sends .front));
+      shows = rw (eq-eqb (w .step .code) 0 (g .code), g .out, g .number-is, g .bytes-is, g .clock-is, block) refl;
       small = rw (g .charge-is) (g .fits);
     }
       where
         next-is : withEngine (s .board) (engineAfter w) ≡ encode (serve m .next)
         next-is = after-is (s .board) (s .ids) (s .lens) k w (g .next)
 
-        block : getD (s .board .numbers) (w .step .place) 0 ≡ at m (w .step .place) .number
-        block = ap (λ (c : struct.Board). getD (c .numbers) (w .step .place) 0) (sym (spells (s .board) (s .ids) (s .lens) k)) ∙ number-is m (w .step .place)
+        block : getD (s .board .numbers) (w .step .place) 0 ≡ at m (g .sends .place) .number
+        block =
+            ap (λ (c : struct.Board). getD (c .numbers) (w .step .place) 0) (sym (spells (s .board) (s .ids) (s .lens) k))
+            ∙ number-is m (w .step .place)
+            ∙ ap (λ (p : ℕ). at m p .number) (g .place-is)
 
     serve-is : ServeIs
     serve-is = go (by-cases (s .board) (s .ids) (s .lens) k 65536 1 w w-is)

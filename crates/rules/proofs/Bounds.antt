@@ -28,7 +28,7 @@ unfolding charge
 bytes-told b (refused code) = refl
 bytes-told b done = refl
 bytes-told b (taken a) = refl
-bytes-told b (sent p r t) = refl
+bytes-told b (sent s) = refl
 
 pub bytes-row : (b : Board) (xs : List Single) → bytesIn b xs ≡ sentBytes b xs
 unfolding bytesIn sentBytes
@@ -73,7 +73,7 @@ taken-length b p r h = go (leb (length (at b p .lane)) 0)
 
 -- a record that is taken has its block's place
 abbrev TookBy : Board → Single → Turn → Type 0
-TookBy b (open! n s) t = Unit {0}
+TookBy b (open! o) t = Unit {0}
 TookBy b (rename! old new) t = Unit {0}
 TookBy b (close! n) t = Unit {0}
 TookBy b (record! n r) t = isDone (told b (t .out)) ≡ true → (p : ℕ) × (Has b p n) × (1 ≤ length (at (t .next) p .lane))
@@ -81,10 +81,10 @@ TookBy b serve! t = isSent (t .out) ≡ true → (p : ℕ) × (Has b p (at b p .
 
 took-by : (b : Board) → Tidy b → (x : Single) → TookBy b x (step b x)
 unfolding send
-took-by b g = call-cases b g (TookBy b) (record { refused = none!; opens = λ n s c. tt; renames = λ p old new c. tt; closes = λ p n c. tt; takes = takes; goesOn = λ p c e. (p, record { inside = c .inside; bought = c .bought; named = refl }, eqb-yes p p refl); begins = λ r t p c q e. (p, record { inside = c .inside; bought = c .bought; named = refl }, eqb-yes p p refl) })
+took-by b g = call-cases b g (TookBy b) (record { refused = none!; opens = λ o c. tt; renames = λ p old new c. tt; closes = λ p n c. tt; takes = takes; goesOn = λ p c e. (p, record { inside = c .inside; bought = c .bought; named = refl }, eqb-yes p p refl); begins = λ r t p c q e. (p, record { inside = c .inside; bought = c .bought; named = refl }, eqb-yes p p refl) })
   where
     none! : (x : Single) (code : ℕ) → Refusal code → TookBy b x (record { out = refused code; next = b })
-    none! (open! n s) code r = tt
+    none! (open! o) code r = tt
     none! (rename! old new) code r = tt
     none! (close! n) code r = tt
     none! (record! n x) code r = λ e. absurd (true≢false (sym e ∙ refusal-not0 code r))
@@ -97,13 +97,13 @@ for-sent : (n : ℕ) (b : Board) (o : Out) → isFor n (told b o) ≡ true → i
 for-sent n b (refused code) e = absurd (false≢true e)
 for-sent n b done e = absurd (false≢true e)
 for-sent n b (taken a) e = absurd (false≢true e)
-for-sent n b (sent p r t) e = refl
+for-sent n b (sent s) e = refl
 
 for-number : (n p : ℕ) (b : Board) (o : Out) → isFor n (told b o) ≡ true → fromPlace p o ≡ true → at b p .number ≡ n
 for-number n p b (refused code) e f = absurd (false≢true e)
 for-number n p b done e f = absurd (false≢true e)
 for-number n p b (taken a) e f = absurd (false≢true e)
-for-number n p b (sent q r t) e f = ap (λ (z : ℕ). at b z .number) (eqb-true p q f) ∙ sym (eqb-true n (at b q .number) e)
+for-number n p b (sent s) e f = let q = s .place in ap (λ (z : ℕ). at b z .number) (eqb-true p q f) ∙ sym (eqb-true n (at b q .number) e)
 
 fronted : (b : Board) (n : ℕ) (x : Single) → Tidy b → ComesToFront b n x → (p : ℕ) × Fronted b n p x
 fronted b n x t (intoEmpty r d e) = go (took-by b t (record! n r) d)

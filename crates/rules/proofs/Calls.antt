@@ -18,7 +18,7 @@ use Rattle.units.specs.Classes.{nextStart, classOf}
 use Rattle.rules.specs.Spoilt.{isQueued, isServing, readyNum, isAt}
 use Rattle.rules.specs.Board.{Record, noRecord, Stand, out, queued, serving, Place, freePlace, blockClass, Board, at, spent}
 use Rattle.rules.specs.Choice.{upd, done, leastReady, isNone, goOn, more, joins, joining, takenIn, tookAt, Taken, taken}
-use Rattle.rules.specs.Blocks.{opened, freeAt, quiet, closed, renamed}
+use Rattle.rules.specs.Blocks.{Opening, opened, freeAt, quiet, closed, renamed}
 use Rattle.rules.proofs.Potential.{ahead-join}
 use Rattle.rules.proofs.Orders.{pl, ready}
 use Rattle.rules.proofs.Shape.{Shape, Distinct, names-kept, names-set, named-num, PlaceOk, StandOk, All, all-snoc, LeastIs, least-is, Fit, most-pos}
@@ -180,12 +180,12 @@ module _ (b : Board) (sh : Shape (b .largest) (b .clock) (b .places) (b .orders)
   pub names-new : (p : ℕ) (x : Place) → p < 64 → Nobody b (x .number) → Distinct (set (b .places) p x)
   names-new p x h nobody = names-set (b .places) p x (in-places p h) (λ q ne a _ f. nobody q (has-at b q (x .number) (sh .all64) a f)) (sh .names)
 
-  pub free-out : (n s : ℕ) → CanOpen b n s → at b (freeAt b) .stand ≡ out
-  free-out n s can = let x = at b (freeAt b) in share-out L (x .share) (x .lane) (x .stand) (can .free) (sh .placeOk (freeAt b) .standOk)
+  pub free-out : (o : Opening) → CanOpen b o → at b (freeAt b) .stand ≡ out
+  free-out o can = let x = at b (freeAt b) in share-out L (x .share) (x .lane) (x .stand) (can .free) (sh .placeOk (freeAt b) .standOk)
 
-  pub opened-ok : (n s : ℕ) → CanOpen b n s → PlaceOk L (opened n s)
+  pub opened-ok : (o : Opening) → CanOpen b o → PlaceOk L (opened o)
   unfolding All StandOk
-  opened-ok n s can = record {
+  opened-ok o can = record {
     items = tt;
     owed = omega (arith, most-pos (b .largest) (sh .least));
     most = omega (arith, can .room);
@@ -319,13 +319,13 @@ share-else l p x was q w = rw (getD-set-other l p q x freePlace ne) (refl, refl)
     ne e = false≢true (sym (ap inLine was) ∙ rw e at w)
 
 -- OPEN
-pub keeps-open : (b : Board) (n s : ℕ) → CanOpen b n s → Good b → Keeps b (record { out = done; next = goOn b (freeAt b) (opened n s) })
+pub keeps-open : (b : Board) (o : Opening) → CanOpen b o → Good b → Keeps b (record { out = done; next = goOn b (freeAt b) (opened o) })
 unfolding spent
-keeps-open b n s can g =
+keeps-open b o can g =
     keeps-quiet (b .largest) (b .clock) (b .places) (b .orders) (b .slot) (b .held) (set (b .places) p z) (b .orders) (b .held)
     (set-field (λ w. w .stand) (b .places) p z in-p (sym was)) (share-else (b .places) p z was)
     (record {
-      fine = fine-open p n s in-p seat names (opened-ok b (g .fine .shape) n s can) (omega (arith, can .room)) (g .fine);
+      fine = fine-open p o in-p seat names (opened-ok b (g .fine .shape) o can) (omega (arith, can .room)) (g .fine);
       one = λ q. set-field (λ w. isServing (w .stand)) (b .places) p z in-p (sym (ap isServing was)) q ∙ g .one q;
     })
   where
@@ -333,19 +333,19 @@ keeps-open b n s can g =
     p = freeAt b
 
     z : Place
-    z = opened n s
+    z = opened o
 
     in-p : freeAt b < length (b .places)
     in-p = in-places b (g .fine .shape) (freeAt b) (can .inside)
 
     was : at b (freeAt b) .stand ≡ out
-    was = free-out b (g .fine .shape) n s can
+    was = free-out b (g .fine .shape) o can
 
     seat : seatOf (at b (freeAt b)) ≡ seatOf freePlace
     seat = seat-same (at b (freeAt b)) freePlace (can .free) was
 
-    names : Distinct (set (b .places) (freeAt b) (opened n s))
-    names = names-new b (g .fine .shape) (freeAt b) (opened n s) (can .inside) (can .nobody)
+    names : Distinct (set (b .places) (freeAt b) (opened o))
+    names = names-new b (g .fine .shape) (freeAt b) (opened o) (can .inside) (can .nobody)
 
 -- CLOSE
 pub keeps-close : (b : Board) (p n : ℕ) → CanClose b p n → Good b → Keeps b (record { out = done; next = closed b p })

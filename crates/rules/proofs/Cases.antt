@@ -13,9 +13,9 @@ use Rattle.base.specs.Tests.{least}
 use Rattle.base.proofs.Tests.{least-true, least-false, and-left, and-right}
 use Rattle.base.proofs.Numbers.{split, leb-yes, true-le, false-lt, eqb-true, eqb-yes}
 use Rattle.rules.specs.Board.{Record, Place, freePlace, Board, at, isOpen, Has, freeShare, spent, charge, front}
-use Rattle.rules.specs.Choice.{done, Turn, refuse, Check, guarded, whereIs, numberOutside, lengthOutside, recordChecks, takeRecord, tookAt, goOn}
+use Rattle.rules.specs.Choice.{done, Turn, refuse, Check, guarded, whereIs, someHas, noneHas, numberOutside, lengthOutside, recordChecks, takeRecord, tookAt, goOn}
 use Rattle.rules.specs.Choice.{leastReady, lowest, chosen, begin, beginChecks, send, serve, serveBy, leftOf}
-use Rattle.rules.specs.Blocks.{opened, freeAt, shareOutside, openChecks, openBlock, renamed, renameChecks, renameBlock, closed, closeChecks, closeBlock}
+use Rattle.rules.specs.Blocks.{Opening, opened, freeAt, shareOutside, openChecks, openBlock, renamed, renameChecks, renameBlock, closed, closeChecks, closeBlock}
 use Rattle.rules.specs.Spoilt.{isServing, isAt}
 use Rattle.rules.specs.Calls.{Single, open!, rename!, close!, record!, serve!, step}
 use Rattle.rules.proofs.Checks.{Fail, First, guarded-cases}
@@ -114,19 +114,27 @@ has-at b q n len h e = record { inside = go (split 64 q); bought = h; named = e 
     go (inr k) = k
     go (inl k) = absurd (omega (arith, ap (λ (x : Place). x .share) (List·getD-eq-default (b .places) freePlace {n = q} (omega arith))))
 
+-- a number that is found
+pub some-in : (b : Board) (n : ℕ) → noneHas b n ≡ false → whereIs b n < 64
+some-in b n e = true-le (suc (whereIs b n)) 64 (not-none (someHas b n) e)
+  where
+    not-none : (t : Bool) → not t ≡ false → t ≡ true
+    not-none true f = refl
+    not-none false f = absurd (true≢false f)
+
 pub free-found : (b : Board) → freeAt b < 64 → at b (freeAt b) .share ≡ 0
 unfolding freeAt
 free-found b h = eqb-true (at b (freeAt b) .share) 0 (least-true (λ p. eqb (at b p .share) 0) 64 h)
 
 -- ---- What a call that is done has found: each check, failed
 
-pub record CanOpen (b : Board) (n s : ℕ) : Type 0 where
-  pub number : 1 ≤ n
-  pub share : 1 ≤ s
-  pub nobody : Nobody b n
+pub record CanOpen (b : Board) (o : Opening) : Type 0 where
+  pub number : 1 ≤ o .number
+  pub share : 1 ≤ o .share
+  pub nobody : Nobody b (o .number)
   pub inside : freeAt b < 64
   pub free : at b (freeAt b) .share ≡ 0
-  pub room : spent b + s ≤ 65536
+  pub room : spent b + o .share ≤ 65536
 
 pub record CanRename (b : Board) (p old new : ℕ) : Type 0 where
   pub has : Has b p old
@@ -143,29 +151,29 @@ pub record CanTake (b : Board) (p n : ℕ) (r : Record) : Type 0 where
   pub most : r .bytes ≤ b .largest
   pub room : length (at b p .lane) < 32
 
-can-open : (b : Board) (n share : ℕ) → Fail (openChecks b n share) → CanOpen b n share
-can-open b n share (e4, (e5, (e7, (e8, _)))) = record {
-  number = not-zero n (or-left (numberOutside n) (shareOutside share) e4);
+can-open : (b : Board) (o : Opening) → Fail (openChecks b o) → CanOpen b o
+can-open b o (e4, (e5, (e7, (e8, _)))) = record {
+  number = not-zero (o .number) (or-left (numberOutside (o .number)) (shareOutside (o .share)) e4);
   share = range .0;
-  nobody = where-none b n e5;
+  nobody = where-none b (o .number) e5;
   inside = false-lt 64 (freeAt b) e7;
   free = free-found b (false-lt 64 (freeAt b) e7);
-  room = omega (arith, false-lt (suc (freeShare b)) share e8, range .0);
+  room = omega (arith, false-lt (suc (freeShare b)) (o .share) e8, range .0);
 }
   where
-    range : (1 ≤ share) × (share ≤ 65536)
-    range = in-range share 65536 (or-right (numberOutside n) (shareOutside share) e4)
+    range : (1 ≤ o .share) × (o .share ≤ 65536)
+    range = in-range (o .share) 65536 (or-right (numberOutside (o .number)) (shareOutside (o .share)) e4)
 
 can-rename : (b : Board) (old new : ℕ) → Fail (renameChecks b old new) → CanRename b (whereIs b old) old new
 can-rename b old new (e4, (e6, (e5, _))) = record {
   number = not-zero new e4;
-  has = where-has b old (false-lt 64 (whereIs b old) e6);
+  has = where-has b old (some-in b old e6);
   nobody = where-none b new e5;
 }
 
 pub can-close : (b : Board) (n : ℕ) → Fail (closeChecks b n) → CanClose b (whereIs b n) n
 can-close b n (e6, (e10, _)) = record {
-  has = where-has b n (false-lt 64 (whereIs b n) e6);
+  has = where-has b n (some-in b n e6);
   empty = omega (arith, false-lt 1 (length (at b (whereIs b n) .lane)) e10);
 }
 
@@ -173,7 +181,7 @@ can-take : (b : Board) (n : ℕ) (r : Record) → Fail (recordChecks b n r) → 
 can-take b n r (e4, (e6, (e9, _))) = record {
   least = range .0;
   most = range .1;
-  has = where-has b n (false-lt 64 (whereIs b n) e6);
+  has = where-has b n (some-in b n e6);
   room = false-lt 32 (length (at b (whereIs b n) .lane)) e9;
 }
   where
@@ -185,7 +193,7 @@ can-take b n r (e4, (e6, (e9, _))) = record {
 -- the cases of every call but a serve
 pub record OtherCases (b : Board) (P : Single → Turn → Type 0) : Type 0 where
   pub refused : (x : Single) (code : ℕ) → Refusal code → P x (refuse b code)
-  pub opens : (n s : ℕ) → CanOpen b n s → P (open! n s) (record { out = done; next = goOn b (freeAt b) (opened n s) })
+  pub opens : (o : Opening) → CanOpen b o → P (open! o) (record { out = done; next = goOn b (freeAt b) (opened o) })
   pub renames : (old new : ℕ) → let p = whereIs b old in
       CanRename b p old new → P (rename! old new) (record { out = done; next = goOn b p (renamed new (at b p)) })
   pub closes : (n : ℕ) → let p = whereIs b n in CanClose b p n → P (close! n) (record { out = done; next = closed b p })
@@ -199,7 +207,7 @@ other-cases b P cs serves = go
     by x checks u a = guarded-cases b checks u (P x) (λ code f. cs .refused x code (first-refuses checks a code f))
 
     go : (x : Single) → P x (step b x)
-    go (open! n s) = by (open! n s) (openChecks b n s) _ refl (λ f. cs .opens n s (can-open b n s f))
+    go (open! o) = by (open! o) (openChecks b o) _ refl (λ f. cs .opens o (can-open b o f))
     go (rename! old new) = by (rename! old new) (renameChecks b old new) _ refl (λ f. cs .renames old new (can-rename b old new f))
     go (close! n) = by (close! n) (closeChecks b n) _ refl (λ f. cs .closes n (can-close b n f))
     go (record! n r) = by (record! n r) (recordChecks b n r) _ refl (λ f. cs .takes n r (can-take b n r f))
@@ -220,8 +228,8 @@ pub record MayBegin (b : Board) (r : ℕ) : Type 0 where
   pub least : leastReady (b .places) ≡ some r
   pub soon : max (b .clock) r < 2 ^ 62
 
-pub serve-turns : (b : Board) (P : Turn → Type 0) → ((code : ℕ) → Unserved b code → P (refuse b code)) → ((p : ℕ) → b .slot ≡ some p → P (send b p))
-    → ((r : ℕ) → MayBegin b r → P (send (begin b (max (b .clock) r)) (chosen b (max (b .clock) r)))) → P (serve b)
+pub serve-turns : (b : Board) (P : Turn → Type 0) → ((code : ℕ) → Unserved b code → P (refuse b code)) → ((p : ℕ) → b .slot ≡ some p → P (send false b p))
+    → ((r : ℕ) → MayBegin b r → P (send true (begin b (max (b .clock) r)) (chosen b (max (b .clock) r)))) → P (serve b)
 unfolding serve serveBy
 serve-turns b P unserved goesOn begins = go (b .slot) refl (leastReady (b .places)) refl
   where
@@ -262,8 +270,8 @@ least-of b r e = subst (LeastIs (b .places)) e (least-is (b .places))
 -- the cases of a serve
 pub record ServeCases (b : Board) (P : Turn → Type 0) : Type 0 where
   pub unserved : (code : ℕ) → Unserved b code → Refusal code → P (refuse b code)
-  pub goesOn : (p : ℕ) → GoesOn b p → P (send b p)
-  pub begins : (r t p : ℕ) → Begins b r t p → p ≡ chosen b t → P (send (begin b t) p)
+  pub goesOn : (p : ℕ) → GoesOn b p → P (send false b p)
+  pub begins : (r t p : ℕ) → Begins b r t p → p ≡ chosen b t → P (send true (begin b t) p)
 
 pub serve-cases : (b : Board) → Tidy b → (P : Turn → Type 0) → ServeCases b P → P (serve b)
 unfolding lowest
@@ -308,12 +316,12 @@ serve-cases b g P cs = serve-turns b P
 -- the cases of every single call
 pub record CallCases (b : Board) (P : Single → Turn → Type 0) : Type 0 where
   pub refused : (x : Single) (code : ℕ) → Refusal code → P x (refuse b code)
-  pub opens : (n s : ℕ) → CanOpen b n s → P (open! n s) (record { out = done; next = goOn b (freeAt b) (opened n s) })
+  pub opens : (o : Opening) → CanOpen b o → P (open! o) (record { out = done; next = goOn b (freeAt b) (opened o) })
   pub renames : (p old new : ℕ) → CanRename b p old new → P (rename! old new) (record { out = done; next = goOn b p (renamed new (at b p)) })
   pub closes : (p n : ℕ) → CanClose b p n → P (close! n) (record { out = done; next = closed b p })
   pub takes : (p n : ℕ) (r : Record) → CanTake b p n r → P (record! n r) (tookAt b p r)
-  pub goesOn : (p : ℕ) → GoesOn b p → P serve! (send b p)
-  pub begins : (r t p : ℕ) → Begins b r t p → p ≡ chosen b t → P serve! (send (begin b t) p)
+  pub goesOn : (p : ℕ) → GoesOn b p → P serve! (send false b p)
+  pub begins : (r t p : ℕ) → Begins b r t p → p ≡ chosen b t → P serve! (send true (begin b t) p)
 
 pub call-cases : (b : Board) → Tidy b → (P : Single → Turn → Type 0) → CallCases b P → (x : Single) → P x (step b x)
 call-cases b g P cs = other-cases b P

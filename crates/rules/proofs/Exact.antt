@@ -31,13 +31,13 @@ found-decides b n = record { yes = λ e. (whereIs b n, where-has b n (true-le (s
 
 pub unknown-decides : (b : Board) (n : ℕ) → Decides (noneHas b n) ((p : ℕ) → Has b p n → ⊥)
 unknown-decides b n = record {
-  yes = λ e p h. absurd (omega (arith, true-le 64 (whereIs b n) e, true-le (suc (whereIs b n)) 64 (found-decides b n .no (p, h))));
-  no = λ f. go (split 64 (whereIs b n)) f;
+  yes = λ e p h. true≢false (sym e ∙ ap not (found-decides b n .no (p, h)));
+  no = λ f. go (someHas b n) refl f;
 }
   where
-    go : (64 ≤ whereIs b n) ⊎ (whereIs b n < 64) → ((p : ℕ) → Has b p n → ⊥) → leb 64 (whereIs b n) ≡ true
-    go (inl h) f = leb-yes 64 (whereIs b n) h
-    go (inr h) f = let w = found-decides b n .yes (leb-yes (suc (whereIs b n)) 64 h) in absurd (f (w .0) (w .1))
+    go : (t : Bool) → someHas b n ≡ t → ((p : ℕ) → Has b p n → ⊥) → not t ≡ true
+    go true e f = let w = found-decides b n .yes e in absurd (f (w .0) (w .1))
+    go false e f = refl
 
 -- ---- places and shares
 

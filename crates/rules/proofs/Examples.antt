@@ -14,7 +14,7 @@ use Rattle.units.specs.Classes.{Start, classOf, nextStart}
 use Rattle.units.specs.Credit.{framing, charged, largestCharge, creditOf}
 use Rattle.rules.specs.Board.{Record, charge, queued, Board, at, firstEntry, entry, onward, someWait, anyDue, spent, fresh, pending, freePlace}
 use Rattle.rules.specs.Choice.{whereIs, upd, takenIn, takeRecord, release, leastReady, settle, ended, sendFrom, send, lowest, begin, serveBy, serve, find, openAt}
-use Rattle.rules.specs.Blocks.{freeAt, openBlock, renameBlock, quiet, closed, closeBlock}
+use Rattle.rules.specs.Blocks.{opening, freeAt, openBlock, renameBlock, quiet, closed, closeBlock}
 use Rattle.rules.specs.Calls.{Single, open!, rename!, close!, record!, serve!, step, Answer, gives, takes, sends}
 use Rattle.rules.specs.Runs.{play, answer, bytesIn, slotsIn, holds, heldOf, Unsent, NotSpent, ComesToFront, intoEmpty, servesIn, classAt, stillHeld, story, begins}
 use Rattle.rules.specs.Promises.{WaitsAt, bound}
@@ -31,6 +31,9 @@ took = takes (record { code = 0 })
 abbrev out : ℕ → ℕ → ℕ → ℕ → Answer
 out block number bytes clock = sends (record { block = block; number = number; bytes = bytes; clock = clock })
 
+abbrev opens : (number share : ℕ) → Single
+opens number share = open! (opening number share)
+
 unfoldable pub answers : Board → List Single → List Answer
 answers b [] = []
 answers b (x ∷ xs) = answer b x ∷ answers (step b x .next) xs
@@ -39,22 +42,22 @@ answers b (x ∷ xs) = answer b x ∷ answers (step b x .next) xs
 
 -- the worked log of document 01, with L 100
 unfoldable pub worked : List Single
-worked = open! 11 32768 ∷ open! 12 24576 ∷ record! 11 (rec 1 100) ∷ record! 11 (rec 2 60) ∷ record! 12 (rec 3 100) ∷ record! 12 (rec 4 100) ∷ record! 12 (rec 5 100)
+worked = opens 11 32768 ∷ opens 12 24576 ∷ record! 11 (rec 1 100) ∷ record! 11 (rec 2 60) ∷ record! 12 (rec 3 100) ∷ record! 12 (rec 4 100) ∷ record! 12 (rec 5 100)
     ∷ serve! ∷ serve! ∷ serve! ∷ serve! ∷ serve! ∷ serve! ∷ []
 
 -- the hold: eight blocks of class 3 wait at clock 8; four are emptied and closed at 12
 unfoldable pub emptied : List Single
-emptied = open! 1 8192 ∷ open! 2 8192 ∷ open! 3 8192 ∷ open! 4 8192 ∷ open! 5 8192 ∷ open! 6 8192 ∷ open! 7 8192 ∷ open! 8 8192
+emptied = opens 1 8192 ∷ opens 2 8192 ∷ opens 3 8192 ∷ opens 4 8192 ∷ opens 5 8192 ∷ opens 6 8192 ∷ opens 7 8192 ∷ opens 8 8192
     ∷ record! 1 (rec 1 100) ∷ record! 2 (rec 1 100) ∷ record! 3 (rec 1 100) ∷ record! 4 (rec 1 100) ∷ record! 5 (rec 1 100) ∷ record! 6 (rec 1 100) ∷ record! 7 (rec 1 100) ∷ record! 8 (rec 1 100)
     ∷ record! 5 (rec 2 100) ∷ record! 6 (rec 2 100) ∷ record! 7 (rec 2 100) ∷ record! 8 (rec 2 100)
     ∷ serve! ∷ serve! ∷ serve! ∷ serve! ∷ close! 1 ∷ close! 2 ∷ close! 3 ∷ close! 4 ∷ []
 
 unfoldable pub thenOpened : List Single
-thenOpened = open! 9 32768 ∷ serve! ∷ open! 9 32768 ∷ serve! ∷ serve! ∷ serve! ∷ open! 9 32768 ∷ []
+thenOpened = opens 9 32768 ∷ serve! ∷ opens 9 32768 ∷ serve! ∷ serve! ∷ serve! ∷ opens 9 32768 ∷ []
 
 -- the fraction of a credit: share 65,535 with L 64 has 127 bytes and 65,408 parts
 unfoldable pub fraction : List Single
-fraction = open! 7 65535 ∷ record! 7 (rec 1 64) ∷ record! 7 (rec 2 63) ∷ record! 7 (rec 3 64) ∷ record! 7 (rec 4 64) ∷ serve! ∷ serve! ∷ serve! ∷ serve! ∷ []
+fraction = opens 7 65535 ∷ record! 7 (rec 1 64) ∷ record! 7 (rec 2 63) ∷ record! 7 (rec 3 64) ∷ record! 7 (rec 4 64) ∷ serve! ∷ serve! ∷ serve! ∷ serve! ∷ []
 
 -- how tight the bound is, with L 64: four blocks of class 4 that have kept nearly 64 bytes of deficit each; two have had their slots at
 -- 32 and 33 when a record comes for a block of class 1
@@ -62,7 +65,7 @@ unfoldable pub filled : ℕ → List Single
 filled n = record! n (rec 1 64) ∷ record! n (rec 2 64) ∷ record! n (rec 3 64) ∷ record! n (rec 4 63) ∷ []
 
 unfoldable pub tight : List Single
-tight = open! 9 32768 ∷ open! 1 8191 ∷ open! 2 8191 ∷ open! 3 8191 ∷ open! 4 8191 ∷ (filled 1 ++ (filled 2 ++ (filled 3 ++ (filled 4
+tight = opens 9 32768 ∷ opens 1 8191 ∷ opens 2 8191 ∷ opens 3 8191 ∷ opens 4 8191 ∷ (filled 1 ++ (filled 2 ++ (filled 3 ++ (filled 4
     ++ (serve! ∷ serve! ∷ serve! ∷ serve! ∷ serve! ∷ serve! ∷ serve! ∷ serve! ∷ serve! ∷ serve! ∷ [])))))
 
 unfoldable pub waiting : List Single
@@ -108,7 +111,7 @@ pub record Computed : Type 0 where
   pub holdsFour : (play (fresh 100) emptied .clock ≡ 12) × (play (fresh 100) emptied .held 3 ≡ 32768) × (sum (heldOf 3) (holds [] (fresh 100) emptied) ≡ 32768)
   pub holdAnswers : answers (play (fresh 100) emptied) thenOpened ≡ gives 8 ∷ out 5 1 100 12 ∷ gives 8 ∷ out 6 1 100 13 ∷ out 7 1 100 14 ∷ out 8 1 100 15 ∷ gives 0 ∷ []
   -- a lane that empties leaves no deficit
-  pub emptiedDeficit : at (play (fresh 64) (open! 1 32768 ∷ record! 1 (rec 1 40) ∷ serve! ∷ [])) 0 .deficit ≡ 0
+  pub emptiedDeficit : at (play (fresh 64) (opens 1 32768 ∷ record! 1 (rec 1 40) ∷ serve! ∷ [])) 0 .deficit ≡ 0
   -- slot clocks 2 2 4 4: a dropped fraction gives 2 2 4 6
   pub fractionClocks : answers (fresh 64) fraction ≡ gives 0 ∷ took ∷ took ∷ took ∷ took ∷ out 7 1 64 2 ∷ out 7 2 63 2 ∷ out 7 3 64 4 ∷ out 7 4 64 4 ∷ []
   -- while the record of class 1 waits, 382 of at most 573 bytes of others are sent
@@ -127,8 +130,8 @@ pub record Computed : Type 0 where
   -- none is pending at clock 3, and the least ready time is the next start of the lowest active class
   pub nonePending : (atThree .slot ≡ none) × (allBelow 17 (λ k. not (pending atThree k)) ≡ true) × (leastReady (atThree .places) ≡ some 4)
   -- a block's story through three renames: each record leaves under the number of that moment, one still stands in the lane
-  pub renamedAnswers : answers (step (fresh 64) (open! 1 32768) .next) renames ≡ took ∷ took ∷ took ∷ gives 0 ∷ out 2 1 40 2 ∷ gives 0 ∷ out 3 2 20 2 ∷ gives 0 ∷ took ∷ out 4 3 64 4 ∷ []
-  pub renamedStory : story (begins 1) (step (fresh 64) (open! 1 32768) .next) renames
+  pub renamedAnswers : answers (step (fresh 64) (opens 1 32768) .next) renames ≡ took ∷ took ∷ took ∷ gives 0 ∷ out 2 1 40 2 ∷ gives 0 ∷ out 3 2 20 2 ∷ gives 0 ∷ took ∷ out 4 3 64 4 ∷ []
+  pub renamedStory : story (begins 1) (step (fresh 64) (opens 1 32768) .next) renames
       ≡ record { number = 4; taken = rec 1 40 ∷ rec 2 20 ∷ rec 3 64 ∷ rec 4 9 ∷ []; sent = rec 1 40 ∷ rec 2 20 ∷ rec 3 64 ∷ []; closed = false }
   -- the clock is spent for the late board
   pub lateIsSound : spoilt late ≡ false

@@ -114,13 +114,13 @@ framed-step : (b : Board) (x : Single) → Framed b (step b x .next)
 unfolding send
 framed-step b = other-cases b (λ x u. Framed b (u .next)) (record {
   refused = λ x code r. framed-refl b;
-  opens = λ n s c. framed-goOn b (freeAt b) (opened n s);
+  opens = λ o c. framed-goOn b (freeAt b) (opened o);
   renames = λ old new c. framed-goOn b (whereIs b old) (renamed new (at b (whereIs b old)));
   closes = λ n c. framed-closed b (whereIs b n);
   takes = λ n r c. framed-taken b (whereIs b n) r;
 }) (serve-turns b (λ u. Framed b (u .next)) (λ code u. framed-refl b) (λ p e. framed-send b p) (λ r m. begun (max (b .clock) r)))
   where
-    begun : (t : ℕ) → Framed b (send (begin b t) (chosen b t) .next)
+    begun : (t : ℕ) → Framed b (send true (begin b t) (chosen b t) .next)
     begun t = let f = framed-begin b t in let g = framed-send (begin b t) (chosen b t) in record { size = g .size ∙ f .size; high = λ s. g .high (f .high s) }
 
 -- L

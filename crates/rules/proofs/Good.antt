@@ -14,7 +14,7 @@ use Rattle.units.proofs.Classes.{class-le}
 use Rattle.rules.specs.Spoilt.{isQueued, readyNum}
 use Rattle.rules.specs.Board.{Record, Place, freePlace, blockClass}
 use Rattle.rules.specs.Choice.{upd, leastReady, isNone, release, settle, started}
-use Rattle.rules.specs.Blocks.{opened}
+use Rattle.rules.specs.Blocks.{Opening, opened}
 use Rattle.rules.proofs.Line.{Seat, free, SeatOk, Bought, Lowest, off}
 use Rattle.rules.proofs.Steps.{Sound, begin-sound, tick-sound, jump-sound, join-sound, open-sound, close-sound, idle-sound, joined, Holds}
 use Rattle.rules.proofs.Orders.{pl, ready, map-set, upd-same, upd-other}
@@ -99,16 +99,16 @@ fine-begin {L} {c} {l} {o} {H} k p ch f =
     sound = rw (seat-at l p) at (begin-sound (seats l) H c p (f .sound) low)
 
 -- OPEN
-pub fine-open : {L c d : ℕ} {l : List Place} {o : ℕ → List ℕ} {H : ℕ → ℕ} (p n s : ℕ) → p < length l → seatOf (pl l p) ≡ free → Distinct (set l p (opened n s)) → PlaceOk L (opened n s)
-    → sum (λ x. x .share) l + below H 17 + s ≤ 65536 → Fine L c d l o H → Fine L c d (set l p (opened n s)) o H
-fine-open {L} {c} {d} {l} {o} {H} p n s h was dis new room f =
+pub fine-open : {L c d : ℕ} {l : List Place} {o : ℕ → List ℕ} {H : ℕ → ℕ} (p : ℕ) (w : Opening) → p < length l → seatOf (pl l p) ≡ free → Distinct (set l p (opened w)) → PlaceOk L (opened w)
+    → sum (λ x. x .share) l + below H 17 + w .share ≤ 65536 → Fine L c d l o H → Fine L c d (set l p (opened w)) o H
+fine-open {L} {c} {d} {l} {o} {H} p w h was dis new room f =
     record {
       shape = shape-other p x H h (ap (λ (t : Seat). t .ord) was) refl dis new (omega arith) (f .shape);
-      sound = rw (map-set seatOf l p x) (open-sound (seats l) H c d p s (rw (length-seats l) h) (seat-at l p ∙ was) (rw (sum-seats l) room) (f .sound));
+      sound = rw (map-set seatOf l p x) (open-sound (seats l) H c d p (w .share) (rw (length-seats l) h) (seat-at l p ∙ was) (rw (sum-seats l) room) (f .sound));
     }
   where
     x : Place
-    x = opened n s
+    x = opened w
 
 -- CLOSE
 pub names-free : (l : List Place) (p : ℕ) → p < length l → Distinct l → Distinct (set l p freePlace)

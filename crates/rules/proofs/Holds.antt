@@ -186,7 +186,7 @@ module _ (b : Board) (hs : List Hold) (g : Tidy b) (a : Agrees (b .clock) (b .he
   as-was = rw (append-nil hs) a
 
   closing-refused : (x : Single) (code : ℕ) → Refusal code → closing b x (gives code) ≡ []
-  closing-refused (open! n s) code r = refl
+  closing-refused (open! o) code r = refl
   closing-refused (rename! old new) code r = refl
   closing-refused (close! n) code r = rw (refusal-not0 code r)
   closing-refused (record! n x) code r = refl
@@ -215,7 +215,7 @@ module _ (b : Board) (hs : List Hold) (g : Tidy b) (a : Agrees (b .clock) (b .he
   unfolding send
   steps = call-cases b g Steps (record {
     refused = λ x code r w. rw (closing-refused x code r) as-was;
-    opens = λ n s c w. as-was;
+    opens = λ o c w. as-was;
     renames = λ p old new c w. as-was;
     closes = steps-close;
     takes = steps-take;
@@ -223,7 +223,7 @@ module _ (b : Board) (hs : List Hold) (g : Tidy b) (a : Agrees (b .clock) (b .he
     begins = begins;
   })
     where
-      begins : (r t p : ℕ) → Begins b r t p → p ≡ chosen b t → Steps serve! (send (begin b t) p)
+      begins : (r t p : ℕ) → Begins b r t p → p ≡ chosen b t → Steps serve! (send true (begin b t) p)
       begins r t p c e w = rw (append-nil hs) (send-agrees (begin b t) p hs (tidy-send (begin b t) p (begin-slot b t ∙ ap some (sym e)) gb) (begin-agrees b t hs (omega (arith, c .time)) a) w)
         where
           gb : Tidy (begin b t)

@@ -29,7 +29,7 @@ clock-told : (b : Board) (o : Out) → clockOf (told b o) ≡ slotClock o
 clock-told b (refused code) = refl
 clock-told b done = refl
 clock-told b (taken a) = refl
-clock-told b (sent p r t) = refl
+clock-told b (sent s) = refl
 
 begins-at : (lo hi : ℕ) (b : Board) (p n : ℕ) (x : Single) → isFor n (answer b x) ≡ fromPlace p (step b x .out)
     → beginsIn lo hi n b x ≡ begun b (step b x) p && leb lo (slotClock (step b x .out)) && leb (suc (slotClock (step b x .out))) hi
@@ -98,7 +98,7 @@ lane-has b n l = go (find b n) refl l
 -- only a serving call moves the clock
 moves : (b : Board) → Tidy b → (x : Single) → (step b x .next .clock ≡ b .clock) ⊎ (x ≡ serve!)
 unfolding takenIn closed
-moves b t = call-cases b t (λ x u. (u .next .clock ≡ b .clock) ⊎ (x ≡ serve!)) (record { refused = λ x code r. inl refl; opens = λ n s c. inl refl; renames = λ p old new c. inl refl; closes = λ p n c. inl refl; takes = λ p n r c. inl (took p r (leb (length (at b p .lane)) 0)); goesOn = λ p c. inr refl; begins = λ r s p c e. inr refl })
+moves b t = call-cases b t (λ x u. (u .next .clock ≡ b .clock) ⊎ (x ≡ serve!)) (record { refused = λ x code r. inl refl; opens = λ o c. inl refl; renames = λ p old new c. inl refl; closes = λ p n c. inl refl; takes = λ p n r c. inl (took p r (leb (length (at b p .lane)) 0)); goesOn = λ p c. inr refl; begins = λ r s p c e. inr refl })
   where
     took : (p : ℕ) (r : Record) (z : Bool) → cond z (joining b p (joins (b .clock) (at b p) r)) (goOn b p (more (at b p) r)) .clock ≡ b .clock
     took p r true = refl

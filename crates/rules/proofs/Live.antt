@@ -30,7 +30,7 @@ serve-live b p g w = serve-turns b (λ u. (u .out ≡ refused 11) ⊎ (isSent (u
 -- while a block waits, a serve that isn't given 11 sends at least a byte
 try-one : (b : Board) (x : Single) (p : ℕ) → Good b → inLine (at b p .stand) ≡ true → eqb (codeOf (answer b x)) 11 ≡ false → oneIf (isServe x) ≤ bytesSent (step b x .out)
 unfolding step
-try-one b (open! n s) p g w h = omega arith
+try-one b (open! o) p g w h = omega arith
 try-one b (close! n) p g w h = omega arith
 try-one b (rename! n m) p g w h = omega arith
 try-one b (record! n x) p g w h = omega arith

@@ -13,9 +13,9 @@ use Rattle.base.specs.Tests.{least}
 use Rattle.base.proofs.Tests.{least-false}
 use Rattle.base.proofs.Numbers.{split, leb-yes, eqb-yes, eqb-no, eqb-true, true-le}
 use Rattle.rules.specs.Board.{Record, Place, freePlace, Board, at, isOpen, charge, noRecord, blockClass, Has}
-use Rattle.rules.specs.Choice.{done, sent, Turn, refuse, Found, openAt, unknown, foundAt, find, byFound, whereIs, goOn, more, joins, joining, takenIn}
+use Rattle.rules.specs.Choice.{done, Sending, sending, sent, Turn, refuse, Found, openAt, unknown, foundAt, find, byFound, whereIs, someHas, goOn, more, joins, joining, takenIn}
 use Rattle.rules.specs.Choice.{emptied, short, going, started, ended, sendFrom, send, begin, chosen, upd, leftAfter, refused, tookAt}
-use Rattle.rules.specs.Blocks.{opened, freeAt, renamed, closed}
+use Rattle.rules.specs.Blocks.{Opening, opened, freeAt, renamed, closed}
 use Rattle.rules.specs.Calls.{Single, open!, rename!, close!, record!, serve!, step, gives, takes, told}
 use Rattle.rules.specs.Runs.{numberAfter, closes, takenFor, isFor, laneOf, shareOf}
 use Rattle.rules.proofs.Orders.{pl}
@@ -48,7 +48,7 @@ pub has-find : (b : Board) (p n : ℕ) → Tidy b → Has b p n → find b n ≡
 has-find b p n g h = rw (has-where b p n g h, leb-yes (suc p) 64 (h .inside))
 
 pub find-has : (b : Board) (p n : ℕ) → find b n ≡ openAt p → Has b p n
-find-has b p n e = go (ltb (whereIs b n) 64) refl e
+find-has b p n e = go (someHas b n) refl e
   where
     found : (q : ℕ) → openAt q ≡ openAt p → q ≡ p
     found q f = cc
@@ -56,7 +56,7 @@ find-has b p n e = go (ltb (whereIs b n) 64) refl e
     lost : unknown ≡ openAt p → ⊥
     lost f = let z : _≡_ {A = ℕ} 0 1 = cc in omega arith
 
-    go : (t : Bool) → ltb (whereIs b n) 64 ≡ t → foundAt t (whereIs b n) ≡ openAt p → Has b p n
+    go : (t : Bool) → someHas b n ≡ t → foundAt t (whereIs b n) ≡ openAt p → Has b p n
     go true f q = subst (λ (z : ℕ). Has b z n) (found (whereIs b n) q) (where-has b n (true-le (suc (whereIs b n)) 64 f))
     go false f q = absurd (lost q)
 
@@ -107,21 +107,21 @@ pub record Follows (b : Board) (p n : ℕ) (x : Single) (t : Turn) : Type 0 wher
 -- a refused call changes no number, closes nothing and takes nothing in
 module _ (n code : ℕ) (r : eqb code 0 ≡ false) where
   number-refused : (x : Single) → numberAfter n x (gives code) ≡ n
-  number-refused (open! m s) = refl
+  number-refused (open! o) = refl
   number-refused (rename! old new) = rw r
   number-refused (close! m) = refl
   number-refused (record! m x) = refl
   number-refused serve! = refl
 
   closes-refused : (x : Single) → closes n x (gives code) ≡ false
-  closes-refused (open! m s) = refl
+  closes-refused (open! o) = refl
   closes-refused (rename! old new) = refl
   closes-refused (close! m) = rw r
   closes-refused (record! m x) = refl
   closes-refused serve! = refl
 
   taken-refused : (x : Single) → takenFor n x (gives code) ≡ []
-  taken-refused (open! m s) = refl
+  taken-refused (open! o) = refl
   taken-refused (rename! old new) = refl
   taken-refused (close! m) = refl
   taken-refused (record! m x) = rw r
@@ -143,11 +143,11 @@ module _ (b : Board) (p n : ℕ) (g : Tidy b) (h : Has b p n) where
     took = taken-refused n code (refusal-not0 code r) x ∙ sym (took-refused p b code x);
   }
 
-  follow-open : (m s : ℕ) → CanOpen b m s → Follows b p n (open! m s) (record { out = done; next = goOn b (freeAt b) (opened m s) })
-  follow-open m s c = record { stays = λ _. (same _ (ap (λ (x : Place). x .number) else) (ap (λ (x : Place). x .share) else), ap (λ (x : Place). x .share) else); ends = λ e. absurd (false≢true e); sent = refl; took = refl }
+  follow-open : (o : Opening) → CanOpen b o → Follows b p n (open! o) (record { out = done; next = goOn b (freeAt b) (opened o) })
+  follow-open o c = record { stays = λ _. (same _ (ap (λ (x : Place). x .number) else) (ap (λ (x : Place). x .share) else), ap (λ (x : Place). x .share) else); ends = λ e. absurd (false≢true e); sent = refl; took = refl }
     where
-      else : pl (set (b .places) (freeAt b) (opened m s)) p ≡ at b p
-      else = getD-set-other (b .places) (freeAt b) p (opened m s) freePlace (λ e. omega (arith, h .bought, c .free, ap (λ (z : ℕ). at b z .share) e))
+      else : pl (set (b .places) (freeAt b) (opened o)) p ≡ at b p
+      else = getD-set-other (b .places) (freeAt b) p (opened o) freePlace (λ e. omega (arith, h .bought, c .free, ap (λ (z : ℕ). at b z .share) e))
 
   follow-rename : (q old new : ℕ) → CanRename b q old new → Follows b p n (rename! old new) (record { out = done; next = goOn b q (renamed new (at b q)) })
   follow-rename q old new c = record { stays = λ _. (rw (same-name b p n q old g h (c .has)) (go (ℕ-discrete p q)), set-field (λ (x : Place). x .share) (b .places) q (renamed new (at b q)) inQ refl p); ends = λ e. absurd (false≢true e); sent = refl; took = refl }
@@ -195,9 +195,17 @@ module _ (b : Board) (p n : ℕ) (g : Tidy b) (h : Has b p n) where
           go true = set-field f (b .places) q (joins (b .clock) (at b q) r) inQ (byJoins (at b q)) p
           go false = set-field f (b .places) q (more (at b q) r) inQ (byMore (at b q)) p
 
-  follow-send : (q : ℕ) → q < 64 → 1 ≤ at b q .share → (r : Record) (clock : ℕ) (nb : Board) → at nb p .number ≡ at b p .number → at nb p .share ≡ at b p .share
-      → Follows b p n serve! (record { out = sent q r clock; next = nb })
-  follow-send q i s r clock nb e f = record { stays = λ _. (same nb e f, f); ends = λ e. absurd (false≢true e); sent = same-name b p n q (at b q .number) g h (record { inside = i; bought = s; named = refl }); took = refl }
+  follow-send : (z : Sending) → let q = z .place in q < 64 → 1 ≤ at b q .share
+      → (nb : Board) → at nb p .number ≡ at b p .number → at nb p .share ≡ at b p .share
+      → Follows b p n serve! (record { out = sent z; next = nb })
+  follow-send z i s nb e f =
+      let q = z .place in
+      record {
+        stays = λ _. (same nb e f, f);
+        ends = λ e. absurd (false≢true e);
+        sent = same-name b p n q (at b q .number) g h (record { inside = i; bought = s; named = refl });
+        took = refl;
+      }
 
   pub follows : (x : Single) → Follows b p n x (step b x)
   unfolding send
@@ -207,6 +215,6 @@ module _ (b : Board) (p n : ℕ) (g : Tidy b) (h : Has b p n) where
     renames = follow-rename;
     closes = follow-close;
     takes = follow-take;
-    goesOn = λ q c. let i : q < length (b .places) = omega (arith, c .inside, g .shape .all64) in follow-send q (c .inside) (c .bought) _ _ _ (kept-send (λ x. x .number) (λ x. refl) (λ t x. refl) (λ x. refl) (λ L x. refl) b q p i) (kept-send (λ x. x .share) (λ x. refl) (λ t x. refl) (λ x. refl) (λ L x. refl) b q p i);
-    begins = λ r t q c e. let i : chosen b t < length (b .places) = omega (arith, c .inside, g .shape .all64, e) in subst (λ (z : ℕ). Follows b p n serve! (send (begin b t) z)) (sym e) (follow-send (chosen b t) (rw (← e) (c .inside)) (rw (← e) (c .bought)) _ _ _ (kept-begun (λ x. x .number) (λ x. refl) (λ t x. refl) (λ x. refl) (λ L x. refl) b t p i) (kept-begun (λ x. x .share) (λ x. refl) (λ t x. refl) (λ x. refl) (λ L x. refl) b t p i));
+    goesOn = λ q c. let i : q < length (b .places) = omega (arith, c .inside, g .shape .all64) in follow-send (sending false b q) (c .inside) (c .bought) _ (kept-send (λ x. x .number) (λ x. refl) (λ t x. refl) (λ x. refl) (λ L x. refl) b q p i) (kept-send (λ x. x .share) (λ x. refl) (λ t x. refl) (λ x. refl) (λ L x. refl) b q p i);
+    begins = λ r t q c e. let i : chosen b t < length (b .places) = omega (arith, c .inside, g .shape .all64, e) in subst (λ (z : ℕ). Follows b p n serve! (send true (begin b t) z)) (sym e) (follow-send (sending true (begin b t) (chosen b t)) (rw (← e) (c .inside)) (rw (← e) (c .bought)) _ (kept-begun (λ x. x .number) (λ x. refl) (λ t x. refl) (λ x. refl) (λ L x. refl) b t p i) (kept-begun (λ x. x .share) (λ x. refl) (λ t x. refl) (λ x. refl) (λ L x. refl) b t p i));
   })

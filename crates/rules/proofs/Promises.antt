@@ -98,7 +98,7 @@ unfolding send
 codes b g (burst! bytes list) = (λ e. stop-else (burst b bytes (length list) .code) (burst-codes b bytes (length list)) (inl e), λ e. stop-else (burst b bytes (length list) .code) (burst-codes b bytes (length list)) (inr e))
 codes b g (one x) =
     call-cases b g (λ x u. (codeOf (told b (u .out)) ≢ 3) × (codeOf (told b (u .out)) ≢ 2))
-    (record { refused = refusal; opens = λ n s c. done0; renames = λ p old new c. done0; closes = λ p n c. done0; takes = λ p n r c. done0; goesOn = λ p c. done0; begins = λ r t p c e. done0 }) x
+    (record { refused = refusal; opens = λ o c. done0; renames = λ p old new c. done0; closes = λ p n c. done0; takes = λ p n r c. done0; goesOn = λ p c. done0; begins = λ r t p c e. done0 }) x
   where
     done0 : ((_≡_ {A = ℕ} 0 3) → ⊥) × ((_≡_ {A = ℕ} 0 2) → ⊥)
     done0 = (λ e. omega arith, λ e. omega arith)
@@ -115,7 +115,7 @@ never-spoilt L b r = (whole, λ c. record { does = call-done b c whole; not3 = c
 -- ---- demand 2
 
 pub conserved-all : Conserved
-conserved-all L b r n share after e = conserved b (tidy L b r) n share after e
+conserved-all L b r o after e = conserved b (tidy L b r) o after e
 
 -- ---- demand 3
 

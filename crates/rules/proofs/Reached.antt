@@ -53,7 +53,7 @@ pub clock-up : (b : Board) (c : Single) → b .clock ≤ step b c .next .clock
 unfolding closed send
 clock-up b = other-cases b (λ x u. b .clock ≤ u .next .clock) (record {
   refused = λ x code r. le-refl (b .clock);
-  opens = λ n s c. le-refl (b .clock);
+  opens = λ o c. le-refl (b .clock);
   renames = λ old new c. le-refl (b .clock);
   closes = λ n c. le-refl (b .clock);
   takes = λ n x c. up-taken b (whereIs b n) x;
@@ -86,7 +86,7 @@ sends : (b : Board) (c : Single) (p : ℕ) → Good b → fromPlace p (step b c 
 unfolding send
 sends b c p g = other-cases b (λ x u. fromPlace p (u .out) ≡ true → Sends b u p) (record {
   refused = λ x code r f. absurd (false≢true f);
-  opens = λ n s c f. absurd (false≢true f);
+  opens = λ o c f. absurd (false≢true f);
   renames = λ old new c f. absurd (false≢true f);
   closes = λ n c f. absurd (false≢true f);
   takes = λ n x c f. absurd (false≢true f);
@@ -96,7 +96,7 @@ sends b c p g = other-cases b (λ x u. fromPlace p (u .out) ≡ true → Sends b
     (λ q e f. inl (ap isNone e, g .one p ∙ ap (isAt p) e ∙ f))
     begins) c
   where
-    begins : (r : ℕ) → MayBegin b r → eqb p (chosen b (max (b .clock) r)) ≡ true → Sends b (send (begin b (max (b .clock) r)) (chosen b (max (b .clock) r))) p
+    begins : (r : ℕ) → MayBegin b r → eqb p (chosen b (max (b .clock) r)) ≡ true → Sends b (send true (begin b (max (b .clock) r)) (chosen b (max (b .clock) r))) p
     begins r m f =
         let w = begin-clock b r p g (m .slot) (least-of b r (m .least)) (eqb-true p (chosen b (max (b .clock) r)) f) in
         inr (ap isNone (m .slot), w .0, w .1)

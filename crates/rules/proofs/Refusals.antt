@@ -24,7 +24,7 @@ kind-step : (b : Board) (x : Single) → Kind b (step b x)
 unfolding Kind send
 kind-step b = other-cases b (λ x u. Kind b u) (record {
   refused = λ x code r. inl (code, refl);
-  opens = λ n s c. inr refl;
+  opens = λ o c. inr refl;
   renames = λ old new c. inr refl;
   closes = λ n c. inr refl;
   takes = λ n r c. inr refl;
@@ -32,7 +32,7 @@ kind-step b = other-cases b (λ x u. Kind b u) (record {
 
 -- no refusal writes an entry
 writes-refused : (x : Single) (code : ℕ) → writes x (refused code) ≡ kept
-writes-refused (open! n s) code = refl
+writes-refused (open! o) code = refl
 writes-refused (rename! old new) code = refl
 writes-refused (close! n) code = refl
 writes-refused (record! n r) code = refl
@@ -76,7 +76,7 @@ abbrev pub ServeOut : Out → Type 0
 ServeOut (refused code) = (code ≡ 1) ⊎ (code ≡ 11)
 ServeOut done = ⊥
 ServeOut (taken a) = ⊥
-ServeOut (sent p r t) = Unit {0}
+ServeOut (sent s) = Unit {0}
 
 pub serve-codes : (b : Board) → ServeOut (serve b .out)
 unfolding send
@@ -108,7 +108,7 @@ burst-codes b bytes zero = go (serve b .out) (serve-codes b)
     go (refused code) s = stops code s
     go done s = inr (omega arith)
     go (taken a) s = inr (omega arith)
-    go (sent p r t) s = inr (omega arith)
+    go (sent z) s = inr (omega arith)
 burst-codes b bytes (suc room) = go (serve b .out) (serve-codes b) (burst-codes (serve b .next) (bytes - chargeNext (serve b .out)) room)
   where
     rest : Burst
@@ -122,7 +122,7 @@ burst-codes b bytes (suc room) = go (serve b .out) (serve-codes b) (burst-codes 
     go (refused code) s i = stops code s
     go done s i = inr (omega arith)
     go (taken a) s i = inr (omega arith)
-    go (sent p r t) s i = fits r (ltb bytes (charge r)) i
+    go (sent z) s i = fits (z .front) (ltb bytes (charge (z .front))) i
 
 -- a burst that is given 3 or 2
 pub burst-refusal-keeps : (lent : Lent) (bytes : ℕ) (list : List ℕ) → (codeOf (call lent (burst! bytes list) .answer) ≡ 3) ⊎ (codeOf (call lent (burst! bytes list) .answer) ≡ 2)

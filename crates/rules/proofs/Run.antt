@@ -25,7 +25,7 @@ use Rattle.rules.proofs.Calls.{keeps-record, keeps-rename, keeps-open, 
 pub keeps-step : (b : Board) (x : Single) → Good b → Keeps b (step b x)
 keeps-step b x g = other-cases b (λ c u. Keeps b u) (record {
   refused = λ c code r. keeps-refuse b code g;
-  opens = λ n s c. keeps-open b n s c g;
+  opens = λ o c. keeps-open b o c g;
   renames = λ old new c. keeps-rename b (whereIs b old) old new c g;
   closes = λ n c. keeps-close b (whereIs b n) n c g;
   takes = λ n r c. keeps-record b (whereIs b n) n r c g;

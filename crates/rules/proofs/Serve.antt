@@ -17,7 +17,7 @@ use Rattle.units.proofs.Starts.{next-gt, next-is, next-start, start-add, start-
 use Rattle.units.specs.Credit.{creditOf}
 use Rattle.rules.specs.Spoilt.{isQueued, isServing, isAt}
 use Rattle.rules.specs.Board.{charge, Stand, out, queued, serving, Place, freePlace, blockClass, front, Board, at}
-use Rattle.rules.specs.Choice.{isNone, release, started, sendFrom, send, begin, lowest, serve}
+use Rattle.rules.specs.Choice.{isNone, release, started, sending, sendFrom, send, begin, lowest, serve}
 use Rattle.rules.proofs.Line.{free, SeatOk}
 use Rattle.rules.proofs.Potential.{ahead, ahead-begin, ahead-jump}
 use Rattle.rules.proofs.Orders.{pl, ready}
@@ -149,9 +149,9 @@ module _ (b : Board) (r : ℕ) (free : b .slot ≡ none) (least : LeastIs (b .pl
       given : givenIn b p ≡ creditOf (b .largest) (at b p .share)
       given = ap (λ (z : Option ℕ). cond (isNone z) (creditOf (b .largest) (at b p .share)) 0) free
 
-  keeps-begin : Keeps b (send (begin b t) p)
+  keeps-begin : Keeps b (send true (begin b t) p)
   unfolding send begin
-  keeps-begin = keeps-sent b (sendFrom (begin b t) p) p (front (at (begin b t) p)) t only (queued-waits (at b p .stand) (chosen .isQ)) (front-pos (begin b t) p good1 (rw started1)) timely sends1
+  keeps-begin = keeps-sent b (sendFrom (begin b t) p) (sending true (begin b t) p) only (queued-waits (at b p .stand) (chosen .isQ)) (front-pos (begin b t) p good1 (rw started1)) timely sends1
     where
       only : (q : ℕ) → isServing (at b q .stand) ≡ true → q ≡ p
       only q e = absurd (true≢false (sym e ∙ g .one q ∙ ap (isAt q) free))

@@ -14,7 +14,7 @@ use lib.Seq.{getD-set-same}
 use Rattle.base.proofs.Numbers.{split, leb-yes, leb-no, eqb-yes, eqb-no, true-le}
 use Rattle.units.specs.Credit.{largestCharge}
 use Rattle.rules.specs.Board.{Record, noRecord, charge, Place, freePlace, Board, at, front, blockClass}
-use Rattle.rules.specs.Choice.{refused, sent, Turn, isNone, leftOf, leftAfter, goOn, joins, more, takenIn, emptied, short, going, ended, sendFrom, send}
+use Rattle.rules.specs.Choice.{refused, Sending, sending, sent, Turn, isNone, leftOf, leftAfter, goOn, joins, more, takenIn, emptied, short, going, ended, sendFrom, send}
 use Rattle.rules.specs.Choice.{begin, chosen, upd, joining, tookAt}
 use Rattle.rules.specs.Blocks.{opened, freeAt, renamed, closed}
 use Rattle.rules.specs.Spoilt.{isServing, isAt}
@@ -161,9 +161,9 @@ still : (t : ℕ) (b nb : Board) → nb .clock ≡ b .clock → nb .slot ≡ b .
 unfolding allowed
 still t b nb c s L e = rw (c, s, L, e)
 
-bytes-at : (t : ℕ) (b : Board) (p : ℕ) (r : Record) (c : ℕ) → bytesAt t (told b (sent p r c)) ≡ cond (eqb c t) (charge r) 0
+bytes-at : (t : ℕ) (b : Board) (s : Sending) → bytesAt t (told b (sent s)) ≡ cond (eqb (s .clock) t) (charge (s .front)) 0
 unfolding charge
-bytes-at t b p r c = refl
+bytes-at t b s = refl
 
 module _ (t : ℕ) (b : Board) (g : Tidy b) where
   abbrev Pays : Single → Turn → Type 0
@@ -187,16 +187,16 @@ module _ (t : ℕ) (b : Board) (g : Tidy b) where
   unfolding closed send
   pays = call-cases b g Pays (record {
     refused = λ x code r. omega arith;
-    opens = λ n s c. omega (arith, still t b (goOn b (freeAt b) (opened n s)) refl refl refl (same (freeAt b) (opened n s) (inside (freeAt b) (c .inside)) (sym (share-out (b .largest) (at b (freeAt b) .share) (at b (freeAt b) .lane) (at b (freeAt b) .stand) (c .free) (g .shape .placeOk (freeAt b) .standOk)))));
+    opens = λ o c. omega (arith, still t b (goOn b (freeAt b) (opened o)) refl refl refl (same (freeAt b) (opened o) (inside (freeAt b) (c .inside)) (sym (share-out (b .largest) (at b (freeAt b) .share) (at b (freeAt b) .lane) (at b (freeAt b) .stand) (c .free) (g .shape .placeOk (freeAt b) .standOk)))));
     renames = λ p old new c. omega (arith, still t b (goOn b p (renamed new (at b p))) refl refl refl (same p (renamed new (at b p)) (inside p (c .has .inside)) refl));
     closes = λ p n c. omega (arith, still t b (closed b p) refl refl refl (same p freePlace (inside p (c .has .inside)) (sym (lane-out (b .largest) (at b p .share) (at b p .lane) (at b p .stand) (omega (arith, c .empty)) (g .shape .placeOk p .standOk)))));
     takes = pays-take;
-    goesOn = λ p c. omega (arith, bytes-at t b p (front (at b p)) (b .clock), send-allow t b p g (c .slot));
+    goesOn = λ p c. omega (arith, bytes-at t b (sending false b p), send-allow t b p g (c .slot));
     begins = begins;
   })
     where
-      begins : (r s p : ℕ) → Begins b r s p → p ≡ chosen b s → Pays serve! (send (begin b s) p)
-      begins r s p c e = subst (λ (q : ℕ). Pays serve! (send (begin b s) q)) (sym e) (omega (arith, bytes-at t b (chosen b s) (front (at (begin b s) (chosen b s))) (begin b s .clock), send-allow t (begin b s) (chosen b s) gb (begin-slot b s), begin-allow t b r s p g c gb))
+      begins : (r s p : ℕ) → Begins b r s p → p ≡ chosen b s → Pays serve! (send true (begin b s) p)
+      begins r s p c e = subst (λ (q : ℕ). Pays serve! (send true (begin b s) q)) (sym e) (omega (arith, bytes-at t b (sending true (begin b s) (chosen b s)), send-allow t (begin b s) (chosen b s) gb (begin-slot b s), begin-allow t b r s p g c gb))
         where
           gb : Tidy (begin b s)
           gb = subst (λ (z : ℕ). Tidy (begin b z)) (sym (c .time)) (tidy-begin b r (c .slot) (subst (LeastIs (b .places)) (c .least) (least-is (b .places))) (rw (← c .time) (c .soon)) g)

@@ -9,7 +9,7 @@ use lib.Seq.{getD-set-same}
 use Rattle.base.proofs.Numbers.{eqb-yes}
 use Rattle.rules.specs.Board.{Record, Place, freePlace, Board, at, Has}
 use Rattle.rules.specs.Choice.{Out, refused, done, taken, sent, Turn, goOn}
-use Rattle.rules.specs.Blocks.{opened, freeAt}
+use Rattle.rules.specs.Blocks.{Opening, opened, freeAt}
 use Rattle.rules.specs.Calls.{Single, open!, rename!, close!, record!, serve!, step, told, codeOf}
 use Rattle.rules.specs.Runs.{play, answer, closes, takenFor, isFor, sentFor, Story, begins, goesOn, tells, story}
 use Rattle.rules.specs.Promises.{Accounted}
@@ -25,7 +25,7 @@ sent-for : (b : Board) (n p : ℕ) (o : Out) → isFor n (told b o) ≡ fromPlac
 sent-for b n p (refused code) e = refl
 sent-for b n p done e = refl
 sent-for b n p (taken a) e = refl
-sent-for b n p (sent q r t) e = rw e
+sent-for b n p (sent s) e = rw e
 
 no-length : (l : List Record) → length l ≡ 0 → l ≡ []
 no-length [] e = refl
@@ -70,7 +70,7 @@ told-story s b p (x ∷ xs) g t = told-story (tells (s .closed) s x (answer b x)
 
 -- an opening that is done gives the block a place with an empty lane
 abbrev OpenedBy : Board → Single → Turn → Type 0
-OpenedBy b (open! n s) t = codeOf (told b (t .out)) ≡ 0 → (p : ℕ) × (Has (t .next) p n) × (at (t .next) p .lane ≡ [])
+OpenedBy b (open! o) t = codeOf (told b (t .out)) ≡ 0 → (p : ℕ) × (Has (t .next) p (o .number)) × (at (t .next) p .lane ≡ [])
 OpenedBy b (rename! old new) t = Unit {0}
 OpenedBy b (close! n) t = Unit {0}
 OpenedBy b (record! n r) t = Unit {0}
@@ -80,33 +80,33 @@ opened-by : (b : Board) → Tidy b → (x : Single) → OpenedBy b x (step b x)
 opened-by b g = call-cases b g (OpenedBy b) (record { refused = no-open; opens = opens; renames = λ p old new c. tt; closes = λ p n c. tt; takes = λ p n r c. tt; goesOn = λ p c. tt; begins = λ r t p c e. tt })
   where
     no-open : (x : Single) (code : ℕ) → Refusal code → OpenedBy b x (record { out = refused code; next = b })
-    no-open (open! n s) code r = λ e. absurd (true≢false (sym (eqb-yes code 0 e) ∙ refusal-not0 code r))
+    no-open (open! o) code r = λ e. absurd (true≢false (sym (eqb-yes code 0 e) ∙ refusal-not0 code r))
     no-open (rename! old new) code r = tt
     no-open (close! n) code r = tt
     no-open (record! n x) code r = tt
     no-open serve! code r = tt
 
-    opens : (n s : ℕ) → CanOpen b n s → OpenedBy b (open! n s) (record { out = done; next = goOn b (freeAt b) (opened n s) })
-    opens n s c e = (freeAt b, record { inside = c .inside; bought = rw (ap (λ (x : Place). x .share) here) (c .share); named = ap (λ (x : Place). x .number) here }, ap (λ (x : Place). x .lane) here)
+    opens : (o : Opening) → CanOpen b o → OpenedBy b (open! o) (record { out = done; next = goOn b (freeAt b) (opened o) })
+    opens o c e = (freeAt b, record { inside = c .inside; bought = rw (ap (λ (x : Place). x .share) here) (c .share); named = ap (λ (x : Place). x .number) here }, ap (λ (x : Place). x .lane) here)
       where
-        here : getD (set (b .places) (freeAt b) (opened n s)) (freeAt b) freePlace ≡ opened n s
-        here = getD-set-same (b .places) (freeAt b) (opened n s) freePlace (omega (arith, c .inside, g .shape .all64))
+        here : getD (set (b .places) (freeAt b) (opened o)) (freeAt b) freePlace ≡ opened o
+        here = getD-set-same (b .places) (freeAt b) (opened o) freePlace (omega (arith, c .inside, g .shape .all64))
 
-pub conserved : (b : Board) → Tidy b → (n share : ℕ) (after : List Single) → codeOf (answer b (open! n share)) ≡ 0
-    → Accounted (story (begins n) (step b (open! n share) .next) after) (play (step b (open! n share) .next) after)
-conserved b g n share after e = go (opened-by b g (open! n share) e)
+pub conserved : (b : Board) → Tidy b → (o : Opening) (after : List Single) → codeOf (answer b (open! o)) ≡ 0
+    → Accounted (story (begins (o .number)) (step b (open! o) .next) after) (play (step b (open! o) .next) after)
+conserved b g o after e = go (opened-by b g (open! o) e)
   where
     nb : Board
-    nb = step b (open! n share) .next
+    nb = step b (open! o) .next
 
     gb : Tidy nb
-    gb = tidy-step b (open! n share) g
+    gb = tidy-step b (open! o) g
 
-    go : (p : ℕ) × (Has nb p n) × (at nb p .lane ≡ []) → Accounted (story (begins n) nb after) (play nb after)
-    go (p, h, l) = record { whenClosed = t .whenClosed; whenOpen = λ c. ((p, has-find (play nb after) p _ ge (t .whenOpen c .0)), t .whenOpen c .1 ∙ ap (λ (u : List Record). story (begins n) nb after .sent ++ u) (sym (has-lane (play nb after) p _ ge (t .whenOpen c .0)))) }
+    go : (p : ℕ) × (Has nb p (o .number)) × (at nb p .lane ≡ []) → Accounted (story (begins (o .number)) nb after) (play nb after)
+    go (p, h, l) = record { whenClosed = t .whenClosed; whenOpen = λ c. ((p, has-find (play nb after) p _ ge (t .whenOpen c .0)), t .whenOpen c .1 ∙ ap (λ (u : List Record). story (begins (o .number)) nb after .sent ++ u) (sym (has-lane (play nb after) p _ ge (t .whenOpen c .0)))) }
       where
-        t : Told (story (begins n) nb after) (play nb after) p
-        t = told-story (begins n) nb p after gb (record { whenClosed = λ f. absurd (false≢true f); whenOpen = λ _. (h, sym l) })
+        t : Told (story (begins (o .number)) nb after) (play nb after) p
+        t = told-story (begins (o .number)) nb p after gb (record { whenClosed = λ f. absurd (false≢true f); whenOpen = λ _. (h, sym l) })
 
         ge : Tidy (play nb after)
         ge = tidy-play nb after gb

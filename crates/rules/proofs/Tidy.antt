@@ -13,7 +13,7 @@ use lib.Seq.{getD-set-same, getD-set-other}
 use Rattle.base.proofs.Numbers.{true-le, false-lt, eqb-yes, eqb-no}
 use Rattle.rules.specs.Spoilt.{isQueued, isServing, readyNum, isAt}
 use Rattle.rules.specs.Board.{noRecord, onward, charge, Place, freePlace, blockClass, front, Board, at}
-use Rattle.rules.specs.Choice.{upd, leftOf, release, settle, started, emptied, short, going, ended, goOn, sendFrom, send, begin, lowest}
+use Rattle.rules.specs.Choice.{upd, leftOf, release, settle, started, emptied, short, going, ended, goOn, sendFrom, begin, lowest}
 use Rattle.rules.specs.Blocks.{quiet}
 use Rattle.rules.proofs.Orders.{pl}
 use Rattle.rules.proofs.Shape.{Shape, PlaceOk, names-kept, shape-same, shape-join, shape-clock, shape-begin, settle-le, release-le, Chosen, choose}
@@ -85,8 +85,7 @@ module _ (L c : ℕ) (l : List Place) (o : ℕ → List ℕ) (H : ℕ → ℕ) (
       go true e = tidy-ended (emptied (pl l p)) o refl (same (emptied (pl l p)) refl refl refl refl (Slot.emptied-ok L c l o H p (g .shape) (g .one)))
       go false e = two (false-lt (length (pl l p .lane)) 1 e) (ltb rest nx) refl
 
-pub tidy-send : (b : Board) (p : ℕ) → b .slot ≡ some p → Tidy b → Tidy (send b p .next)
-unfolding send
+pub tidy-send : (b : Board) (p : ℕ) → b .slot ≡ some p → Tidy b → Tidy (sendFrom b p)
 tidy-send b p e = subst (λ (s : Option ℕ). Tidy (set-slot s) → Tidy (sendFrom (set-slot s) p)) (sym e) (tidy-lit (b .largest) (b .clock) (b .places) (b .orders) (b .held) p)
   where
     set-slot : Option ℕ → Board
@@ -121,6 +120,6 @@ module _ (b : Board) (r : ℕ) (free : b .slot ≡ none) (least : LeastIs (b .pl
           go (yes e) = rw (e, getD-set-same (b .places) p (started (b .largest) (at b p)) freePlace h) (sym (eqb-yes p p refl))
           go (no e) = rw (getD-set-other (b .places) p q (started (b .largest) (at b p)) freePlace e, eqb-no q p e) (g .one q ∙ ap (isAt q) free)
 
-  pub tidy-sent : Tidy (send (begin b t) p .next)
+  pub tidy-sent : Tidy (sendFrom (begin b t) p)
   unfolding begin
   tidy-sent = tidy-send (begin b t) p refl tidy-begin

@@ -18,8 +18,8 @@ use Rattle.units.proofs.Classes.{class-le}
 use Rattle.rules.specs.Calls.{Single, step}
 use Rattle.rules.specs.Spoilt.{isQueued, isServing}
 use Rattle.rules.specs.Board.{Record, out, Place, freePlace, blockClass, Board, at, spent}
-use Rattle.rules.specs.Choice.{upd, leastReady, readyOf, isNone, goOn, more, joins, joining, takenIn, whereIs, serve}
-use Rattle.rules.specs.Blocks.{opened, freeAt, quiet, closed, renamed}
+use Rattle.rules.specs.Choice.{upd, leastReady, readyOf, isNone, goOn, more, joins, joining, takenIn, whereIs, send, serve}
+use Rattle.rules.specs.Blocks.{Opening, opened, freeAt, quiet, closed, renamed}
 use Rattle.rules.proofs.Orders.{pl, upd-same, upd-other}
 use Rattle.rules.proofs.Shape.{Shape, Distinct, PlaceOk, names-kept, free-ok, shape-same, shape-join}
 use Rattle.rules.proofs.Shape.{shape-other, LeastIs, least-is}
@@ -90,16 +90,16 @@ tidy-rename b p old new can g =
     tidy-quiet b p z (b .held) in-p refl (g .calm)
     (shape-same p z in-p refl refl refl (names-new b (g .shape) p z (can .has .inside) (can .nobody)) (renamed-ok b (g .shape) p old new can) (g .shape)) g
 
-tidy-open : (b : Board) (n s : ℕ) → CanOpen b n s → Tidy b → Tidy (goOn b (freeAt b) (opened n s))
+tidy-open : (b : Board) (o : Opening) → CanOpen b o → Tidy b → Tidy (goOn b (freeAt b) (opened o))
 unfolding spent
-tidy-open b n s can g =
+tidy-open b o can g =
     let p = freeAt b in
-    let z = opened n s in
+    let z = opened o in
     let in-p = in-places b (g .shape) p (can .inside) in
-    let was = free-out b (g .shape) n s can in
+    let was = free-out b (g .shape) o can in
     let names = names-new b (g .shape) p z (can .inside) (can .nobody) in
     tidy-quiet b p z (b .held) in-p (sym was) (g .calm)
-    (shape-other p z (b .held) in-p (ap isQueued was) refl names (opened-ok b (g .shape) n s can) (omega (arith, can .room)) (g .shape)) g
+    (shape-other p z (b .held) in-p (ap isQueued was) refl names (opened-ok b (g .shape) o can) (omega (arith, can .room)) (g .shape)) g
 
 tidy-close : (b : Board) (p n : ℕ) → CanClose b p n → Tidy b → Tidy (closed b p)
 unfolding closed
@@ -130,6 +130,7 @@ tidy-close b p n can g =
     room false = omega (arith, g .shape .spent, below-one held (b .held) 17 k (omega (arith, class-le (at b p .share))) (λ j e. upd-other (b .held) k (b .held k + at b p .share) j e), upd-same (b .held) k (b .held k + at b p .share))
 
 pub tidy-serve : (b : Board) → Tidy b → Tidy (serve b .next)
+unfolding send
 tidy-serve b g = serve-turns b (λ u. Tidy (u .next))
     (λ code u. g)
     (λ p e. tidy-send b p e g)
@@ -139,7 +140,7 @@ tidy-serve b g = serve-turns b (λ u. Tidy (u .next))
 pub tidy-step : (b : Board) (x : Single) → Tidy b → Tidy (step b x .next)
 tidy-step b x g = other-cases b (λ c u. Tidy (u .next)) (record {
   refused = λ c code r. g;
-  opens = λ n s c. tidy-open b n s c g;
+  opens = λ o c. tidy-open b o c g;
   renames = λ old new c. tidy-rename b (whereIs b old) old new c g;
   closes = λ n c. tidy-close b (whereIs b n) n c g;
   takes = λ n r c. tidy-taken b (whereIs b n) n r c g;

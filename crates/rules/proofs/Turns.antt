@@ -17,7 +17,7 @@ use Rattle.units.proofs.Starts.{next-gt, next-mono}
 use Rattle.units.specs.Credit.{creditOf, largestCharge}
 use Rattle.rules.specs.Spoilt.{isQueued, isServing, readyNum, isAt}
 use Rattle.rules.specs.Board.{Record, noRecord, onward, charge, Stand, out, queued, serving, Place, freePlace, blockClass, front, Board, at}
-use Rattle.rules.specs.Choice.{upd, leftOf, Out, refused, done, taken, sent, Turn, isNone, emptied, short, going, more, ended, goOn, sendFrom, send}
+use Rattle.rules.specs.Choice.{upd, leftOf, Out, refused, done, taken, Sending, sending, sent, Turn, isNone, emptied, short, going, more, ended, goOn, sendFrom, send}
 use Rattle.rules.specs.Choice.{refuse}
 use Rattle.rules.proofs.Line.{Seat}
 use Rattle.rules.proofs.Potential.{ahead, ahead-tick, ahead-join}
@@ -67,19 +67,19 @@ abbrev pub bytesSent : Out → ℕ
 bytesSent (refused n) = 0
 bytesSent done = 0
 bytesSent (taken a) = 0
-bytesSent (sent p x t) = charge x
+bytesSent (sent s) = charge (s .front)
 
 abbrev pub isSent : Out → Bool
 isSent (refused n) = false
 isSent done = false
 isSent (taken a) = false
-isSent (sent p x t) = true
+isSent (sent s) = true
 
 abbrev pub fromPlace : ℕ → Out → Bool
 fromPlace p (refused n) = false
 fromPlace p done = false
 fromPlace p (taken a) = false
-fromPlace p (sent q x t) = eqb p q
+fromPlace p (sent s) = eqb p (s .place)
 
 abbrev pub limit : ℕ → ℕ → ℕ
 limit L k = (2 ^ suc k - 1) * most L
@@ -110,7 +110,7 @@ abbrev pub slotClock : Out → ℕ
 slotClock (refused n) = 0
 slotClock done = 0
 slotClock (taken a) = 0
-slotClock (sent p x t) = t
+slotClock (sent s) = s .clock
 
 -- the same for every block, one that doesn't wait too: it can begin no slot before this time
 abbrev pub barBy : ℕ → ℕ → Stand → ℕ
@@ -234,12 +234,19 @@ due-queued c n (serving m) e = absurd (false≢true e)
 ne-of : (q p : ℕ) → eqb q p ≡ false → q ≢ p
 ne-of q p e f = true≢false (sym (eqb-yes q p f) ∙ e)
 
-pub keeps-sent : (b nb : Board) (p : ℕ) (y : Record) (t : ℕ) → ((q : ℕ) → isServing (at b q .stand) ≡ true → q ≡ p) → inLine (at b p .stand) ≡ true
-    → 1 ≤ charge y → Timely b p t → Sends b nb p (charge y) t (givenIn b p) → Keeps b (record { out = sent p y t; next = nb })
-keeps-sent b nb p y t only w long timely s = record { good = s .good; stays = stays; some! = λ _. long; goes = goes; bars = bars; comes = comes }
+pub keeps-sent : (b nb : Board) (z : Sending) → let p = z .place in let n = charge (z .front) in
+    ((q : ℕ) → isServing (at b q .stand) ≡ true → q ≡ p) → inLine (at b p .stand) ≡ true
+    → 1 ≤ n → Timely b p (z .clock) → Sends b nb p n (z .clock) (givenIn b p) → Keeps b (record { out = sent z; next = nb })
+keeps-sent b nb z only w long timely s = record { good = s .good; stays = stays; some! = λ _. long; goes = goes; bars = bars; comes = comes }
   where
     turn : Turn
-    turn = record { out = sent p y t; next = nb }
+    turn = record { out = sent z; next = nb }
+
+    p : ℕ
+    p = z .place
+
+    t : ℕ
+    t = z .clock
 
     isQ : (q : ℕ) → q ≢ p → inLine (at b q .stand) ≡ true → isQueued (at b q .stand) ≡ true
     isQ q ne v = waits-not-serving (at b q .stand) v (idle (isServing (at b q .stand)) refl)
@@ -269,7 +276,7 @@ keeps-sent b nb p y t only w long timely s = record { good = s .good; stays = st
             (ap hand (s .others q e))
 
     stays : (q : ℕ) → inLine (at b q .stand) ≡ true → eqb q p ≡ false
-        → (inLine (at nb q .stand) ≡ true) × (at nb q .share ≡ at b q .share) × (phi nb q + charge y ≤ phi b q)
+        → (inLine (at nb q .stand) ≡ true) × (at nb q .share ≡ at b q .share) × (phi nb q + charge (z .front) ≤ phi b q)
     stays q v e = (rw same v, ap (λ (x : Place). x .share) same, less)
       where
         ne : q ≢ p
@@ -278,13 +285,13 @@ keeps-sent b nb p y t only w long timely s = record { good = s .good; stays = st
         same : at nb q ≡ at b q
         same = s .others q ne
 
-        less : phi nb q + charge y ≤ phi b q
+        less : phi nb q + charge (z .front) ≤ phi b q
         less = rw (phi-queued b q (isQ q ne v), phi-queued nb q (rw same (isQ q ne v)), same) (s .paid q ne (isQ q ne v))
 
     after : nextStart (blockClass (at b p)) t ≤ barOf nb p
     after = go (at nb p .stand) refl
       where
-        go : (z : Stand) → at nb p .stand ≡ z → nextStart (blockClass (at b p)) t ≤ barOf nb p
+        go : (x : Stand) → at nb p .stand ≡ x → nextStart (blockClass (at b p)) t ≤ barOf nb p
         go out e = rw (e, s .kept) (next-mono (blockClass (at b p)) t (nb .clock) (s .past))
         go (queued r) e = let v = ap inLine e in omega (arith, s .again v, bar-waits (nb .clock) (at nb p .share) (at nb p .stand) v)
         go (serving n) e = let v = ap inLine e in omega (arith, s .again v, bar-waits (nb .clock) (at nb p .share) (at nb p .stand) v)
@@ -298,7 +305,7 @@ keeps-sent b nb p y t only w long timely s = record { good = s .good; stays = st
         isDue : barOf b p ≡ dueOf b p
         isDue = bar-waits (b .clock) (at b p .share) (at b p .stand) w
 
-        up : (z : Bool) → isNone (b .slot) ≡ z → barOf b p ≤ barOf nb p
+        up : (u : Bool) → isNone (b .slot) ≡ u → barOf b p ≤ barOf nb p
         up true e = let m = timely .begins e in omega (arith, isDue, m .0, after, next-gt (blockClass (at b p)) t)
         up false e = omega (arith, isDue, timely .inSlot e, after)
 
@@ -483,9 +490,9 @@ lane-some L share lane (serving n) e h = h .0
 pub front-pos : (b : Board) (p : ℕ) → Good b → inLine (at b p .stand) ≡ true → 1 ≤ charge (front (at b p))
 front-pos b p g w = fit-charge (b .largest) (front (at b p)) (all-front (Fit (b .largest)) noRecord (at b p .lane) (lane-some (b .largest) (at b p .share) (at b p .lane) (at b p .stand) w (g .fine .shape .placeOk p .standOk)) (g .fine .shape .placeOk p .items)) .0
 
-pub keeps-send : (b : Board) (p : ℕ) → b .slot ≡ some p → Good b → Keeps b (send b p)
+pub keeps-send : (b : Board) (p : ℕ) → b .slot ≡ some p → Good b → Keeps b (send false b p)
 unfolding send
-keeps-send b p e g = keeps-sent b (sendFrom b p) p (front (at b p)) (b .clock) only isW (front-pos b p g isW) timely (subst (λ (n : ℕ). Sends b (sendFrom b p) p (charge (front (at b p))) (b .clock) n) (sym given) (sends b p e g))
+keeps-send b p e g = keeps-sent b (sendFrom b p) (sending false b p) only isW (front-pos b p g isW) timely (subst (λ (n : ℕ). Sends b (sendFrom b p) p (charge (front (at b p))) (b .clock) n) (sym given) (sends b p e g))
   where
     isS : isServing (at b p .stand) ≡ true
     isS = g .one p ∙ ap (isAt p) e ∙ eqb-yes p p refl

@@ -9,9 +9,17 @@ use Rattle.rules.specs.Board.{Place, freePlace, out, Board, at, waits, b
 use Rattle.rules.specs.Choice.{done, Turn, Check, check, guarded, whereIs, numberOutside, noneHas, someHas, upd}
 use Rattle.rules.specs.Choice.{goOn, isNone, leastReady}
 
+-- what an opening is given: the block's number and its share
+pub record Opening : Type 0 where
+  pub number : ℕ
+  pub share : ℕ
+
+abbrev pub opening : (number share : ℕ) → Opening
+opening number share = record { number = number; share = share }
+
 -- Open takes the lowest free place and the share, with deficit 0, start 0 and an empty lane.
-abbrev pub opened : ℕ → ℕ → Place
-opened n s = record { number = n; share = s; start = 0; lane = []; deficit = 0; stand = out }
+abbrev pub opened : Opening → Place
+opened o = record { number = o .number; share = o .share; start = 0; lane = []; deficit = 0; stand = out }
 
 unfoldable pub freeAt : Board → ℕ
 freeAt b = least (λ p. eqb (at b p .share) 0) 64
@@ -28,16 +36,16 @@ allTaken b = leb 64 (freeAt b)
 abbrev pub overFree : Board → (share : ℕ) → Bool
 overFree b share = ltb (freeShare b) share
 
-abbrev pub openChecks : Board → (n share : ℕ) → List Check
-openChecks b n share =
-    check 4 (numberOutside n || shareOutside share)
-    ∷ check 5 (someHas b n)
+abbrev pub openChecks : Board → Opening → List Check
+openChecks b o =
+    check 4 (numberOutside (o .number) || shareOutside (o .share))
+    ∷ check 5 (someHas b (o .number))
     ∷ check 7 (allTaken b)
-    ∷ check 8 (overFree b share)
+    ∷ check 8 (overFree b (o .share))
     ∷ []
 
-unfoldable pub openBlock : Board → ℕ → ℕ → Turn
-openBlock b n s = guarded b (openChecks b n s) (record { out = done; next = goOn b (freeAt b) (opened n s) })
+unfoldable pub openBlock : Board → Opening → Turn
+openBlock b o = guarded b (openChecks b o) (record { out = done; next = goOn b (freeAt b) (opened o) })
 
 -- Rename changes the number only. Lane, share, order, deficit and an open slot stay.
 abbrev pub renamed : ℕ → Place → Place

@@ -28,21 +28,21 @@ abbrev pub noRoom : Board → Out → Burst
 noRoom b (refused code) = stopped b code
 noRoom b done = stopped b 14
 noRoom b (taken a) = stopped b 14
-noRoom b (sent p r t) = stopped b 14
+noRoom b (sent s) = stopped b 14
 
 -- It has room: 1 and 11; then 13 where the next record exceeds the bytes remaining; else that record is sent, and the burst goes on.
 abbrev pub withRoom : Board → ℕ → Out → Burst → Burst
 withRoom b bytes (refused code) rest = stopped b code
 withRoom b bytes done rest = stopped b 14
 withRoom b bytes (taken a) rest = stopped b 14
-withRoom b bytes (sent p r t) rest = cond (ltb bytes (charge r)) (stopped b 13) (sentFirst r rest)
+withRoom b bytes (sent s) rest = cond (ltb bytes (charge (s .front))) (stopped b 13) (sentFirst (s .front) rest)
 
 -- what the record to be sent next takes of the bytes
 abbrev pub chargeNext : Out → ℕ
 chargeNext (refused code) = 0
 chargeNext done = 0
 chargeNext (taken a) = 0
-chargeNext (sent p r t) = charge r
+chargeNext (sent s) = charge (s .front)
 
 -- a number of bytes, and a list with room for so many records
 unfoldable pub burst : Board → ℕ → ℕ → Burst

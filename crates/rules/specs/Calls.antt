@@ -8,7 +8,7 @@ use lib.Dec.{leb, eqb}
 use lib.ListN.{length, drop}
 use Rattle.rules.specs.Board.{tableLength, Record, Board, at, fresh}
 use Rattle.rules.specs.Choice.{Out, refused, done, taken, sent, Turn, takeRecord, serve}
-use Rattle.rules.specs.Blocks.{openBlock, renameBlock, closeBlock}
+use Rattle.rules.specs.Blocks.{Opening, openBlock, renameBlock, closeBlock}
 use Rattle.rules.specs.Burst.{burst}
 use Rattle.rules.specs.Spoilt.{spoilt}
 
@@ -16,14 +16,14 @@ use Rattle.rules.specs.Spoilt.{spoilt}
 
 -- the single calls that may follow a making
 pub data Single : Type 0 where
-  open! : ℕ → ℕ → Single
+  open! : Opening → Single
   rename! : ℕ → ℕ → Single
   close! : ℕ → Single
   record! : ℕ → Record → Single
   serve! : Single
 
 unfoldable pub step : Board → Single → Turn
-step b (open! n s) = openBlock b n s
+step b (open! o) = openBlock b o
 step b (rename! old new) = renameBlock b old new
 step b (close! n) = closeBlock b n
 step b (record! n r) = takeRecord b n r
@@ -65,7 +65,9 @@ abbrev pub told : Board → Out → Answer
 told b (refused code) = gives code
 told b done = gives 0
 told b (taken a) = takes (record { code = 0 })
-told b (sent p r t) = sends (record { block = at b p .number; number = r .number; bytes = r .bytes; clock = t })
+told b (sent s) =
+    let r = s .front in
+    sends (record { block = at b (s .place) .number; number = r .number; bytes = r .bytes; clock = s .clock })
 
 abbrev pub codeOf : Answer → ℕ
 codeOf (gives code) = code
@@ -104,13 +106,13 @@ wrongTables numbers lengths = not (eqb numbers tableLength && eqb lengths tableL
 
 -- the entry that a taken record is written to
 abbrev pub writes : Single → Out → Entries
-writes (open! n s) o = kept
+writes (open! x) o = kept
 writes (rename! old new) o = kept
 writes (close! n) o = kept
 writes (record! n r) (refused code) = kept
 writes (record! n r) done = kept
 writes (record! n r) (taken a) = oneSet (a .entry) r
-writes (record! n r) (sent p x t) = kept
+writes (record! n r) (sent s) = kept
 writes serve! o = kept
 
 -- a call on a board that is not spoilt

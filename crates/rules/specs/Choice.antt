@@ -1,5 +1,5 @@
 -- HOW THE NEXT RECORD IS CHOSEN (document 01, under that heading, rules 1 to 5).
-use mathlib.Core.Bool.{Bool, true, false, cond, _&&_, _||_}
+use mathlib.Core.Bool.{Bool, true, false, not, cond, _&&_, _||_}
 use mathlib.Core.Option.{Option, none, some}
 use mathlib.Core.List.{List, [], _∷_, _++_}
 use Prim.Native.Nat.{ℕ, suc, _+_, _*_, _-_, _^_, min, max}
@@ -12,17 +12,28 @@ use Rattle.rules.specs.Board.{Record, noRecord, charge, Stand, out, queu
 
 -- ---- What a call does: what comes of it, and the next board
 
--- a record that was taken: the entry of both tables that it stands in
+-- a record that was taken: its place, the entry of both tables that it stands in, and how many records stood before it in its lane
 pub record Taken : Type 0 where
+  pub place : ℕ
   pub entry : ℕ
+  pub before : ℕ
+
+-- a record that was sent from the front of a lane: its place, the entry of both tables that it stood in, and the record;
+-- the clock at which its slot began, and whether the slot began with it; and the parts that were lost
+pub record Sending : Type 0 where
+  pub place : ℕ
+  pub entry : ℕ
+  pub front : Record
+  pub clock : ℕ
+  pub began : Bool
+  pub lost : ℕ
 
 pub data Out : Type 0 where
   -- refused, with this code
   refused : ℕ → Out
   done : Out
   taken : Taken → Out
-  -- the front record of this place was sent, in the slot that began at this clock
-  sent : ℕ → Record → ℕ → Out
+  sent : Sending → Out
 
 pub record Turn : Type 0 where
   pub out : Out
@@ -54,12 +65,16 @@ pub data Found : Type 0 where
 unfoldable pub whereIs : Board → ℕ → ℕ
 whereIs b n = least (λ p. isOpen (at b p) && eqb n (at b p .number)) 64
 
+-- an open block has the number (of a rename's new number: itself included)
+abbrev pub someHas : Board → (n : ℕ) → Bool
+someHas b n = ltb (whereIs b n) 64
+
 abbrev pub foundAt : Bool → ℕ → Found
 foundAt true p = openAt p
 foundAt false p = unknown
 
 abbrev pub find : Board → ℕ → Found
-find b n = foundAt (ltb (whereIs b n) 64) (whereIs b n)
+find b n = foundAt (someHas b n) (whereIs b n)
 
 abbrev pub byFound : {A : Type 0} → Found → (ℕ → A) → A → A
 byFound (openAt p) isOpen isUnknown = isOpen p
@@ -73,11 +88,7 @@ numberOutside n = eqb n 0
 
 -- no open block has that number
 abbrev pub noneHas : Board → (n : ℕ) → Bool
-noneHas b n = leb 64 (whereIs b n)
-
--- an open block has the new number, itself included
-abbrev pub someHas : Board → (n : ℕ) → Bool
-someHas b n = ltb (whereIs b n) 64
+noneHas b n = not (someHas b n)
 
 -- ---- Small steps
 
@@ -117,7 +128,8 @@ takenIn b p r = cond (leb (length (at b p .lane)) 0) (joining b p (joins (b .clo
 -- the record is taken at place p
 abbrev pub tookAt : Board → (p : ℕ) → Record → Turn
 tookAt b p r =
-    record { out = taken (record { entry = entry p (at b p) (length (at b p .lane)) }); next = takenIn b p r }
+    let before = length (at b p .lane) in
+    record { out = taken (record { place = p; entry = entry p (at b p) before; before = before }); next = takenIn b p r }
 
 abbrev pub lengthOutside : Board → (bytes : ℕ) → Bool
 lengthOutside b bytes = eqb bytes 0 || ltb (b .largest) bytes
@@ -210,8 +222,18 @@ sendFrom b p =
 
 -- ---- 2. A slot is open: the next serving call sends the front record of that block
 
-unfoldable pub send : Board → ℕ → Turn
-send b p = record { out = sent p (front (at b p)) (b .clock); next = sendFrom b p }
+-- What is left as the lane empties is lost, since the deficit is then 0.
+abbrev pub lostAt : Place → ℕ
+lostAt x = cond (leb (length (x .lane)) 1) (leftAfter x) 0
+
+-- what a send from place p tells, on the board with its slot open
+abbrev pub sending : (began : Bool) → Board → ℕ → Sending
+sending began b p =
+    let x = at b p in
+    record { place = p; entry = entry p x 0; front = front x; clock = b .clock; began = began; lost = lostAt x }
+
+unfoldable pub send : (began : Bool) → Board → ℕ → Turn
+send began b p = record { out = sent (sending began b p); next = sendFrom b p }
 
 -- ---- 3. No slot is open
 
@@ -245,11 +267,11 @@ beginChecks t = check 11 (leb (2 ^ 62) t) ∷ []
 -- If none is pending, the clock goes to the least ready time among waiting blocks: the slot begins at the later of that and the clock.
 -- Code 1 where no block waits: no slot is open, and none is in an order.
 unfoldable pub serveBy : Board → Option ℕ → Option ℕ → Turn
-serveBy b (some p) ready = send b p
+serveBy b (some p) ready = send false b p
 serveBy b none none = refuse b 1
 serveBy b none (some ready) =
     guarded b (beginChecks (max (b .clock) ready))
-    (send (begin b (max (b .clock) ready)) (chosen b (max (b .clock) ready)))
+    (send true (begin b (max (b .clock) ready)) (chosen b (max (b .clock) ready)))
 
 unfoldable pub serve : Board → Turn
 serve b = serveBy b (b .slot) (leastReady (b .places))

@@ -13,6 +13,7 @@ use Rattle.units.specs.Classes.{Start, nextStart}
 use Rattle.units.specs.Credit.{charged, largestCharge}
 use Rattle.rules.specs.Board.{tableLength, Record, Board, at, Seventeen, someWait, active, pending, fresh}
 use Rattle.rules.specs.Choice.{openAt, find, leastReady}
+use Rattle.rules.specs.Blocks.{Opening}
 use Rattle.rules.specs.Burst.{Burst, burst}
 use Rattle.rules.specs.Spoilt.{spoilt}
 use Rattle.rules.specs.Calls.{Single, open!, serve!, step, Call, one, burst!, Sent, gives, sends, codeOf, Lent, kept, Outcome, listOf, done!, call, make}
@@ -78,9 +79,9 @@ pub record Accounted (s : Runs.Story) (b : Board) : Type 0 where
   pub whenOpen : s .closed ≡ false → ((p : ℕ) × (find b (s .number) ≡ openAt p)) × (s .taken ≡ s .sent ++ Runs.laneOf b (s .number))
 
 abbrev pub Conserved : Type 0
-Conserved = (L : ℕ) (b : Board) → OfRun L b → (n share : ℕ) (after : List Single)
-    → codeOf (Runs.answer b (open! n share)) ≡ 0
-    → Accounted (Runs.story (Runs.begins n) (step b (open! n share) .next) after) (Runs.play (step b (open! n share) .next) after)
+Conserved = (L : ℕ) (b : Board) → OfRun L b → (o : Opening) (after : List Single)
+    → codeOf (Runs.answer b (open! o)) ≡ 0
+    → Accounted (Runs.story (Runs.begins (o .number)) (step b (open! o) .next) after) (Runs.play (step b (open! o) .next) after)
 
 -- ---- Demand 3
 

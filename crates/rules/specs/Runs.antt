@@ -79,7 +79,7 @@ recordsIn b (x ∷ xs) = recordOf (answer b x) ++ recordsIn (step b x .next) xs
 
 -- how many of the calls are serving calls; none of them is given 11
 abbrev pub isServe : Single → Bool
-isServe (open! n s) = false
+isServe (open! o) = false
 isServe (rename! old new) = false
 isServe (close! n) = false
 isServe (record! n r) = false
@@ -100,7 +100,7 @@ isDone a = eqb (codeOf a) 0
 
 -- the number after a call of the block that had n before it
 abbrev pub numberAfter : ℕ → Single → Answer → ℕ
-numberAfter n (open! m s) a = n
+numberAfter n (open! o) a = n
 numberAfter n (rename! old new) a = cond (isDone a && eqb n old) new n
 numberAfter n (close! m) a = n
 numberAfter n (record! m r) a = n
@@ -108,7 +108,7 @@ numberAfter n serve! a = n
 
 -- the call closes the block that has n
 abbrev pub closes : ℕ → Single → Answer → Bool
-closes n (open! m s) a = false
+closes n (open! o) a = false
 closes n (rename! old new) a = false
 closes n (close! m) a = isDone a && eqb n m
 closes n (record! m r) a = false
@@ -116,7 +116,7 @@ closes n serve! a = false
 
 -- what the call takes in for the block that has n, and what it sends of it
 abbrev pub takenFor : ℕ → Single → Answer → List Record
-takenFor n (open! m s) a = []
+takenFor n (open! o) a = []
 takenFor n (rename! old new) a = []
 takenFor n (close! m) a = []
 takenFor n (record! m r) a = cond (isDone a && eqb n m) (r ∷ []) []
@@ -207,7 +207,7 @@ pub record Hold : Type 0 where
 
 -- If none waits at closing, nothing is held.
 abbrev pub closing : Board → Single → Answer → List Hold
-closing b (open! n s) a = []
+closing b (open! o) a = []
 closing b (rename! old new) a = []
 closing b (close! n) a =
     cond (isDone a && someWait (b .places)) (record { share = shareOf b n; class = classAt b n; until = nextStart (classAt b n) (b .clock) } ∷ []) []

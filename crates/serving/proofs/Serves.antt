@@ -21,7 +21,7 @@ use Rattle.units.proofs.Classes.{class-le}
 use Rattle.units.proofs.Credits.{charge-small}
 use Rattle.rules.specs.Board
 use Rattle.rules.specs.Board.{Record, noRecord, Place, freePlace, blockClass, at, entry, firstEntry, charge, front, onward}
-use Rattle.rules.specs.Choice.{isNone, Out, refused, done, taken, sent, Turn, leftOf, leftAfter, leastReady, upd, started, emptied, short, going, ended, goOn, sendFrom, send, begin, lowest, chosen, serve}
+use Rattle.rules.specs.Choice.{isNone, Out, refused, done, taken, Sending, sending, sent, Turn, leftOf, leftAfter, leastReady, upd, started, emptied, short, going, ended, goOn, sendFrom, send, begin, lowest, chosen, serve}
 use Rattle.rules.specs.Spoilt.{count, inClass}
 use Rattle.rules.proofs.Orders.{pl, upd-other, in-head, count-head}
 use Rattle.rules.proofs.Shape.{LeastIs, least-is, Chosen, choose, all-front, release-le, queued-in, Fit as record-fit}
@@ -125,7 +125,7 @@ module _ (m : Board.Board) (fit : Fit m) (p : ℕ) (held! : m .slot ≡ some p) 
 
   -- A SEND
   pub send-is : withEngine (encode m) (sentFrom (encode m .shares) lens p (engineOf (encode m))) ≡ encode (sendFrom m p)
-  unfolding sendFrom send
+  unfolding sendFrom
   send-is =
       ap (withEngine (encode m)) (sent-eq (encode m .shares) lens p (engineOf (encode m)) (x .start) (length (x .lane)) (x .share) (start-is m p) (count-is m p) (share-is m p))
       ∙ rw (rest-is, after-is x, last-one (length (x .lane)) one!) (go (leb (length (x .lane)) 1) refl (tidy-send m p held! (fit .tidy)))
@@ -238,16 +238,17 @@ count-cons x p xs = refl
 
 -- ---- By the answer of the rules: what the engine chooses, and what comes of it
 
-pub record Serves (m : Board.Board) (ids lens : List ℕ) (p : ℕ) (r : Record) (t : ℕ) (next : Board.Board) : Type 0 where
-  pub chooses : choiceOf (engineOf (encode m)) ≡ Go p t
-  pub can : length lens ≡ 2048 → CanEnact (encode m .shares) lens (encode m .largest) p t (engineOf (encode m))
-  pub enacts : withEngine (encode m) (enacted (encode m .shares) lens (encode m .largest) p t (engineOf (encode m))) ≡ encode next
+pub record Serves (m : Board.Board) (ids lens : List ℕ) (s : Sending) (next : Board.Board) : Type 0 where
+  pub chooses : choiceOf (engineOf (encode m)) ≡ Go (s .place) (s .clock)
+  pub can : length lens ≡ 2048 → CanEnact (encode m .shares) lens (encode m .largest) (s .place) (s .clock) (engineOf (encode m))
+  pub enacts : withEngine (encode m) (enacted (encode m .shares) lens (encode m .largest) (s .place) (s .clock) (engineOf (encode m)))
+      ≡ encode next
   pub holds : Holds next ids lens
-  pub inside : p < 64
-  pub ring : at m p .start < 32
-  pub number : getD ids (frontEntry p (at m p .start)) 0 ≡ r .number
-  pub bytes : getD lens (frontEntry p (at m p .start)) 0 ≡ r .bytes
-  pub short : r .bytes ≤ m .largest
+  pub inside : s .place < 64
+  pub ring : at m (s .place) .start < 32
+  pub number : getD ids (frontEntry (s .place) (at m (s .place) .start)) 0 ≡ s .front .number
+  pub bytes : getD lens (frontEntry (s .place) (at m (s .place) .start)) 0 ≡ s .front .bytes
+  pub short : s .front .bytes ≤ m .largest
 
 pub record Refuses (m : Board.Board) (code : ℕ) (next : Board.Board) : Type 0 where
   pub refusal : code ≢ 0
@@ -258,7 +259,7 @@ unfoldable pub ByAnswer : Board.Board → List ℕ → List ℕ → Out → Boar
 ByAnswer m ids lens (refused code) next = Refuses m code next
 ByAnswer m ids lens done next = ⊥
 ByAnswer m ids lens (taken a) next = ⊥
-ByAnswer m ids lens (sent p r t) next = Serves m ids lens p r t next
+ByAnswer m ids lens (sent s) next = Serves m ids lens s next
 
 open-slot : (m : Board.Board) (p : ℕ) → m .slot ≡ some p → encode m .slot ≡ suc p
 unfolding encode
@@ -356,7 +357,7 @@ module _ (m : Board.Board) (fit : Fit m) where
 
 module _ (m : Board.Board) (fit : Fit m) (ids lens : List ℕ) (holds : Holds m ids lens) where
   -- A SERVE THAT GOES ON
-  serves-on : (p : ℕ) → GoesOn m p → Serves m ids lens p (front (at m p)) (m .clock) (sendFrom m p)
+  serves-on : (p : ℕ) → GoesOn m p → Serves m ids lens (sending false m p) (sendFrom m p)
   unfolding encode
   serves-on p w = record {
     chooses = choice-open m p (w .slot);
@@ -377,7 +378,7 @@ module _ (m : Board.Board) (fit : Fit m) (ids lens : List ℕ) (holds : Holds m 
           clock-of = refl
 
   -- A SERVE THAT BEGINS A SLOT
-  serves-new : (r t p : ℕ) → Begins m r t p → p ≡ chosen m t → Serves m ids lens p (front (at (begin m t) p)) t (sendFrom (begin m t) p)
+  serves-new : (r t p : ℕ) → Begins m r t p → p ≡ chosen m t → Serves m ids lens (sending true (begin m t) p) (sendFrom (begin m t) p)
   unfolding begin encode
   serves-new r t p w e = record {
     chooses = chooses m fit (w .slot) r (w .least) ∙ rw (← w .time, leb-no (2 ^ 62) t (w .soon), ← e);
@@ -461,10 +462,10 @@ module _ (m : Board.Board) (fit : Fit m) (ids lens : List ℕ) (holds : Holds m 
       unserved code (nobody e l) r = record { refusal = λ z. omega arith; stops = choice-none m e (sets.nobody m (fit .tidy) e ∙ ap isNone l); stays = refl }
       unserved code (late q e l h) r = record { refusal = λ z. omega arith; stops = chooses m fit e q l ∙ rw (leb-yes (2 ^ 62) (max (m .clock) q) h); stays = refl }
 
-      goes-on : (p : ℕ) → GoesOn m p → ByAnswer m ids lens (send m p .out) (send m p .next)
+      goes-on : (p : ℕ) → GoesOn m p → ByAnswer m ids lens (send false m p .out) (send false m p .next)
       goes-on p w = serves-on p w
 
-      begins : (r t p : ℕ) → Begins m r t p → p ≡ chosen m t → ByAnswer m ids lens (send (begin m t) p .out) (send (begin m t) p .next)
+      begins : (r t p : ℕ) → Begins m r t p → p ≡ chosen m t → ByAnswer m ids lens (send true (begin m t) p .out) (send true (begin m t) p .next)
       begins r t p w e = serves-new r t p w e
 
   -- what a serve asks
@@ -474,4 +475,6 @@ module _ (m : Board.Board) (fit : Fit m) (ids lens : List ℕ) (holds : Holds m 
     where
       go : (o : Out) → ByAnswer m ids lens o (serve m .next) → (place time : ℕ) → choiceOf (engineOf (encode m)) ≡ Go place time → CanEnact (encode m .shares) lens (encode m .largest) place time (engineOf (encode m))
       go (refused code) w place time e = absurd (stop-go code place time (sym (w .stops) ∙ e))
-      go (sent p r t) w place time e = let f = sym (w .chooses) ∙ e in rw (← go-place p t place time f, ← go-time p t place time f) (w .can h)
+      go (sent s) w place time e =
+          let f = sym (w .chooses) ∙ e in
+          rw (← go-place (s .place) (s .clock) place time f, ← go-time (s .place) (s .clock) place time f) (w .can h)

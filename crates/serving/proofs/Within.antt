@@ -13,7 +13,7 @@ use Rattle.units.specs.Credit.{charged, largestCharge}
 use Rattle.units.proofs.Credits.{charge-small}
 use Rattle.rules.specs.Board
 use Rattle.rules.specs.Board.{Record, at, charge}
-use Rattle.rules.specs.Choice.{Out, refused, sent, serve}
+use Rattle.rules.specs.Choice.{Out, refused, Sending, sent, serve}
 use Rattle.rules.specs.Burst.{stopped, sentFirst, burst}
 use Rattle.rules.specs.Calls.{serve!, step}
 use Rattle.rules.proofs.TidyCalls.{tidy-serve}
@@ -40,20 +40,23 @@ unfolding burst
 burst-refused m bytes zero code e = rw e
 burst-refused m bytes (suc room) code e = rw e
 
-module _ (m : Board.Board) (bytes p : ℕ) (r : Record) (t : ℕ) (e : serve m .out ≡ sent p r t) where
+module _ (m : Board.Board) (bytes : ℕ) (s : Sending) (e : serve m .out ≡ sent s) where
+  abbrev r : Record
+  r = s .front
+
   burst-full : (room : ℕ) → room ≡ 0 → burst m bytes room ≡ stopped m 14
   unfolding burst
   burst-full room z = rw (z, e)
 
   burst-long : (room : ℕ) → room ≢ 0 → bytes < charge r → burst m bytes room ≡ stopped m 13
   unfolding burst
-  burst-long zero s h = absurd (s refl)
-  burst-long (suc room) s h = rw (e, lt-ltb bytes (charge r) h)
+  burst-long zero ne h = absurd (ne refl)
+  burst-long (suc room) ne h = rw (e, lt-ltb bytes (charge r) h)
 
   burst-goes : (room : ℕ) → room ≢ 0 → charge r ≤ bytes → burst m bytes room ≡ sentFirst r (burst (serve m .next) (bytes - charge r) (room - 1))
   unfolding burst
-  burst-goes zero s h = absurd (s refl)
-  burst-goes (suc room) s h = let less : suc room - 1 ≡ room = omega arith in rw (e, le-ltb bytes (charge r) h, less)
+  burst-goes zero ne h = absurd (ne refl)
+  burst-goes (suc room) ne h = let less : suc room - 1 ≡ room = omega arith in rw (e, le-ltb bytes (charge r) h, less)
 
 -- ---- It stops, with a code, and leaves all as it was
 
@@ -68,18 +71,20 @@ pub record Stops (m : Board.Board) (bytes room : ℕ) (w : Within) : Type 0 wher
 
 pub record Goes (m : Board.Board) (ids lens : List ℕ) (bytes room : ℕ) (w : Within) : Type 0 where
   pub code : w .step .code ≡ 0
-  pub sends : Record
-  pub out : serve m .out ≡ sent (w .step .place) sends (w .step .time)
+  pub sends : Sending
+  pub out : serve m .out ≡ sent sends
+  pub place-is : w .step .place ≡ sends .place
+  pub clock-is : w .step .time ≡ sends .clock
   pub next : withEngine (encode m) (engineAfter w) ≡ encode (serve m .next)
   pub holds : Holds (serve m .next) ids lens
   pub some : room ≢ 0
-  pub fits : charge sends ≤ bytes
+  pub fits : charge (sends .front) ≤ bytes
   pub inside : w .step .place < 64
   pub entry : w .step .entry < 2048
-  pub charge-is : w .step .bytes .0 ≡ charge sends
-  pub number-is : getD ids (w .step .entry) 0 ≡ sends .number
-  pub bytes-is : getD lens (w .step .entry) 0 ≡ sends .bytes
-  pub burst-is : burst m bytes room ≡ sentFirst sends (burst (serve m .next) (bytes - charge sends) (room - 1))
+  pub charge-is : w .step .bytes .0 ≡ charge (sends .front)
+  pub number-is : getD ids (w .step .entry) 0 ≡ sends .front .number
+  pub bytes-is : getD lens (w .step .entry) 0 ≡ sends .front .bytes
+  pub burst-is : burst m bytes room ≡ sentFirst (sends .front) (burst (serve m .next) (bytes - charge (sends .front)) (room - 1))
 
 -- a record that is sent is no longer than L
 small-charge : (n L : ℕ) → n ≤ L → L ≤ 2048 → charged n < 65536
@@ -90,11 +95,20 @@ module _ (m : Board.Board) (fit : Fit m) (ids lens : List ℕ) (holds : Holds m 
   abbrev made : Choice → Within
   made c = servedBy (encode m .shares) lens (encode m .largest) bytes room (engineOf (encode m)) c
 
-  go-on : (p : ℕ) (r : Record) (t : ℕ) → serve m .out ≡ sent p r t → Serves m ids lens p r t (serve m .next)
-      → Stops m bytes room (made (Go p t)) ⊎ Goes m ids lens bytes room (made (Go p t))
+  go-on : (s : Sending) → serve m .out ≡ sent s → Serves m ids lens s (serve m .next)
+      → let c = Go (s .place) (s .clock) in Stops m bytes room (made c) ⊎ Goes m ids lens bytes room (made c)
   unfolding charge frontEntry
-  go-on p r t e w = rw (start-is m p, w .bytes) (by-room (split 1 room))
+  go-on s e w = rw (start-is m p, w .bytes) (by-room (split 1 room))
     where
+      p : ℕ
+      p = s .place
+
+      r : Record
+      r = s .front
+
+      t : ℕ
+      t = s .clock
+
       c : ℕ
       c = charged (r .bytes)
 
@@ -111,11 +125,13 @@ module _ (m : Board.Board) (fit : Fit m) (ids lens : List ℕ) (holds : Holds m 
       result full long = cond full (withinOf 14 0 0 0 0 (engineOf (encode m))) (cond long (withinOf 13 0 0 0 0 (engineOf (encode m))) (withinOf 0 p entry c t E))
 
       by-bytes : 1 ≤ room → (bytes < c) ⊎ (c ≤ bytes) → Stops m bytes room (result false (ltb bytes c)) ⊎ Goes m ids lens bytes room (result false (ltb bytes c))
-      by-bytes some (inl h) = rw (lt-ltb bytes c h) (inl (record { code = λ z. omega arith; same = refl; burst-is = burst-long m bytes p r t e room (λ z. omega arith) h; why = inr (inr (r, h, small)) }))
+      by-bytes some (inl h) = rw (lt-ltb bytes c h) (inl (record { code = λ z. omega arith; same = refl; burst-is = burst-long m bytes s e room (λ z. omega arith) h; why = inr (inr (r, h, small)) }))
       by-bytes some (inr h) = rw (le-ltb bytes c h) (inr (record {
         code = refl;
-        sends = r;
+        sends = s;
         out = e;
+        place-is = refl;
+        clock-is = refl;
         next = w .enacts;
         holds = w .holds;
         some = λ z. omega arith;
@@ -125,7 +141,7 @@ module _ (m : Board.Board) (fit : Fit m) (ids lens : List ℕ) (holds : Holds m 
         charge-is = refl;
         number-is = w .number;
         bytes-is = w .bytes;
-        burst-is = burst-goes m bytes p r t e room (λ z. omega arith) h;
+        burst-is = burst-goes m bytes s e room (λ z. omega arith) h;
       }))
         where
           entry-small : frontEntry p (at m p .start) < 2048
@@ -137,7 +153,7 @@ module _ (m : Board.Board) (fit : Fit m) (ids lens : List ℕ) (holds : Holds m 
           turn : (c ≤ bytes) ⊎ (bytes < c) → (bytes < c) ⊎ (c ≤ bytes)
           turn (inl x) = inr x
           turn (inr x) = inl x
-      by-room (inr h) = let z : room ≡ 0 = omega arith in rw (eq-eqb room 0 z) (inl (record { code = λ y. omega arith; same = refl; burst-is = burst-full m bytes p r t e room z; why = inr (inl z) }))
+      by-room (inr h) = let z : room ≡ 0 = omega arith in rw (eq-eqb room 0 z) (inl (record { code = λ y. omega arith; same = refl; burst-is = burst-full m bytes s e room z; why = inr (inl z) }))
 
   -- A SERVE WITHIN, by the rules
   pub within-by : Stops m bytes room (servedWithin (encode m .shares) lens (encode m .largest) bytes room (engineOf (encode m))) ⊎ Goes m ids lens bytes room (servedWithin (encode m .shares) lens (encode m .largest) bytes room (engineOf (encode m)))
@@ -147,4 +163,4 @@ module _ (m : Board.Board) (fit : Fit m) (ids lens : List ℕ) (holds : Holds m 
       go : (o : Out) → serve m .out ≡ o → ByAnswer m ids lens o (serve m .next)
           → Stops m bytes room (made (choiceOf (engineOf (encode m)))) ⊎ Goes m ids lens bytes room (made (choiceOf (engineOf (encode m))))
       go (refused code) e w = rw (w .stops) (inl (record { code = w .refusal; same = refl; burst-is = burst-refused m bytes room code e; why = inl e }))
-      go (sent p r t) e w = rw (w .chooses) (go-on p r t e w)
+      go (sent s) e w = rw (w .chooses) (go-on s e w)

@@ -7,12 +7,11 @@ use Prim.Native.Nat.{ℕ, _≤_, _<_}
 use native.Mathlib.Omega.{arith}
 use lib.Dec.{eqb, leb}
 use lib.ListN.{length, set}
-use Rattle.base.proofs.Numbers.{false-lt}
 use Rattle.rules.specs.Board
 use Rattle.rules.specs.Board.{Record, at, entry, firstEntry}
 use Rattle.rules.specs.Choice.{Turn, whereIs, numberOutside, noneHas, lengthOutside, laneFull, tookAt, takeRecord}
 use Rattle.rules.specs.Calls.{record!, step, one, done! }
-use Rattle.rules.proofs.Cases.{where-has}
+use Rattle.rules.proofs.Cases.{some-in, where-has}
 use Rattle.board.specs.declared.Board as struct
 use Rattle.board.specs.declared.Reply.{Reply}
 use Rattle.board.specs.Reading.{encode, view}
@@ -23,7 +22,7 @@ use Rattle.board.proofs.Fields.{count-is, start-is, count-at}
 use Rattle.board.proofs.Bounds.{bought, within, rings, linked}
 use Rattle.board.proofs.Agrees.{turned, agrees, by-spelling}
 use Rattle.finding.specs.Finding.{foundIn}
-use Rattle.finding.proofs.Finding.{not-zeroth, where-is, none-is, where-le}
+use Rattle.finding.proofs.Finding.{not-zeroth, where-is, none-found, where-le}
 use Rattle.board.specs.Memory.{takingOf, withTaking, blocksOf}
 use Rattle.taking.specs.Taking.{takenAt, RecordNeeds, Recording, recording, entryAt, recordedIn}
 use Rattle.taking.proofs.Taking.{take-is}
@@ -55,9 +54,9 @@ module _ (m : Board.Board) (f : Fit m) (ids lens : List ℕ) (n id len : ℕ) wh
   unfolding recordedIn step takeRecord encode
   record-is =
       agrees recorded by-record m _ (numberOutside n || lengthOutside m len) 4 _ _ _ refl refl λ e4.
-      agrees recorded by-record m _ (noneHas m n) 6 _ _ _ (ap (λ (i : ℕ). eqb i 64) (found e4) ∙ none-is (whereIs m n) (where-le m f n)) refl λ e6.
+      agrees recorded by-record m _ (noneHas m n) 6 _ _ _ (ap (λ (i : ℕ). eqb i 64) (found e4) ∙ none-found (whereIs m n) (where-le m f n)) refl λ e6.
       agrees recorded by-record m _ (laneFull (at m (whereIs m n))) 9 _ _ _ (ap (leb 32) (count-at m (whereIs m n) _ (found e4))) refl λ e9.
-      ap (λ (i : ℕ). recorded (took i)) (found e4) ∙ took-is (false-lt 64 (whereIs m n) e6)
+      ap (λ (i : ℕ). recorded (took i)) (found e4) ∙ took-is (some-in m n e6)
     where
       found : numberOutside n || lengthOutside m len ≡ false → foundIn (encode m .numbers) n ≡ whereIs m n
       found e = where-is m (f .tidy) n (not-zeroth n (lengthOutside m len) e)
