@@ -11,6 +11,9 @@ use lib.ListN.{length, getD, set}
 use borrow.Author.Tests.{eq-eqb}
 use Rattle.base.proofs.Tests.{least-le}
 use Rattle.base.proofs.Numbers.{split, leb-yes, leb-no, false-lt, eqb-true}
+use Rattle.base.specs.Sums.{below}
+use Rattle.arrays.specs.Lists.{totalOf}
+use Rattle.arrays.proofs.Totals.{total-map, total-below}
 use Rattle.rules.specs.Board
 use Rattle.rules.specs.Board.{Record, Place, freePlace, at, waits, entry, firstEntry, out, spent}
 use Rattle.rules.specs.Choice.{Turn, refuse, whereIs, numberOutside, noneHas, someHas, lengthOutside, laneFull, tookAt, takeRecord, goOn}
@@ -21,14 +24,14 @@ use Rattle.rules.proofs.Calls.{in-places, empty-out}
 use Rattle.rules.proofs.Shape.{named-num}
 use Rattle.rules.proofs.Tidy.{Tidy}
 use Rattle.board.specs.declared.Board as struct
-use Rattle.board.specs.Reading.{encode}
+use Rattle.board.specs.Reading.{encode, tab}
+use Rattle.board.proofs.Lists.{length-tab, getD-tab}
 use Rattle.board.proofs.Reading.{Fit}
 use Rattle.calls.specs.declared.Reply.{Reply}
 use Rattle.calls.specs.Promises.{Returned, returned, replied, written}
 use Rattle.engine.specs.Steps.{foundIn, takenAt, takingOf, withTaking, blocksOf, Recording, recording, entryAt, recordedIn}
-use Rattle.engine.specs.Opening.{Renaming, renaming, isUnknown, renamedIn, withRenaming, totalOf, Opening, opening, openedIn, withOpening, heldWith, Closing, closing, closedIn, withClosing}
+use Rattle.engine.specs.Opening.{Renaming, renaming, isUnknown, renamedIn, withRenaming, Opening, opening, openedIn, withOpening, heldWith, Closing, closing, closedIn, withClosing}
 use Rattle.engine.proofs.Finding.{not-zeroth, where-is, free-is, none-is}
-use Rattle.engine.proofs.Sums.{total-map, total-tab}
 use Rattle.engine.proofs.Taking.{take-is}
 use Rattle.engine.proofs.Opening.{rename-is, open-is, close-is, quiet-active}
 use Rattle.rules.specs.Spoilt.{isQueued}
@@ -83,7 +86,10 @@ module _ (m : Board.Board) (f : Fit m) where
 
   spent-is : totalOf (encode m .shares) + totalOf (encode m .held) ≡ spent m
   unfolding encode spent
-  spent-is = ap₂ (λ (a c : ℕ). a + c) (total-map (λ (y : Place). y .share) (m .places)) (total-tab 17 (m .held))
+  spent-is = ap₂ (λ (a c : ℕ). a + c) (total-map (λ (y : Place). y .share) (m .places)) held-is
+    where
+      held-is : totalOf (tab 17 (m .held)) ≡ below (m .held) 17
+      held-is = total-below (tab 17 (m .held)) 17 (m .held) (length-tab 17 (m .held)) (λ k h. getD-tab 17 (m .held) k 0 h)
 
   room-is : (s : ℕ) → 1 ≤ s → ltb 65536 (totalOf (encode m .shares) + totalOf (encode m .held) + s) ≡ overFree m s
   room-is s pos = ap (λ (n : ℕ). ltb 65536 (n + s)) spent-is ∙ go (split (65537 - spent m) s)

@@ -1,7 +1,6 @@
 pub mod Fields
 pub mod Finding
 pub mod Taking
-pub mod Sums
 pub mod Opening
 pub mod Cases
 pub mod Sets

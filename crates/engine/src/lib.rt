@@ -2,13 +2,13 @@
 // board's lists, and laws tie each definition to the rules. A function here may ask what only a board that is not spoilt gives; the calls and the player know it of theirs.
 ghost use mathlib.Core.Path.{_≡_};
 ghost use mathlib.Core.Bool.{_||_};
-ghost use Prim.Native.Nat.{ℕ, _+_, _-_, _*_, _^_, _<_, _≤_};
+ghost use Prim.Native.Nat.{ℕ, _+_, _-_, _^_, _<_, _≤_};
 ghost use lib.Dec.{eqb, ltb};
-ghost use lib.ListN.{length, getD, set, replicate};
+ghost use lib.ListN.{getD, set, replicate};
 ghost use Rattle.rules.specs.Board.{fresh};
 ghost use Rattle.board.specs.Reading.{encode};
 ghost use Rattle.engine.specs.Steps.{foundIn, ordersNow, joinedOrders, taking, takenAt, TakeNeeds, blocks, RecordNeeds, recording, recordedIn};
-ghost use Rattle.engine.specs.Opening.{renaming, renamedIn, totalOf, opening, openedIn, heldWith, closing, closedIn, CloseNeeds};
+ghost use Rattle.engine.specs.Opening.{renaming, renamedIn, opening, openedIn, heldWith, closing, closedIn, CloseNeeds};
 ghost use Rattle.units.specs.Classes.{classOf};
 ghost use Rattle.engine.specs.Serving.{queuesNow, engineNow, numbersNow, turnedNow, turned, chosenClass, slotClock, choice, CanChoose, linksNow, leftLinks, stillPending, stillActive, beginningNow, beganAt, CanBegin, openedSlot, emptyEndNow, endedEmpty, waitingEndNow, endedWaiting, frontEntry, startAfter, sentFrom, CanSend, enacted, CanEnact, stayed, withinNow, servedWithin, CanServe};
 use board::Board;
@@ -190,20 +190,6 @@ pub fn rename_in(old: u32, new: u32, numbers: &mut [u32; PLACES]) -> u8
     codes::DONE
 }
 
-// The sum of an array's numbers.
-fn total(shares: &[u32]) -> u64
-    requires { ⌜ length (now shares) ≤ 64 ⌝ }
-    ensures { λ r. ⌜ (r ≡ totalOf (now (shares .entry))) × (r ≤ 64 * 2 ^ 32) ⌝ }
-{
-    let mut sum: u64 = 0;
-    let mut i: usize = 0;
-    while i < shares.len() {
-        sum += shares[i] as u64;
-        i += 1;
-    }
-    sum
-}
-
 // A block opens at the lowest free place; the answer is the code.
 pub fn open_in(
     block: u32,
@@ -224,7 +210,7 @@ pub fn open_in(
     if i == NO_PLACE {
         return codes::NO_FREE_PLACE;
     }
-    if WHOLE_LINE < total(shares) + total(held) + share as u64 {
+    if WHOLE_LINE < arrays::sum(shares) + arrays::sum(held) + share as u64 {
         return codes::SHARE_NOT_FREE;
     }
     numbers[i] = block;

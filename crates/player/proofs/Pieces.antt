@@ -28,8 +28,8 @@ use Rattle.log.proofs.Readings.{unbegun, turn-first}
 use Rattle.lines.specs.Text.{Written, Line}
 use Rattle.lines.specs.Listing.{endLine, brokenLine, longLine}
 use Rattle.lines.proofs.Texts.{none, then, from-front}
-use Rattle.engine.specs.Opening.{totalOf}
-use Rattle.engine.proofs.Sums.{total-map}
+use Rattle.arrays.specs.Lists.{totalOf}
+use Rattle.arrays.proofs.Totals.{total-map}
 use Rattle.calls.specs.declared.Reply.{Reply}
 use Rattle.calls.specs.Promises.{Returned, returned, Known, earlyCode, made}
 use Rattle.calls.proofs.Calling.{right-tables, sound-known, early-none}
