@@ -97,3 +97,9 @@ below-one f g (suc n) p l h = go (below-one f g n p) (ℕ-discrete n p)
     go : (p < n → ((j : ℕ) → j ≢ p → f j ≡ g j) → below f n + g p ≡ below g n + f p) → Dec (n ≡ p) → below f n + f n + g p ≡ below g n + g n + f p
     go r (yes e) = rw e (omega (arith, below-ext f g p (λ j k. h j (omega arith))))
     go r (no e) = omega (arith, r (omega arith) h, h n e)
+
+-- a sum by its first term
+pub below-first : (f : ℕ → ℕ) (n : ℕ) → below f (suc n) ≡ f 0 + below (λ i. f (suc i)) n
+unfolding below
+below-first f zero = omega arith
+below-first f (suc n) = omega (arith, below-first f n)

@@ -10,6 +10,9 @@ use lib.Dec.{eqb, leb, ltb}
 use lib.ListN.{length, getD, set}
 use borrow.Author.Tests.{eq-eqb}
 use Rattle.base.proofs.Numbers.{split, leb-yes, leb-no, false-lt}
+use Rattle.base.specs.Sums.{below}
+use Rattle.arrays.specs.Lists.{totalOf}
+use Rattle.arrays.proofs.Totals.{total-map, total-below}
 use Rattle.rules.specs.Board
 use Rattle.rules.specs.Board.{Place, freePlace, at, waits, out, spent}
 use Rattle.rules.specs.Spoilt.{isQueued}
@@ -20,22 +23,25 @@ use Rattle.rules.proofs.Cases.{or-right, in-range, some-in, free-found, CanClos
 use Rattle.rules.proofs.Calls.{in-places, empty-out}
 use Rattle.board.specs.declared.Board as struct
 use Rattle.board.specs.declared.Reply.{Reply}
-use Rattle.board.specs.Reading.{encode, view}
+use Rattle.board.specs.Reading.{encode, tab, view}
 use Rattle.board.specs.Leaving.{Returned, returned, replied, written, Known, ruled}
+use Rattle.board.proofs.Lists.{length-tab, getD-tab}
 use Rattle.board.proofs.Reading.{Fit}
 use Rattle.board.proofs.Sound.{fit-view}
 use Rattle.board.proofs.Fields.{share-is, count-at}
 use Rattle.board.proofs.Bounds.{bought, within, held-most}
 use Rattle.board.proofs.Agrees.{turned, agrees, by-spelling}
 use Rattle.finding.proofs.Finding.{not-zeroth, free-is, none-is, free-le, unknown-is, found-is, taken-number}
-use Rattle.blocks.specs.Blocks.{Renaming, renaming, renamedIn, withRenaming, totalOf, AfterOpening, afterOpening, openedIn, withOpening, heldWith, Closing, closing, closedIn, withClosing, CloseNeeds}
-use Rattle.blocks.proofs.Sums.{total-map, total-tab}
+use Rattle.blocks.specs.Blocks.{Renaming, renaming, renamedIn, withRenaming, AfterOpening, afterOpening, openedIn, withOpening, heldWith, Closing, closing, closedIn, withClosing, CloseNeeds}
 use Rattle.blocks.proofs.Blocks.{rename-is, open-is, close-is, quiet-active}
 
 module _ (m : Board.Board) (f : Fit m) where
   spent-is : totalOf (encode m .shares) + totalOf (encode m .held) ≡ spent m
   unfolding encode spent
-  spent-is = ap₂ (λ (a c : ℕ). a + c) (total-map (λ (y : Place). y .share) (m .places)) (total-tab 17 (m .held))
+  spent-is = ap₂ (λ (a c : ℕ). a + c) (total-map (λ (y : Place). y .share) (m .places)) held-is
+    where
+      held-is : totalOf (tab 17 (m .held)) ≡ below (m .held) 17
+      held-is = total-below (tab 17 (m .held)) 17 (m .held) (length-tab 17 (m .held)) (λ k h. getD-tab 17 (m .held) k 0 h)
 
   room-is : (s : ℕ) → 1 ≤ s → ltb 65536 (totalOf (encode m .shares) + totalOf (encode m .held) + s) ≡ overFree m s
   room-is s pos = ap (λ (n : ℕ). ltb 65536 (n + s)) spent-is ∙ go (split (65537 - spent m) s)

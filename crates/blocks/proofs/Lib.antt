@@ -1,3 +1,2 @@
-pub mod Sums
 pub mod Blocks
 pub mod Answers

@@ -4,8 +4,8 @@ use mathlib.Core.Bool.{Bool, cond, not, _||_}
 use mathlib.Core.List.{List}
 use Prim.Native.Nat.{ℕ, _+_, _≤_}
 use lib.Dec.{ltb, eqb}
-use lib.ListN.{getD, set, length}
-use Rattle.base.specs.Sums.{below}
+use lib.ListN.{getD, set}
+use Rattle.arrays.specs.Lists.{totalOf}
 use Rattle.units.specs.Classes.{classOf}
 use Rattle.board.specs.declared.Board.{Board}
 use Rattle.board.specs.Memory.{withBlocks}
@@ -31,10 +31,6 @@ abbrev pub withRenaming : Board → Renaming → Board
 withRenaming b r = withBlocks b (r .numbers) (b .shares) (b .starts) (b .held)
 
 -- ---- OPEN
-
--- the sum of a list
-unfoldable pub totalOf : List ℕ → ℕ
-totalOf l = below (λ i. getD l i 0) (length l)
 
 pub record AfterOpening : Type 0 where
   pub code : ℕ

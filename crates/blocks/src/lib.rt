@@ -4,7 +4,7 @@ ghost use Prim.Native.Nat.{ℕ, _+_, _-_, _*_, _^_, _<_, _≤_};
 ghost use lib.ListN.{length, getD};
 ghost use Rattle.rules.specs.Board.{fresh};
 ghost use Rattle.board.specs.Reading.{encode};
-ghost use Rattle.blocks.specs.Blocks.{renaming, renamedIn, totalOf, afterOpening, openedIn, heldWith, closing, closedIn, CloseNeeds};
+ghost use Rattle.blocks.specs.Blocks.{renaming, renamedIn, afterOpening, openedIn, heldWith, closing, closedIn, CloseNeeds};
 use board::Board;
 use numbers::CLASSES;
 use numbers::GREATEST_SHARE;
@@ -37,20 +37,6 @@ pub fn rename_in(old: u32, new: u32, numbers: &mut [u32; PLACES]) -> u8
     codes::DONE
 }
 
-// The sum of an array's numbers.
-fn total(shares: &[u32]) -> u64
-    requires { ⌜ length (now shares) ≤ 64 ⌝ }
-    ensures { λ r. ⌜ (r ≡ totalOf (now (shares .entry))) × (r ≤ 64 * 2 ^ 32) ⌝ }
-{
-    let mut sum: u64 = 0;
-    let mut i: usize = 0;
-    while i < shares.len() {
-        sum += shares[i] as u64;
-        i += 1;
-    }
-    sum
-}
-
 // A block opens at the lowest free place; the answer is the code.
 pub fn open_in(
     block: u32,
@@ -71,7 +57,7 @@ pub fn open_in(
     if i == NO_PLACE {
         return codes::NO_FREE_PLACE;
     }
-    if WHOLE_LINE < total(shares) + total(held) + share as u64 {
+    if WHOLE_LINE < arrays::sum(shares) + arrays::sum(held) + share as u64 {
         return codes::SHARE_NOT_FREE;
     }
     numbers[i] = block;

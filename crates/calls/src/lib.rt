@@ -1,6 +1,5 @@
 // The calls of the box, on a board by value and the two lent tables.
 ghost use mathlib.Core.Path.{_≡_};
-ghost use lib.ListN.{length, replicate};
 ghost use Rattle.rules.specs.Blocks.{opening};
 ghost use Rattle.rules.specs.Calls.{open!, rename!, close!, record! };
 ghost use Rattle.board.specs.Memory.{withEngine};
@@ -416,27 +415,6 @@ pub fn record(
     take_record(ids, lens, block, id, length, b)
 }
 
-// A making clears both tables.
-fn clear_ids(ids: &mut [u32])
-    ensures { λ _. ⌜ now (ids .exit) ≡ replicate (length (now (ids .entry))) 0 ⌝ }
-{
-    let mut i: usize = 0;
-    while i < ids.len() {
-        ids[i] = 0;
-        i += 1;
-    }
-}
-
-fn clear_lens(lens: &mut [u16])
-    ensures { λ _. ⌜ now (lens .exit) ≡ replicate (length (now (lens .entry))) 0 ⌝ }
-{
-    let mut i: usize = 0;
-    while i < lens.len() {
-        lens[i] = 0;
-        i += 1;
-    }
-}
-
 // A board is made, and both tables are cleared.
 pub fn make(ids: &mut [u32], lens: &mut [u16], largest: u32) -> Reply
     ensures { λ r. ⌜
@@ -467,8 +445,8 @@ pub fn make(ids: &mut [u32], lens: &mut [u16], largest: u32) -> Reply
             board: blocks::blank(0),
         };
     }
-    clear_ids(ids);
-    clear_lens(lens);
+    arrays::clear_words(ids);
+    arrays::clear_shorts(lens);
     Reply {
         code: codes::DONE,
         board: blocks::blank(largest),

@@ -5,25 +5,23 @@ use crate::output;
 // Entries of a table or of a burst's list in a case file, at most.
 pub const MOST: usize = 4096;
 
-fn clear_words(row: &mut [u32], from: usize) {
-    let mut i = from;
-    while i < row.len() {
-        row[i] = 0;
-        i += 1;
+fn cut_words(row: &mut [u32], from: usize) {
+    if row.len() <= from {
+        return;
     }
+    arrays::clear_words(&mut row[from..]);
 }
 
-fn clear_shorts(row: &mut [u16], from: usize) {
-    let mut i = from;
-    while i < row.len() {
-        row[i] = 0;
-        i += 1;
+fn cut_shorts(row: &mut [u16], from: usize) {
+    if row.len() <= from {
+        return;
     }
+    arrays::clear_shorts(&mut row[from..]);
 }
 
 pub fn cut(ids: &mut [u32], lens: &mut [u16], numbers: usize, lengths: usize) {
-    clear_words(ids, numbers);
-    clear_shorts(lens, lengths);
+    cut_words(ids, numbers);
+    cut_shorts(lens, lengths);
 }
 
 // A table that is too short for entry i is left alone.

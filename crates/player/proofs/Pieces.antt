@@ -28,8 +28,8 @@ use Rattle.log.proofs.Readings.{unbegun, turn-first}
 use Rattle.lines.specs.Text.{Written, Line}
 use Rattle.lines.specs.Listing.{endLine, brokenLine, longLine}
 use Rattle.lines.proofs.Texts.{none, then, from-front}
-use Rattle.blocks.specs.Blocks.{totalOf}
-use Rattle.blocks.proofs.Sums.{total-map}
+use Rattle.arrays.specs.Lists.{totalOf}
+use Rattle.arrays.proofs.Totals.{total-map}
 use Rattle.board.specs.declared.Reply.{Reply}
 use Rattle.board.specs.Leaving.{Returned, returned, Known}
 use Rattle.spoilt.specs.Early.{earlyCode}

@@ -6,7 +6,7 @@ ghost use lib.ListN.{length, getD, take};
 ghost use Rattle.log.specs.Format.{inTurn};
 ghost use Rattle.log.specs.declared.Event.the-variants.{Serve};
 ghost use Rattle.lines.specs.Text.{Line, Written};
-ghost use Rattle.blocks.specs.Blocks.{totalOf};
+ghost use Rattle.arrays.specs.Lists.{totalOf};
 ghost use Rattle.board.specs.Memory.{numbersNow, boardNow};
 ghost use Rattle.player.specs.Fields.{memory, KnownMemory, FieldPlayed, shownLine};
 ghost use Rattle.player.specs.Pieces.{beforeFirst, pieceCode, CanGoOn, endedPiece, PieceDone, PieceOf};

@@ -14,8 +14,11 @@ use borrow.Author.Tests.{ne-eqb, le-leb}
 use Rattle.base.specs.Sums.{oneIf, sum, below}
 use Rattle.base.specs.Tests.{alike, allBelow}
 use Rattle.base.proofs.Numbers.{eqb-yes, eqb-no, eqb-true}
+use Rattle.base.proofs.Sums.{below-first}
 use Rattle.base.proofs.Tests.{and-both, all-intro}
 use Rattle.base.proofs.Decides.{d-every, d-and, d-or, d-not, d-eqb, d-leb, d-imp}
+use Rattle.arrays.specs.Lists.{totalOf}
+use Rattle.arrays.proofs.Totals.{total-below}
 use Rattle.units.specs.Classes.{nextStart}
 use Rattle.units.specs.Credit.{charged, largestCharge, chargeOf}
 use Rattle.units.proofs.Classes.{class-le}
@@ -39,19 +42,16 @@ use Rattle.spoilt.proofs.Walk.{orderOf}
 
 -- ---- the shares of the places that are read
 
-below-front : (f : ℕ → ℕ) (n : ℕ) → below f (suc n) ≡ f 0 + below (λ i. f (suc i)) n
-unfolding below
-below-front f zero = omega arith
-below-front f (suc n) = omega (arith, below-front f n)
-
 sum-tab : {A : Type 0} (f : A → ℕ) (n : ℕ) (g : ℕ → A) → sum f (tab n g) ≡ below (λ i. f (g i)) n
 unfolding tab sum below
 sum-tab f zero g = refl
-sum-tab f (suc n) g = omega (arith, sum-tab f n (λ i. g (suc i)), below-front (λ i. f (g i)) n)
+sum-tab f (suc n) g = omega (arith, sum-tab f n (λ i. g (suc i)), below-first (λ i. f (g i)) n)
 
-pub spent-is : (b : struct.Board) (ids lens : List ℕ) → spent (view b ids lens) ≡ below (λ p. getD (b .shares) p 0) 64 + below (λ k. getD (b .held) k 0) 17
+pub spent-is : (b : struct.Board) (ids lens : List ℕ) → Sized b → spent (view b ids lens) ≡ totalOf (b .shares) + totalOf (b .held)
 unfolding spent view placeOf bareOf
-spent-is b ids lens = ap (λ (n : ℕ). n + below (λ k. getD (b .held) k 0) 17) (sum-tab (λ (x : Place). x .share) 64 (placeOf b ids lens))
+spent-is b ids lens z =
+    ap₂ (λ (m n : ℕ). m + n) (sum-tab (λ (x : Place). x .share) 64 (placeOf b ids lens) ∙ sym (total-below (b .shares) 64 (λ p. getD (b .shares) p 0) (z .shares) (λ p l. refl)))
+    (sym (total-below (b .held) 17 (λ k. getD (b .held) k 0) (z .held) (λ k l. refl)))
 
 -- ---- a test of every place that is read
 
@@ -135,7 +135,7 @@ module _ (b : struct.Board) (ids lens : List ℕ) (z : Sized b) (r : Rules b len
 
   fits : leb (spent v) 65536 ≡ true
   unfolding sharesFit
-  fits = ap (λ (n : ℕ). leb n 65536) (spent-is b ids lens) ∙ r .shares
+  fits = ap (λ (n : ℕ). leb n 65536) (spent-is b ids lens z) ∙ r .shares
 
   rising : (k : ℕ) → k < 17 → neverFalling (v .places) (v .orders k) ≡ true
   unfolding view

@@ -252,7 +252,7 @@ module _ (b : struct.Board) (ids lens : List ℕ) (z : Sized b) (s : Sound b ids
     apart = apart;
     places = place-rules;
     lanes = λ p h. lengths-to b ids lens p (at-place (λ x. lengthsIn (b .largest) (x .lane)) (kept .1 .1 .1 .1 .1 .1 .1 .0) p h);
-    shares = ap (λ (n : ℕ). leb n 65536) (sym (spent-is b ids lens)) ∙ kept .1 .1 .1 .1 .1 .1 .1 .1 .1 .1 .0;
+    shares = ap (λ (n : ℕ). leb n 65536) (sym (spent-is b ids lens z)) ∙ kept .1 .1 .1 .1 .1 .1 .1 .1 .1 .1 .0;
     held = ap (λ (t : Bool). not t || allBelow 17 (λ k. eqb (getD (b .held) k 0) 0)) (ap (λ (n : ℕ). eqb n 0) active-field ∙ sym (quiet-is b ids lens ordered)) ∙ kept .1 .1 .1 .1 .1 .1 .1 .1 .1 .1 .1 .0;
     slot = slot-rule;
     orders = λ k h. omega (arith, walks k h, follow-length (b .next) 64 (getD (b .heads) k 0));

@@ -7,6 +7,7 @@ use lib.Dec.{leb, ltb, eqb}
 use lib.ListN.{getD}
 use Rattle.base.specs.Sums.{oneIf, below}
 use Rattle.base.specs.Tests.{every, allBelow}
+use Rattle.arrays.specs.Lists.{totalOf}
 use Rattle.units.specs.Credit.{chargeOf}
 
 -- L in range
@@ -73,7 +74,7 @@ placesInRange largest slot numbers shares starts counts deficits ready next =
 
 -- open plus held shares at most 65,536
 unfoldable pub sharesFit : List ℕ → List ℕ → Bool
-sharesFit shares held = leb (below (λ p. getD shares p 0) 64 + below (λ k. getD held k 0) 17) 65536
+sharesFit shares held = leb (totalOf shares + totalOf held) 65536
 
 -- held shares 0 if none waits: no class is active
 unfoldable pub noneHeld : List ℕ → Bool

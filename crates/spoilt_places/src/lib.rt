@@ -1,8 +1,6 @@
 // The rules of the places, for the spoilt test: numbers, shares, rings, deficits and zeros. Each function decides one clause and asks nothing of its caller.
 ghost use mathlib.Core.Path.{_≡_};
-ghost use Prim.Native.Nat.{ℕ, _<_};
-ghost use lib.ListN.{getD};
-ghost use Rattle.base.specs.Sums.{oneIf, below};
+ghost use Rattle.base.specs.Sums.{oneIf};
 ghost use Rattle.spoilt_places.specs.Ranges.{sizeInRange, timesFound, numberApart, numbersApart, numberInRange, shareInRange, ringInRange, inOrder, deficitInRange, freeIsZero, unusedIsZero, placeInRange, placesInRange, sharesFit, noneHeld, heldWhileWaiting};
 use numbers::CLASSES;
 use numbers::GREATEST_LARGEST;
@@ -229,52 +227,11 @@ pub fn places_in_range<'a>(
     true
 }
 
-// A share as a term of a sum.
-fn wide(share: u32) -> u64
-    ensures { λ r. ⌜ (r ≡ share) × (r < 4294967296) ⌝ }
-{
-    share as u64
-}
-
-// The shares of the open blocks.
-fn open_shares(shares: &[u32; PLACES]) -> u64
-    ensures { λ r. ⌜ r ≡ below (λ p. getD (now (shares .entry)) p 0) 64 ⌝ }
-{
-    let mut sum: u64 = 0;
-    let mut p: usize = 0;
-    while p < PLACES {
-        sum += wide(shares[p]);
-        p += 1;
-    }
-    sum
-}
-
-// The held shares of all classes.
-fn held_shares(held: &[u32; CLASSES]) -> u64
-    ensures { λ r. ⌜ r ≡ below (λ k. getD (now (held .entry)) k 0) 17 ⌝ }
-{
-    let mut sum: u64 = 0;
-    let mut k: usize = 0;
-    while k < CLASSES {
-        sum += wide(held[k]);
-        k += 1;
-    }
-    sum
-}
-
 // Open plus held shares at most 65,536.
 pub fn shares_fit<'a>(shares: &'a [u32; PLACES], held: &'a [u32; CLASSES]) -> bool
     ensures { λ r. ⌜ r ≡ sharesFit (now (shares .entry)) (now (held .entry)) ⌝ }
 {
-    let open = open_shares(shares);
-    if WHOLE_LINE < open {
-        return false;
-    }
-    let kept = held_shares(held);
-    if WHOLE_LINE < kept {
-        return false;
-    }
-    open + kept <= WHOLE_LINE
+    arrays::sum(shares) + arrays::sum(held) <= WHOLE_LINE
 }
 
 // No share is held.

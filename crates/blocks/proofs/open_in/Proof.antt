@@ -27,11 +27,11 @@ returns-3 : tie.Need-returns-3
 unfolding openedIn
 returns-3 c = rw (sym (c .before .before .before .before .before .before .before .outside .ensures) ∙ c .before .before .before .before .before .before .if1 .left, ← c .before .before .before .before .find .ensures, eq-eqb _ _ (c .before .before .before .if2 .left), ← c .before .find2 .ensures, eq-eqb _ _ (c .if3 .taken))
 
-total-requires : tie.Need-total-requires
-total-requires c κs = search needs
+sum-requires : tie.Need-sum-requires
+sum-requires c κs = search needs
 
-total-requires-2 : tie.Need-total-requires-2
-total-requires-2 c κs = search needs
+sum-requires-2 : tie.Need-sum-requires-2
+sum-requires-2 c κs = search needs
 
 add-if4 : tie.Need-add-if4
 add-if4 c = search needs
@@ -41,7 +41,7 @@ add-if4-2 c = search needs
 
 returns-4 : tie.Need-returns-4
 unfolding openedIn
-returns-4 c = rw (sym (c .before .before .before .before .before .before .before .before .before .before .before .before .before .outside .ensures) ∙ c .before .before .before .before .before .before .before .before .before .before .before .before .if1 .left, ← c .before .before .before .before .before .before .before .before .before .before .find .ensures, eq-eqb _ _ (c .before .before .before .before .before .before .before .before .before .if2 .left), ← c .before .before .before .before .before .before .before .find2 .ensures, ne-eqb _ _ (c .before .before .before .before .before .before .if3 .left), ← c .before .before .before .total .ensures .0, ← c .before .total2 .ensures .0, lt-ltb _ _ (c .if4 .taken))
+returns-4 c = rw (sym (c .before .before .before .before .before .before .before .before .before .before .before .before .before .outside .ensures) ∙ c .before .before .before .before .before .before .before .before .before .before .before .before .if1 .left, ← c .before .before .before .before .before .before .before .before .before .before .find .ensures, eq-eqb _ _ (c .before .before .before .before .before .before .before .before .before .if2 .left), ← c .before .before .before .before .before .before .before .find2 .ensures, ne-eqb _ _ (c .before .before .before .before .before .before .if3 .left), ← c .before .before .before .sum .ensures .0, ← c .before .sum2 .ensures .0, lt-ltb _ _ (c .if4 .taken))
 
 mul-numbers : tie.Need-mul-numbers
 mul-numbers c = let h = found-in _ _ _ (c .before .before .before .before .before .before .before .find2 .ensures) (c .before .before .before .before .before .before .if3 .left) in search needs
@@ -57,7 +57,7 @@ element-write-shares c = found-in _ _ _ (c .before .before .before .before .befo
 
 returns-5 : tie.Need-returns-5
 unfolding openedIn
-returns-5 c = rw (sym (c .before .before .before .before .before .before .before .before .before .before .before .before .before .outside .ensures) ∙ c .before .before .before .before .before .before .before .before .before .before .before .before .if1 .left, ← c .before .before .before .before .before .before .before .before .before .before .find .ensures, eq-eqb _ _ (c .before .before .before .before .before .before .before .before .before .if2 .left), ← c .before .before .before .before .before .before .before .find2 .ensures, ne-eqb _ _ (c .before .before .before .before .before .before .if3 .left), ← c .before .before .before .total .ensures .0, ← c .before .total2 .ensures .0, le-ltb _ _ (c .if4 .left))
+returns-5 c = rw (sym (c .before .before .before .before .before .before .before .before .before .before .before .before .before .outside .ensures) ∙ c .before .before .before .before .before .before .before .before .before .before .before .before .if1 .left, ← c .before .before .before .before .before .before .before .before .before .before .find .ensures, eq-eqb _ _ (c .before .before .before .before .before .before .before .before .before .if2 .left), ← c .before .before .before .before .before .before .before .find2 .ensures, ne-eqb _ _ (c .before .before .before .before .before .before .if3 .left), ← c .before .before .before .sum .ensures .0, ← c .before .sum2 .ensures .0, le-ltb _ _ (c .if4 .left))
 
 pub open-in-spec : {M : Type 1} → statement M
 open-in-spec =
@@ -69,8 +69,8 @@ open-in-spec =
     returns-2
     find-requires-2
     returns-3
-    total-requires
-    total-requires-2
+    sum-requires
+    sum-requires-2
     add-if4
     add-if4-2
     returns-4

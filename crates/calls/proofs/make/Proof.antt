@@ -34,11 +34,11 @@ returns-4 : tie.Need-returns-4
 unfolding made make
 returns-4 c = rw (none-wrong _ _ (c .before .before .before .before .if1 .left) (c .before .before .before .if2 .left), le-leb _ _ (c .before .before .if3 .left), lt-leb _ _ (c .before .if4 .taken), c .blank4 .ensures)
 
-clear-ids-requires : tie.Need-clear-ids-requires
-clear-ids-requires c κs = search needs
+clear-words-requires : tie.Need-clear-words-requires
+clear-words-requires c κs = search needs
 
-clear-lens-requires : tie.Need-clear-lens-requires
-clear-lens-requires c κs = search needs
+clear-shorts-requires : tie.Need-clear-shorts-requires
+clear-shorts-requires c κs = search needs
 
 blank-requires-5 : tie.Need-blank-requires-5
 blank-requires-5 c κs = search needs
@@ -51,7 +51,7 @@ same-length-2 c = search needs
 
 returns-5 : tie.Need-returns-5
 unfolding made make
-returns-5 c = rw (none-wrong _ _ (c .before .before .before .before .before .before .before .before .before .before .before .before .if1 .left) (c .before .before .before .before .before .before .before .before .before .before .before .if2 .left), le-leb _ _ (c .before .before .before .before .before .before .before .before .before .before .if3 .left), le-leb _ _ (c .before .before .before .before .before .before .before .before .before .if4 .left), c .blank5 .ensures, c .before .before .before .before .before .before .before .clear-ids .ensures, c .before .before .before .clear-lens .ensures)
+returns-5 c = rw (none-wrong _ _ (c .before .before .before .before .before .before .before .before .before .before .before .before .if1 .left) (c .before .before .before .before .before .before .before .before .before .before .before .if2 .left), le-leb _ _ (c .before .before .before .before .before .before .before .before .before .before .if3 .left), le-leb _ _ (c .before .before .before .before .before .before .before .before .before .if4 .left), c .blank5 .ensures, c .before .before .before .before .before .before .before .clear-words .ensures, c .before .before .before .clear-shorts .ensures)
 
 pub make-spec : {M : Type 1} → statement M
 make-spec =
@@ -65,8 +65,8 @@ make-spec =
     returns-3
     blank-requires-4
     returns-4
-    clear-ids-requires
-    clear-lens-requires
+    clear-words-requires
+    clear-shorts-requires
     blank-requires-5
     same-length
     same-length-2

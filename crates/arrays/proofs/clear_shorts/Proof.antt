@@ -1,19 +1,20 @@
--- `drive::tables::clear_shorts` is safe and ends. The table keeps its length. Assumes nothing.
-use mathlib.Core.Path.{_≡_}
-use borrow.Author.Needs.{needs}
+-- `arrays::clear_shorts` meets its contract. Assumes nothing.
+use Rattle.arrays.proofs.Loops.{Cleared, cleared-none, cleared-more, cleared-all}
 use lib.ListN.{length}
+use native.Mathlib.Omega.{arith}
 use Prim.Native.Nat.{_-_}
-use Rattle.drive.proofs.tables.clear_shorts.Statement.{statement}
-use Rattle.drive.proofs.tables.clear_shorts.Tie as tie
+use borrow.Author.Needs.{needs}
+use Rattle.arrays.proofs.clear_shorts.Statement.{statement}
+use Rattle.arrays.proofs.clear_shorts.Tie as tie
 
 abbrev Inv-loop : tie.InvT-loop
-Inv-loop row₀ from i₀ row i = length row ≡ length row₀
+Inv-loop row₀ i₀ row i = Cleared row₀ i row
 
 abbrev μ-loop : tie.MeasureT-loop
-μ-loop row₀ from i₀ row i = length row₀ - i
+μ-loop row₀ i₀ row i = length row₀ - i
 
 loop-holds : tie.Need-loop-holds Inv-loop μ-loop
-loop-holds c = search needs
+loop-holds c = cleared-none _
 
 mul-row : tie.Need-mul-row Inv-loop μ-loop
 mul-row c = search needs
@@ -25,16 +26,16 @@ add-i : tie.Need-add-i Inv-loop μ-loop
 add-i c = search needs
 
 loop-less : tie.Need-loop-less Inv-loop μ-loop
-loop-less c = search needs
+loop-less c = omega (arith, c .before .loop .inv .as-long)
 
 loop-again : tie.Need-loop-again Inv-loop μ-loop
-loop-again c = search needs
+loop-again c = cleared-more _ _ _ (c .before .loop .inv) (omega arith)
 
 same-length : tie.Need-same-length Inv-loop μ-loop
-same-length c = search needs
+same-length c = c .before .loop .inv .as-long
 
 returns : tie.Need-returns Inv-loop μ-loop
-returns c = search needs
+returns c = cleared-all _ _ _ (c .before .loop .inv) (omega arith)
 
 pub clear-shorts-spec : {M : Type 1} → statement M
 clear-shorts-spec =
