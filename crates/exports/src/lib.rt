@@ -5,7 +5,7 @@ ghost use Rattle.rules.specs.Calls.{record! };
 ghost use Rattle.engine.specs.Serving.{numbersNow};
 ghost use Rattle.calls.specs.Contract.{burstNow, calledServe, calledBurst};
 ghost use Rattle.calls.specs.Promises.{called, returned, replied};
-ghost use Rattle.player.specs.Fields.{boardNow};
+ghost use Rattle.fields.specs.Fields.{boardNow};
 ghost use Rattle.exports.specs.Listed.{Listed};
 use board::Board;
 use lines::LINE_ROOM;

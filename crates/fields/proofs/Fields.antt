@@ -37,7 +37,7 @@ use Rattle.calls.proofs.Known.{record-known, rename-known, open-known, close-kn
 use Rattle.calls.proofs.Next.{Follows, call-follows}
 use Rattle.calls.proofs.Promises.{within, spells, by-cases, after-is, known-next, serve-known}
 use Rattle.plays.specs.Listing.{after, played, fieldLine, servedLine}
-use Rattle.player.specs.Fields.{Memory, memory, reads, KnownMemory, FieldPlayed, shownLine}
+use Rattle.fields.specs.Fields.{Memory, memory, reads, KnownMemory, FieldPlayed, shownLine}
 
 -- only a serve sends bytes
 abbrev Sends : Board.Board → Single → Turn → Type 0
