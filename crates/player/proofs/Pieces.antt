@@ -42,8 +42,9 @@ use Rattle.plays.specs.Listing.{Playing, unmade, waiting, listingFrom, listingO
 use Rattle.plays.proofs.Listing.{listing-whole, listing-broken, listing-end, listing-long, listing-first}
 use Rattle.player.specs.declared.State.{State}
 use Rattle.player.specs.declared.Piece.{Piece}
-use Rattle.player.specs.Fields.{Memory, memory, reads, KnownMemory, FieldPlayed}
-use Rattle.player.specs.Pieces.{beforeFirst, readTo, restOf, restAfter, unfit, pieceCode, CanGoOn, refusedPiece, endedPiece, PieceDone, PieceOf, Pieces, last, more, howMany, Roomy, PiecesListing, PiecesFew}
+use Rattle.fields.specs.Fields.{Memory, memory, reads, KnownMemory, FieldPlayed}
+use Rattle.player.specs.Pieces.{beforeFirst, readTo, restOf, restAfter, unfit, pieceCode, CanGoOn, refusedPiece, endedPiece, PieceDone, PieceOf, Pieces, last, more, howMany, Roomy}
+use Rattle.player.specs.Pieces.{PiecesListing, PiecesFew}
 
 -- ---- The code, test by test
 module _ (len : ℕ) (s : State) (ids lens : List ℕ) (a : length ids ≡ 2048) (d : length lens ≡ 2048) where

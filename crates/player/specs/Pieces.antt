@@ -11,7 +11,7 @@ use Rattle.rules.specs.Calls.{wrongTables}
 use Rattle.board.specs.Reading.{encode, isSound}
 use Rattle.log.specs.Format.{isLong}
 use Rattle.plays.specs.Listing.{listingFrom, listingOf}
-use Rattle.player.specs.Fields.{memory, reads, KnownMemory}
+use Rattle.fields.specs.Fields.{memory, reads, KnownMemory}
 use Rattle.player.specs.declared.State.{State}
 use Rattle.player.specs.declared.Piece.{Piece}
 

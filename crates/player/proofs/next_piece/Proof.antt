@@ -7,7 +7,7 @@ use lib.ListN.{length}
 use Rattle.log.proofs.Fields.{whole-is, whole-next}
 use Rattle.board.specs.Memory.{numbersNow, boardNow}
 use Rattle.plays.specs.Listing.{listingFrom}
-use Rattle.player.specs.Fields.{memory, reads}
+use Rattle.fields.specs.Fields.{memory, reads}
 use Rattle.player.proofs.Pieces.{UnderWay, under-first, under-room, under-fits, under-small, under-next, under-last, under-more, end-listing, broken-listing, left-is, read-is}
 use borrow.Author.Needs.{needs}
 use Rattle.player.proofs.next_piece.Statement.{statement}

@@ -1,11 +1,11 @@
--- `player::play_serve` meets its contract. A serve is one with room for a record and bytes for any. Assumes nothing.
-use Rattle.player.specs.Fields.{memory}
+-- `fields::play_serve` meets its contract. A serve is one with room for a record and bytes for any. Assumes nothing.
+use Rattle.fields.specs.Fields.{memory}
 use mathlib.Core.List.{[]}
 use native.Mathlib.Omega.{arith}
 use Rattle.serving.proofs.Known.{can-known, sent-index}
-use Rattle.player.proofs.Fields.{serve-small, serve-plays}
-use Rattle.player.proofs.play_serve.Statement.{statement}
-use Rattle.player.proofs.play_serve.Tie as tie
+use Rattle.fields.proofs.Fields.{serve-small, serve-plays}
+use Rattle.fields.proofs.play_serve.Statement.{statement}
+use Rattle.fields.proofs.play_serve.Tie as tie
 
 serve-within-requires : tie.Need-serve-within-requires
 serve-within-requires c κs = can-known _ _ _ (c .before .before .before .before .before .before .before .before .before .before .pre .0)

@@ -1,9 +1,9 @@
--- `player::show_serve` meets its contract. A code of 0 is a record that stands in the tables. Assumes nothing.
+-- `fields::show_serve` meets its contract. A code of 0 is a record that stands in the tables. Assumes nothing.
 use borrow.Author.Tests.{eq-eqb, ne-eqb}
 use native.Mathlib.Omega.{arith}
 use borrow.Author.Needs.{needs}
-use Rattle.player.proofs.show_serve.Statement.{statement}
-use Rattle.player.proofs.show_serve.Tie as tie
+use Rattle.fields.proofs.show_serve.Statement.{statement}
+use Rattle.fields.proofs.show_serve.Tie as tie
 
 put-refused-requires : tie.Need-put-refused-requires
 put-refused-requires c κs = search needs

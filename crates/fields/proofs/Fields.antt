@@ -39,7 +39,7 @@ use Rattle.blocks.proofs.Answers.{rename-known, open-known, close-known}
 use Rattle.board.proofs.Next.{Follows, call-follows}
 use Rattle.serving.proofs.Known.{within, spells, by-cases, after-is, known-next, refused-stays}
 use Rattle.plays.specs.Listing.{after, played, fieldLine, servedLine}
-use Rattle.player.specs.Fields.{Memory, memory, reads, KnownMemory, FieldPlayed, shownLine}
+use Rattle.fields.specs.Fields.{Memory, memory, reads, KnownMemory, FieldPlayed, shownLine}
 
 -- only a serve sends bytes
 abbrev Sends : Board.Board → Single → Turn → Type 0

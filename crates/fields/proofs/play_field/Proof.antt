@@ -1,4 +1,4 @@
--- `player::play_field` meets its contract. Each kind of field by its law. Assumes nothing.
+-- `fields::play_field` meets its contract. Each kind of field by its law. Assumes nothing.
 use native.Mathlib.Omega.{arith}
 use mathlib.Core.Path.{_≡_, subst, refl}
 use mathlib.Core.Bool.{true}
@@ -6,10 +6,10 @@ use Rattle.log.specs.declared.Event.{Event}
 use Rattle.taking.proofs.Answers.{record-needs}
 use Rattle.blocks.proofs.Answers.{close-needs}
 use Rattle.log.specs.Format.{inTurn}
-use Rattle.player.proofs.Fields.{open-plays, close-plays, rename-plays, record-plays, passed-plays, no-second}
+use Rattle.fields.proofs.Fields.{open-plays, close-plays, rename-plays, record-plays, passed-plays, no-second}
 use borrow.Author.Needs.{needs}
-use Rattle.player.proofs.play_field.Statement.{statement}
-use Rattle.player.proofs.play_field.Tie as tie
+use Rattle.fields.proofs.play_field.Statement.{statement}
+use Rattle.fields.proofs.play_field.Tie as tie
 
 enum-known-event : tie.Need-enum-known-event
 enum-known-event c = search needs

@@ -1,0 +1,259 @@
+// One field of a log played: what it says is done on the engine's arrays, and its line is put in front of a buffer. The
+// board is not tested here: whoever goes from field to field tests it once, and each step leaves it good.
+ghost use mathlib.Core.Path.{_≡_};
+ghost use mathlib.Core.Bool.{true};
+ghost use Prim.Native.Nat.{_^_, _<_, _≤_};
+ghost use lib.ListN.{length, getD};
+ghost use Rattle.log.specs.Format.{inTurn};
+ghost use Rattle.log.specs.declared.Event.the-variants.{Serve};
+ghost use Rattle.lines.specs.Text.{Line};
+ghost use Rattle.board.specs.Memory.{numbersNow, boardNow};
+ghost use Rattle.fields.specs.Fields.{memory, KnownMemory, FieldPlayed, shownLine};
+use lines::LINE_ROOM;
+use log::Event;
+use numbers::CLASSES;
+use numbers::PLACES;
+use numbers::codes;
+use units::Bytes;
+use units::Parts;
+
+// What a field leaves besides the arrays: the length of its line, the bytes sent so far, and the board's numbers.
+pub struct Moved {
+    pub shown: usize,
+    pub sent: Bytes,
+    pub clock: u64,
+    pub active: u32,
+    pub pending: u32,
+    pub slot: u8,
+    pub left: Parts,
+}
+
+// The line of a serve: what was sent, or the code of a refusal.
+fn show_serve(
+    code: u8,
+    place: usize,
+    entry: usize,
+    time: u64,
+    numbers: &[u32; PLACES],
+    ids: &[u32],
+    lens: &[u16],
+    line: &mut [u8; LINE_ROOM],
+) -> usize
+    requires { ⌜
+        (length (now ids) ≡ 2048)
+        × ((length (now lens) ≡ 2048)
+        × (code ≡ 0 → (place < 64) × (entry < 2048))) ⌝ }
+    ensures { λ r. ⌜
+        (let block = getD (now (numbers .entry)) place 0 in
+        let number = getD (now (ids .entry)) entry 0 in
+        let bytes = getD (now (lens .entry)) entry 0 in
+        Line (now (line .entry)) (shownLine code block number bytes time) r (now (line .exit)) × (r ≤ 64)) ⌝ }
+{
+    if code != codes::DONE {
+        return lines::put_refused(line, code);
+    }
+    lines::put_out(line, numbers[place], ids[entry], lens[entry], time)
+}
+
+// The next record is sent.
+fn play_serve(
+    sent: Bytes,
+    largest: u32,
+    clock: u64,
+    active: u32,
+    pending: u32,
+    slot: u8,
+    left: Parts,
+    numbers: &[u32; PLACES],
+    shares: &[u32; PLACES],
+    starts: &mut [u8; PLACES],
+    counts: &mut [u8; PLACES],
+    deficits: &mut [u64; PLACES],
+    ready: &mut [u64; PLACES],
+    next: &mut [u8; PLACES],
+    heads: &mut [u8; CLASSES],
+    tails: &mut [u8; CLASSES],
+    held: &mut [u32; CLASSES],
+    ids: &[u32],
+    lens: &[u16],
+    line: &mut [u8; LINE_ROOM],
+) -> Moved
+    requires { ⌜
+        KnownMemory (memory
+        (boardNow (now numbers) (now shares) (now starts) (now counts)
+        (now deficits) (now ready) (now next)
+        (now heads) (now tails) (now held)
+        largest (numbersNow clock active pending slot (left .0)))
+        (now ids) (now lens) (sent .0))
+        × (sent .0 < 2 ^ 63) ⌝ }
+    ensures { λ r. ⌜
+        (let before = memory
+        (boardNow (now (numbers .entry)) (now (shares .entry)) (now (starts .entry)) (now (counts .entry))
+        (now (deficits .entry)) (now (ready .entry)) (now (next .entry))
+        (now (heads .entry)) (now (tails .entry)) (now (held .entry))
+        largest (numbersNow clock active pending slot (left .0)))
+        (now (ids .entry)) (now (lens .entry)) (sent .0) in
+        let after = memory
+        (boardNow (now (numbers .entry)) (now (shares .entry)) (now (starts .exit)) (now (counts .exit))
+        (now (deficits .exit)) (now (ready .exit)) (now (next .exit))
+        (now (heads .exit)) (now (tails .exit)) (now (held .exit))
+        largest (numbersNow (r .clock) (r .active) (r .pending) (r .slot) (r .left .0)))
+        (now (ids .entry)) (now (lens .entry)) (r .sent .0) in
+        FieldPlayed before Serve after (now (line .entry)) (r .shown) (now (line .exit))) ⌝ }
+{
+    let s = serving::serve_within(
+        Bytes(serving::ANY_LENGTH),
+        1,
+        clock,
+        active,
+        pending,
+        slot,
+        left,
+        largest,
+        shares,
+        starts,
+        counts,
+        deficits,
+        ready,
+        next,
+        heads,
+        tails,
+        held,
+        lens,
+    );
+    let shown = show_serve(s.code, s.place, s.entry, s.time, numbers, ids, lens, line);
+    let charge = s.bytes;
+    let rest = s.left;
+    Moved {
+        shown: shown,
+        sent: Bytes(sent.0 + charge.0),
+        clock: s.clock,
+        active: s.active,
+        pending: s.pending,
+        slot: s.slot,
+        left: rest,
+    }
+}
+
+// One field after L: what it says is done, and its line is put in front of the buffer.
+pub fn play_field(
+    event: Event,
+    sent: Bytes,
+    largest: u32,
+    clock: u64,
+    active: u32,
+    pending: u32,
+    slot: u8,
+    left: Parts,
+    numbers: &mut [u32; PLACES],
+    shares: &mut [u32; PLACES],
+    starts: &mut [u8; PLACES],
+    counts: &mut [u8; PLACES],
+    deficits: &mut [u64; PLACES],
+    ready: &mut [u64; PLACES],
+    next: &mut [u8; PLACES],
+    heads: &mut [u8; CLASSES],
+    tails: &mut [u8; CLASSES],
+    held: &mut [u32; CLASSES],
+    ids: &mut [u32],
+    lens: &mut [u16],
+    line: &mut [u8; LINE_ROOM],
+) -> Moved
+    requires { ⌜
+        KnownMemory (memory
+        (boardNow (now numbers) (now shares) (now starts) (now counts)
+        (now deficits) (now ready) (now next)
+        (now heads) (now tails) (now held)
+        largest (numbersNow clock active pending slot (left .0)))
+        (now ids) (now lens) (sent .0))
+        × ((sent .0 < 2 ^ 63) × (inTurn event true ≡ true)) ⌝ }
+    ensures { λ r. ⌜
+        (let before = memory
+        (boardNow (now (numbers .entry)) (now (shares .entry)) (now (starts .entry)) (now (counts .entry))
+        (now (deficits .entry)) (now (ready .entry)) (now (next .entry))
+        (now (heads .entry)) (now (tails .entry)) (now (held .entry))
+        largest (numbersNow clock active pending slot (left .0)))
+        (now (ids .entry)) (now (lens .entry)) (sent .0) in
+        let after = memory
+        (boardNow (now (numbers .exit)) (now (shares .exit)) (now (starts .exit)) (now (counts .exit))
+        (now (deficits .exit)) (now (ready .exit)) (now (next .exit))
+        (now (heads .exit)) (now (tails .exit)) (now (held .exit))
+        largest (numbersNow (r .clock) (r .active) (r .pending) (r .slot) (r .left .0)))
+        (now (ids .exit)) (now (lens .exit)) (r .sent .0) in
+        FieldPlayed before event after (now (line .entry)) (r .shown) (now (line .exit))) ⌝ }
+{
+    let mut shown: usize = 0;
+    let mut set = active;
+    match event {
+        Event::Open(block, share) => {
+            let code = blocks::open_in(block, share, numbers, shares, held);
+            shown = lines::put_open(line, block, code);
+        }
+        Event::Close(block) => {
+            let code = blocks::close_in(block, active, counts, numbers, shares, starts, held);
+            shown = lines::put_close(line, block, code);
+        }
+        Event::Rename(old, new) => {
+            let code = blocks::rename_in(old, new, numbers);
+            shown = lines::put_name(line, old, new, code);
+        }
+        Event::Arrive(block, number, bytes) => {
+            let took = taking::record_in(
+                block,
+                number,
+                bytes,
+                largest,
+                clock,
+                active,
+                numbers,
+                shares,
+                starts,
+                counts,
+                next,
+                heads,
+                tails,
+                ready,
+                ids,
+                lens,
+            );
+            set = took.active;
+            shown = lines::put_in(line, number, took.code);
+        }
+        Event::Serve => {
+            return play_serve(
+                sent,
+                largest,
+                clock,
+                active,
+                pending,
+                slot,
+                left,
+                numbers,
+                shares,
+                starts,
+                counts,
+                deficits,
+                ready,
+                next,
+                heads,
+                tails,
+                held,
+                ids,
+                lens,
+                line,
+            );
+        }
+        // A field that is passed over gives no line, and L is not read twice.
+        Event::Passed => {}
+        Event::Largest(_) => {}
+    }
+    Moved {
+        shown: shown,
+        sent: sent,
+        clock: clock,
+        active: set,
+        pending: pending,
+        slot: slot,
+        left: left,
+    }
+}
