@@ -1,15 +1,24 @@
--- WORKING DEFINITIONS: renaming, opening and closing, with their codes, on the board's lists.
+-- WORKING DEFINITIONS: making, renaming, opening and closing, with their codes, on the board's lists.
 -- Theorems tie them to the rules; no promise of a call cites one.
 use mathlib.Core.Bool.{Bool, cond, not, _||_}
 use mathlib.Core.List.{List}
 use Prim.Native.Nat.{ℕ, _+_, _≤_}
 use lib.Dec.{ltb, eqb}
 use lib.ListN.{getD, set}
-use Rattle.arrays.specs.Lists.{totalOf}
+use Rattle.arrays.specs.Lists.{totalOf, zeroed}
+use Rattle.rules.specs.Board.{fresh}
 use Rattle.units.specs.Classes.{classOf}
 use Rattle.board.specs.declared.Board.{Board}
+use Rattle.board.specs.Reading.{encode}
 use Rattle.board.specs.Memory.{withBlocks}
+use Rattle.board.specs.Leaving.{Returned, returned}
 use Rattle.finding.specs.Finding.{foundIn, isUnknown}
+
+-- ---- MAKING
+
+-- a fresh board, and both tables cleared
+abbrev pub freshIn : (ids lens : List ℕ) (L : ℕ) → Returned Board
+freshIn ids lens L = returned (encode (fresh L)) (zeroed ids) (zeroed lens)
 
 -- ---- RENAME
 

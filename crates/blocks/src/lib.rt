@@ -4,7 +4,8 @@ ghost use Prim.Native.Nat.{ℕ, _+_, _-_, _*_, _^_, _<_, _≤_};
 ghost use lib.ListN.{length, getD};
 ghost use Rattle.rules.specs.Board.{fresh};
 ghost use Rattle.board.specs.Reading.{encode};
-ghost use Rattle.blocks.specs.Blocks.{renaming, renamedIn, afterOpening, openedIn, heldWith, closing, closedIn, CloseNeeds};
+ghost use Rattle.board.specs.Leaving.{returned};
+ghost use Rattle.blocks.specs.Blocks.{freshIn, renaming, renamedIn, afterOpening, openedIn, heldWith, closing, closedIn, CloseNeeds};
 use board::Board;
 use numbers::CLASSES;
 use numbers::GREATEST_SHARE;
@@ -15,6 +16,51 @@ use numbers::PLACES;
 use numbers::WHOLE_LINE;
 use numbers::codes;
 use units::Parts;
+
+// ---- making
+
+// The board of all zeros but for L.
+pub fn blank(largest: u32) -> Board
+    ensures { λ r. ⌜ r ≡ encode (fresh largest) ⌝ }
+{
+    let words = [0u32; PLACES];
+    let longs = [0u64; PLACES];
+    let bytes = [0u8; PLACES];
+    let links = [0u8; CLASSES];
+    let held = [0u32; CLASSES];
+    let none = Parts(0);
+    Board {
+        numbers: words,
+        shares: words,
+        deficits: longs,
+        starts: bytes,
+        counts: bytes,
+        ready: longs,
+        next: bytes,
+        heads: links,
+        tails: links,
+        held: held,
+        largest: largest,
+        clock: 0,
+        active: 0,
+        pending: 0,
+        slot: NO_LINK,
+        left: none,
+    }
+}
+
+// A board is made, and both tables are cleared.
+pub fn make_in(ids: &mut [u32], lens: &mut [u16], largest: u32) -> Board
+    ensures { λ r. ⌜
+        returned r (now (ids .exit)) (now (lens .exit))
+        ≡ freshIn (now (ids .entry)) (now (lens .entry)) largest ⌝ }
+{
+    arrays::clear_words(ids);
+    arrays::clear_shorts(lens);
+    blank(largest)
+}
+
+// ---- renaming, opening, closing
 
 // A block takes another number; the answer is the code.
 pub fn rename_in(old: u32, new: u32, numbers: &mut [u32; PLACES]) -> u8
@@ -106,34 +152,4 @@ pub fn close_in(
     shares[i] = 0;
     starts[i] = 0;
     codes::DONE
-}
-
-// The board of all zeros but for L.
-pub fn blank(largest: u32) -> Board
-    ensures { λ r. ⌜ r ≡ encode (fresh largest) ⌝ }
-{
-    let words = [0u32; PLACES];
-    let longs = [0u64; PLACES];
-    let bytes = [0u8; PLACES];
-    let links = [0u8; CLASSES];
-    let held = [0u32; CLASSES];
-    let none = Parts(0);
-    Board {
-        numbers: words,
-        shares: words,
-        deficits: longs,
-        starts: bytes,
-        counts: bytes,
-        ready: longs,
-        next: bytes,
-        heads: links,
-        tails: links,
-        held: held,
-        largest: largest,
-        clock: 0,
-        active: 0,
-        pending: 0,
-        slot: NO_LINK,
-        left: none,
-    }
 }

@@ -445,11 +445,9 @@ pub fn make(ids: &mut [u32], lens: &mut [u16], largest: u32) -> Reply
             board: blocks::blank(0),
         };
     }
-    arrays::clear_words(ids);
-    arrays::clear_shorts(lens);
     Reply {
         code: codes::DONE,
-        board: blocks::blank(largest),
+        board: blocks::make_in(ids, lens, largest),
     }
 }
 

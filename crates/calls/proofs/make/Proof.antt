@@ -1,6 +1,9 @@
 use Rattle.board.proofs.Tables.{ids-wrong, lens-wrong, none-wrong}
 use Rattle.calls.specs.Promises.{made}
 use Rattle.rules.specs.Calls.{make}
+use Rattle.board.specs.declared.Board as struct
+use Rattle.board.specs.Leaving.{Returned, returned, replied}
+use mathlib.Core.Path.{ap}
 use borrow.Author.Tests.{lt-leb, le-leb}
 use borrow.Author.Needs.{needs}
 use Rattle.calls.proofs.make.Statement.{statement}
@@ -34,14 +37,8 @@ returns-4 : tie.Need-returns-4
 unfolding made make
 returns-4 c = rw (none-wrong _ _ (c .before .before .before .before .if1 .left) (c .before .before .before .if2 .left), le-leb _ _ (c .before .before .if3 .left), lt-leb _ _ (c .before .if4 .taken), c .blank4 .ensures)
 
-clear-words-requires : tie.Need-clear-words-requires
-clear-words-requires c κs = search needs
-
-clear-shorts-requires : tie.Need-clear-shorts-requires
-clear-shorts-requires c κs = search needs
-
-blank-requires-5 : tie.Need-blank-requires-5
-blank-requires-5 c κs = search needs
+make-in-requires : tie.Need-make-in-requires
+make-in-requires c κs = search needs
 
 same-length : tie.Need-same-length
 same-length c = search needs
@@ -51,7 +48,7 @@ same-length-2 c = search needs
 
 returns-5 : tie.Need-returns-5
 unfolding made make
-returns-5 c = rw (none-wrong _ _ (c .before .before .before .before .before .before .before .before .before .before .before .before .if1 .left) (c .before .before .before .before .before .before .before .before .before .before .before .if2 .left), le-leb _ _ (c .before .before .before .before .before .before .before .before .before .before .if3 .left), le-leb _ _ (c .before .before .before .before .before .before .before .before .before .if4 .left), c .blank5 .ensures, c .before .before .before .before .before .before .before .clear-words .ensures, c .before .before .before .clear-shorts .ensures)
+returns-5 c = rw (none-wrong _ _ (<if1> .left) (<if2> .left), le-leb _ _ (<if3> .left), le-leb _ _ (<if4> .left)) (ap (λ (w : Returned struct.Board). returned (replied 0 (w .reply)) (w .ids) (w .lens)) (<make-in> .ensures))
 
 pub make-spec : {M : Type 1} → statement M
 make-spec =
@@ -65,9 +62,7 @@ make-spec =
     returns-3
     blank-requires-4
     returns-4
-    clear-words-requires
-    clear-shorts-requires
-    blank-requires-5
+    make-in-requires
     same-length
     same-length-2
     returns-5)
