@@ -48,7 +48,7 @@ same-length-2 c = search needs
 
 returns-5 : tie.Need-returns-5
 unfolding made make
-returns-5 c = rw (none-wrong _ _ (<if1> .left) (<if2> .left), le-leb _ _ (<if3> .left), le-leb _ _ (<if4> .left)) (ap (λ (w : Returned struct.Board). returned (replied 0 (w .reply)) (w .ids) (w .lens)) (<make-in> .ensures))
+returns-5 c = rw (none-wrong _ _ (c .before .before .before .before .before .before .before .before .before .before .if1 .left) (c .before .before .before .before .before .before .before .before .before .if2 .left), le-leb _ _ (c .before .before .before .before .before .before .before .before .if3 .left), le-leb _ _ (c .before .before .before .before .before .before .before .if4 .left)) (ap (λ (w : Returned struct.Board). returned (replied 0 (w .reply)) (w .ids) (w .lens)) (c .before .before .before .before .make-in .ensures))
 
 pub make-spec : {M : Type 1} → statement M
 make-spec =
