@@ -1,7 +1,7 @@
 -- Laws of rings, for any depth.
-use mathlib.Core.Path.{_≡_, ap, sym, _∙_}
+use mathlib.Core.Path.{_≡_, ap, _∙_}
 use mathlib.Core.Logic.{_⊎_, inl, inr}
-use Prim.Native.Nat.{ℕ, suc, _+_, _*_, _%_, _/_, _≤_, _<_}
+use Prim.Native.Nat.{ℕ, suc, _+_, _%_, _/_, _≤_, _<_}
 use native.Mathlib.Nat.{mod-lt, mod-add-mod, div-add-mod, mul-le-mul-left}
 use native.Mathlib.Omega.{arith}
 use Rattle.base.proofs.Numbers.{split}

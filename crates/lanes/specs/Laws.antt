@@ -2,7 +2,7 @@
 use mathlib.Core.Path.{_≡_}
 use mathlib.Core.Logic.{_≢_}
 use Prim.Native.Nat.{ℕ, suc, _+_, _≤_, _<_}
-use Rattle.lanes.specs.Lanes.{ringEntry, ringOn, laneDepth, laneFirst, laneEntry}
+use Rattle.lanes.specs.Lanes.{ringEntry, ringOn, laneDepth, laneEntry}
 
 -- ---- Rings
 

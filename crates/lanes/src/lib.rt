@@ -1,6 +1,6 @@
 // Lanes: the run of entries that each place has in the two tables, used as a ring. No other crate knows how deep a lane is.
 ghost use mathlib.Core.Path.{_≡_};
-ghost use Prim.Native.Nat.{ℕ, _%_, _<_, _≤_};
+ghost use Prim.Native.Nat.{_%_, _<_, _≤_};
 ghost use Rattle.lanes.specs.Lanes.{ringEntry, ringOn, laneDepth, laneFirst, laneEntry, laneOn};
 
 // Lane depth: the most records that wait in one lane.
