@@ -12,7 +12,8 @@ use borrow.Author.Tests.{eq-eqb}
 use Rattle.base.proofs.Tests.{least-le}
 use Rattle.base.proofs.Numbers.{split, leb-yes, leb-no, false-lt, eqb-true}
 use Rattle.rules.specs.Board
-use Rattle.rules.specs.Board.{Record, Place, freePlace, at, waits, entry, firstEntry, out, spent}
+use Rattle.lanes.specs.Lanes.{laneDepth, laneEntry}
+use Rattle.rules.specs.Board.{Record, Place, freePlace, at, waits, entry, out, spent}
 use Rattle.rules.specs.Choice.{Turn, refuse, whereIs, numberOutside, noneHas, someHas, lengthOutside, laneFull, tookAt, takeRecord, goOn}
 use Rattle.rules.specs.Blocks.{opened, freeAt, shareOutside, allTaken, overFree, openBlock, renameBlock, closed, closeBlock}
 use Rattle.rules.specs.Calls.{Single, open!, rename!, close!, record!, step, one, told, writes, done! }
@@ -25,7 +26,7 @@ use Rattle.board.specs.Reading.{encode}
 use Rattle.board.proofs.Reading.{Fit}
 use Rattle.calls.specs.declared.Reply.{Reply}
 use Rattle.calls.specs.Promises.{Returned, returned, replied, written}
-use Rattle.engine.specs.Steps.{foundIn, takenAt, takingOf, withTaking, blocksOf, Recording, recording, entryAt, recordedIn}
+use Rattle.engine.specs.Steps.{foundIn, takenAt, takingOf, withTaking, blocksOf, Recording, recording, recordedIn}
 use Rattle.engine.specs.Opening.{Renaming, renaming, isUnknown, renamedIn, withRenaming, totalOf, Opening, opening, openedIn, withOpening, heldWith, Closing, closing, closedIn, withClosing}
 use Rattle.engine.proofs.Finding.{not-zeroth, where-is, free-is, none-is}
 use Rattle.engine.proofs.Sums.{total-map, total-tab}
@@ -116,14 +117,18 @@ module _ (m : Board.Board) (f : Fit m) (ids lens : List ℕ) (n id len : ℕ) wh
   abbrev recorded : Recording → Returned Reply
   recorded x = returned (replied (x .code) (withTaking (encode m) (x .taking))) (x .ids) (x .lens)
 
+  -- the entry behind the last record of place i
+  abbrev behind : ℕ → ℕ
+  behind i = laneEntry i (getD (encode m .starts) i 0) (getD (encode m .counts) i 0)
+
   abbrev took : ℕ → Recording
-  took i = recording 0 (takenAt (encode m .shares) (encode m .clock) i (takingOf (encode m))) (set ids (entryAt (encode m .starts) (encode m .counts) i) id) (set lens (entryAt (encode m .starts) (encode m .counts) i) len)
+  took i = recording 0 (takenAt (encode m .shares) (encode m .clock) i (takingOf (encode m))) (set ids (behind i) id) (set lens (behind i) len)
 
   abbrev by-record : Turn → Returned Reply
   by-record = turned (encode m) ids lens m (record! n r)
 
-  entry-is : (i : ℕ) → entryAt (encode m .starts) (encode m .counts) i ≡ entry i (at m i) (length (at m i .lane))
-  unfolding entryAt entry firstEntry
+  entry-is : (i : ℕ) → behind i ≡ entry i (at m i) (length (at m i .lane))
+  unfolding entry
   entry-is i = rw (start-is m i, count-is m i)
 
   took-is : whereIs m n < 64 → recorded (took (whereIs m n)) ≡ by-record (tookAt m (whereIs m n) r)
@@ -137,7 +142,7 @@ module _ (m : Board.Board) (f : Fit m) (ids lens : List ℕ) (n id len : ℕ) wh
   record-is =
       agrees recorded by-record m _ (numberOutside n || lengthOutside m len) 4 _ _ _ refl refl λ e4.
       agrees recorded by-record m _ (noneHas m n) 6 _ _ _ (ap (λ (i : ℕ). eqb i 64) (found e4) ∙ none-is (whereIs m n) (where-le m f n)) refl λ e6.
-      agrees recorded by-record m _ (laneFull (at m (whereIs m n))) 9 _ _ _ (ap (leb 32) (count-at m (whereIs m n) _ (found e4))) refl λ e9.
+      agrees recorded by-record m _ (laneFull (at m (whereIs m n))) 9 _ _ _ (ap (leb laneDepth) (count-at m (whereIs m n) _ (found e4))) refl λ e9.
       ap (λ (i : ℕ). recorded (took i)) (found e4) ∙ took-is (false-lt 64 (whereIs m n) e6)
     where
       found : numberOutside n || lengthOutside m len ≡ false → foundIn (encode m .numbers) n ≡ whereIs m n

@@ -21,7 +21,7 @@ use Rattle.calls.specs.Promises.{Returned, returned, replied, written, K
 use Rattle.engine.specs.Steps.{takingOf, withTaking, blocksOf, RecordNeeds, Recording, recordedIn}
 use Rattle.engine.specs.Opening.{Renaming, renamedIn, withRenaming, Opening, openedIn, withOpening, Closing, closedIn, withClosing, CloseNeeds}
 use Rattle.calls.proofs.Answers.{record-is, renamed-is, opened-is, closed-is}
-use Rattle.engine.proofs.Fields.{number-is, share-is, start-is}
+use Rattle.engine.proofs.Fields.{number-is, share-is}
 
 -- ---- what the engine asks, of what is written for a board
 module _ (m : Board.Board) (f : Fit m) where
@@ -34,9 +34,6 @@ module _ (m : Board.Board) (f : Fit m) where
 
   within : (i : ℕ) → getD (encode m .shares) i 0 ≤ 65536
   within i = rw (share-is m i) (f .tidy .shape .placeOk i .most)
-
-  rings : (i : ℕ) → getD (encode m .starts) i 0 < 32
-  rings i = rw (start-is m i) (f .tidy .shape .placeOk i .ring)
 
   linked : (k : ℕ) → k < 17 → getD (encode m .tails) k 0 ≤ 64
   unfolding encode
@@ -59,7 +56,7 @@ module _ (m : Board.Board) (f : Fit m) where
 
   written-record-needs : (ids lens : List ℕ) → length ids ≡ 2048 → length lens ≡ 2048 → RecordNeeds (blocksOf (encode m)) (encode m .tails) (encode m .clock) ids lens
   unfolding encode
-  written-record-needs ids lens a d = record { low = bought; high = within; ring = rings; time = omega (arith, f .tidy .time); last = linked; ids-all = a; lens-all = d }
+  written-record-needs ids lens a d = record { low = bought; high = within; time = omega (arith, f .tidy .time); last = linked; ids-all = a; lens-all = d }
 
   written-close-needs : CloseNeeds (encode m .numbers) (encode m .shares) (encode m .held)
   written-close-needs = record { low = bought; high = within; most = held-most }

@@ -11,6 +11,8 @@ use borrow.Author.Tests.{eq-eqb, ne-eqb, lt-ltb, le-ltb}
 use Rattle.base.proofs.Numbers.{split}
 use Rattle.units.specs.Credit.{charged, largestCharge}
 use Rattle.units.proofs.Credits.{charge-small}
+use Rattle.lanes.specs.Lanes.{laneEntry}
+use Rattle.lanes.proofs.Lanes.{lane-inside}
 use Rattle.rules.specs.Board
 use Rattle.rules.specs.Board.{Record, at, charge}
 use Rattle.rules.specs.Choice.{Out, refused, sent, serve}
@@ -22,7 +24,7 @@ use Rattle.board.specs.Reading.{encode, Holds}
 use Rattle.board.proofs.Reading.{Fit}
 use Rattle.engine.specs.declared.Choice.{Choice}
 use Rattle.engine.specs.declared.Choice.the-variants.{Go}
-use Rattle.engine.specs.Serving.{Engine, engineOf, withEngine, choiceOf, frontEntry, enacted, Within, engineAfter, withinOf, servedBy, servedWithin}
+use Rattle.engine.specs.Serving.{Engine, engineOf, withEngine, choiceOf, enacted, Within, engineAfter, withinOf, servedBy, servedWithin}
 use Rattle.engine.proofs.Fields.{start-is}
 use Rattle.engine.proofs.Serves.{Serves, ByAnswer, serve-by}
 
@@ -90,7 +92,7 @@ module _ (m : Board.Board) (fit : Fit m) (ids lens : List ℕ) (holds : Holds m 
 
   go-on : (p : ℕ) (r : Record) (t : ℕ) → serve m .out ≡ sent p r t → Serves m ids lens p r t (serve m .next)
       → Stops m bytes room (made (Go p t)) ⊎ Goes m ids lens bytes room (made (Go p t))
-  unfolding charge frontEntry
+  unfolding charge
   go-on p r t e w = rw (start-is m p, w .bytes) (by-room (split 1 room))
     where
       c : ℕ
@@ -100,7 +102,7 @@ module _ (m : Board.Board) (fit : Fit m) (ids lens : List ℕ) (holds : Holds m 
       small = small-charge (r .bytes) (m .largest) (w .short) (fit .tidy .shape .most)
 
       entry : ℕ
-      entry = frontEntry p (at m p .start)
+      entry = laneEntry p (at m p .start) 0
 
       E : Engine
       E = enacted (encode m .shares) lens (encode m .largest) p t (engineOf (encode m))
@@ -126,8 +128,8 @@ module _ (m : Board.Board) (fit : Fit m) (ids lens : List ℕ) (holds : Holds m 
         burst-is = burst-goes m bytes p r t e room (λ z. omega arith) h;
       }))
         where
-          entry-small : frontEntry p (at m p .start) < 2048
-          entry-small = omega (arith, w .inside, w .ring)
+          entry-small : laneEntry p (at m p .start) 0 < 2048
+          entry-small = lane-inside p (at m p .start) 0 (w .inside)
 
       by-room : (1 ≤ room) ⊎ (room < 1) → Stops m bytes room (result (eqb room 0) (ltb bytes c)) ⊎ Goes m ids lens bytes room (result (eqb room 0) (ltb bytes c))
       by-room (inl h) = rw (ne-eqb room 0 (λ z. omega arith)) (by-bytes h (turn (split c bytes)))

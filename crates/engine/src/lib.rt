@@ -10,13 +10,11 @@ ghost use Rattle.board.specs.Reading.{encode};
 ghost use Rattle.engine.specs.Steps.{foundIn, ordersNow, joinedOrders, taking, takenAt, TakeNeeds, blocks, RecordNeeds, recording, recordedIn};
 ghost use Rattle.engine.specs.Opening.{renaming, renamedIn, totalOf, opening, openedIn, heldWith, closing, closedIn, CloseNeeds};
 ghost use Rattle.units.specs.Classes.{classOf};
-ghost use Rattle.engine.specs.Serving.{queuesNow, engineNow, numbersNow, turnedNow, turned, chosenClass, slotClock, choice, CanChoose, linksNow, leftLinks, stillPending, stillActive, beginningNow, beganAt, CanBegin, openedSlot, emptyEndNow, endedEmpty, waitingEndNow, endedWaiting, frontEntry, startAfter, sentFrom, CanSend, enacted, CanEnact, stayed, withinNow, servedWithin, CanServe};
+ghost use Rattle.engine.specs.Serving.{queuesNow, engineNow, numbersNow, turnedNow, turned, chosenClass, slotClock, choice, CanChoose, linksNow, leftLinks, stillPending, stillActive, beginningNow, beganAt, CanBegin, openedSlot, emptyEndNow, endedEmpty, waitingEndNow, endedWaiting, sentFrom, CanSend, enacted, CanEnact, stayed, withinNow, servedWithin, CanServe};
 use board::Board;
 use numbers::CLASSES;
 use numbers::CLOCK_END;
 use numbers::GREATEST_SHARE;
-use numbers::LANE_DEPTH;
-use numbers::LANE_ENTRIES;
 use numbers::NO_BLOCK;
 use numbers::NO_LINK;
 use numbers::NO_PLACE;
@@ -89,7 +87,7 @@ fn take_in(
     clock: u64,
     active: u32,
     shares: &[u32; PLACES],
-    counts: &mut [u8; PLACES],
+    counts: &mut [u16; PLACES],
     next: &mut [u8; PLACES],
     heads: &mut [u8; CLASSES],
     tails: &mut [u8; CLASSES],
@@ -124,8 +122,8 @@ pub fn record_in(
     active: u32,
     numbers: &[u32; PLACES],
     shares: &[u32; PLACES],
-    starts: &[u8; PLACES],
-    counts: &mut [u8; PLACES],
+    starts: &[u16; PLACES],
+    counts: &mut [u16; PLACES],
     next: &mut [u8; PLACES],
     heads: &mut [u8; CLASSES],
     tails: &mut [u8; CLASSES],
@@ -150,14 +148,13 @@ pub fn record_in(
         };
     }
     let count = counts[i];
-    if LANE_DEPTH <= count {
+    if lanes::depth() <= count {
         return Took {
             code: codes::LANE_FULL,
             active: active,
         };
     }
-    let first = starts[i] as usize;
-    let at = LANE_ENTRIES * i + (first + count as usize) % LANE_ENTRIES;
+    let at = lanes::entry(i, starts[i], count);
     ids[at] = id;
     lens[at] = length;
     let set = take_in(i, clock, active, shares, counts, next, heads, tails, ready);
@@ -249,10 +246,10 @@ fn hold_in(active: u32, share: u32, held: &mut [u32; CLASSES])
 pub fn close_in(
     block: u32,
     active: u32,
-    counts: &[u8; PLACES],
+    counts: &[u16; PLACES],
     numbers: &mut [u32; PLACES],
     shares: &mut [u32; PLACES],
-    starts: &mut [u8; PLACES],
+    starts: &mut [u16; PLACES],
     held: &mut [u32; CLASSES],
 ) -> u8
     requires { ⌜ CloseNeeds (now numbers) (now shares) (now held) ⌝ }
@@ -283,7 +280,8 @@ pub fn blank(largest: u32) -> Board
 {
     let words = [0u32; PLACES];
     let longs = [0u64; PLACES];
-    let bytes = [0u8; PLACES];
+    let rings = [0u16; PLACES];
+    let next = [0u8; PLACES];
     let links = [0u8; CLASSES];
     let held = [0u32; CLASSES];
     let none = Parts(0);
@@ -291,10 +289,10 @@ pub fn blank(largest: u32) -> Board
         numbers: words,
         shares: words,
         deficits: longs,
-        starts: bytes,
-        counts: bytes,
+        starts: rings,
+        counts: rings,
         ready: longs,
-        next: bytes,
+        next: next,
         heads: links,
         tails: links,
         held: held,
@@ -576,22 +574,6 @@ fn end_waiting(
     }
 }
 
-// The table entry of the record at the front of a ring that starts there.
-fn front_entry(place: usize, start: u8) -> usize
-    requires { ⌜ (place < 64) × (start < 32) ⌝ }
-    ensures { λ r. ⌜ r ≡ frontEntry place start ⌝ }
-{
-    LANE_ENTRIES * place + start as usize
-}
-
-// The start of the ring after a send.
-fn start_after(start: u8) -> u8
-    requires { ⌜ start < 32 ⌝ }
-    ensures { λ r. ⌜ r ≡ startAfter start ⌝ }
-{
-    (start + 1) % LANE_DEPTH
-}
-
 // The front record of the open slot's block is sent.
 fn send(
     place: usize,
@@ -600,8 +582,8 @@ fn send(
     pending: u32,
     left: Parts,
     shares: &[u32; PLACES],
-    starts: &mut [u8; PLACES],
-    counts: &mut [u8; PLACES],
+    starts: &mut [u16; PLACES],
+    counts: &mut [u16; PLACES],
     deficits: &mut [u64; PLACES],
     ready: &mut [u64; PLACES],
     next: &mut [u8; PLACES],
@@ -614,9 +596,9 @@ fn send(
     ensures { λ r. ⌜ engineNow (now (starts .exit)) (now (counts .exit)) (now (deficits .exit)) (now (ready .exit)) (now (next .exit)) (now (heads .exit)) (now (tails .exit)) (now (held .exit)) r ≡ sentFrom (now (shares .entry)) (now (lens .entry)) place (engineNow (now (starts .entry)) (now (counts .entry)) (now (deficits .entry)) (now (ready .entry)) (now (next .entry)) (now (heads .entry)) (now (tails .entry)) (now (held .entry)) (numbersNow clock active pending (place + 1) (left .0))) ⌝ }
 {
     let ring = starts[place];
-    let entry = front_entry(place, ring);
+    let entry = lanes::entry(place, ring, 0);
     let charge = units::charge(Bytes(lens[entry] as u64));
-    let on = start_after(ring);
+    let on = lanes::onward(ring);
     let count = counts[place] - 1;
     starts[place] = on;
     counts[place] = count;
@@ -625,7 +607,7 @@ fn send(
     if count == 0 {
         return end_empty(k, clock, active, pending, heads, held);
     }
-    let following = front_entry(place, on);
+    let following = lanes::entry(place, on, 0);
     let need = units::charge(Bytes(lens[following] as u64));
     if need.0 <= rest.0 {
         return After {
@@ -707,8 +689,8 @@ fn enact(
     left: Parts,
     largest: u32,
     shares: &[u32; PLACES],
-    starts: &mut [u8; PLACES],
-    counts: &mut [u8; PLACES],
+    starts: &mut [u16; PLACES],
+    counts: &mut [u16; PLACES],
     deficits: &mut [u64; PLACES],
     ready: &mut [u64; PLACES],
     next: &mut [u8; PLACES],
@@ -770,8 +752,8 @@ pub fn serve_within(
     left: Parts,
     largest: u32,
     shares: &[u32; PLACES],
-    starts: &mut [u8; PLACES],
-    counts: &mut [u8; PLACES],
+    starts: &mut [u16; PLACES],
+    counts: &mut [u16; PLACES],
     deficits: &mut [u64; PLACES],
     ready: &mut [u64; PLACES],
     next: &mut [u8; PLACES],
@@ -790,7 +772,7 @@ pub fn serve_within(
             if room == 0 {
                 return stay(codes::LIST_FULL, clock, active, pending, slot, left);
             }
-            let entry = front_entry(place, starts[place]);
+            let entry = lanes::entry(place, starts[place], 0);
             let charge = units::charged(Bytes(lens[entry] as u64));
             if bytes.0 < charge.0 {
                 return stay(codes::OVER_BUDGET, clock, active, pending, slot, left);
