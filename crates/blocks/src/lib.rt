@@ -25,7 +25,8 @@ pub fn blank(largest: u32) -> Board
 {
     let words = [0u32; PLACES];
     let longs = [0u64; PLACES];
-    let bytes = [0u8; PLACES];
+    let rings = [0u16; PLACES];
+    let next = [0u8; PLACES];
     let links = [0u8; CLASSES];
     let held = [0u32; CLASSES];
     let none = Parts(0);
@@ -33,10 +34,10 @@ pub fn blank(largest: u32) -> Board
         numbers: words,
         shares: words,
         deficits: longs,
-        starts: bytes,
-        counts: bytes,
+        starts: rings,
+        counts: rings,
         ready: longs,
-        next: bytes,
+        next: next,
         heads: links,
         tails: links,
         held: held,
@@ -128,10 +129,10 @@ fn hold_in(active: u32, share: u32, held: &mut [u32; CLASSES])
 pub fn close_in(
     block: u32,
     active: u32,
-    counts: &[u8; PLACES],
+    counts: &[u16; PLACES],
     numbers: &mut [u32; PLACES],
     shares: &mut [u32; PLACES],
-    starts: &mut [u8; PLACES],
+    starts: &mut [u16; PLACES],
     held: &mut [u32; CLASSES],
 ) -> u8
     requires { ⌜ CloseNeeds (now numbers) (now shares) (now held) ⌝ }

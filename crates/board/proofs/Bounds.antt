@@ -12,7 +12,7 @@ use Rattle.rules.specs.Board.{Place, freePlace, at}
 use Rattle.board.specs.Reading.{tab, lastLink, encode}
 use Rattle.board.proofs.Lists.{getD-tab, getD-tab-out, last-in}
 use Rattle.board.proofs.Reading.{Fit, small}
-use Rattle.board.proofs.Fields.{number-is, share-is, start-is}
+use Rattle.board.proofs.Fields.{number-is, share-is}
 
 module _ (m : Board.Board) (f : Fit m) where
   pub bought : (i : ℕ) → 1 ≤ getD (encode m .numbers) i 0 → 1 ≤ getD (encode m .shares) i 0
@@ -24,9 +24,6 @@ module _ (m : Board.Board) (f : Fit m) where
 
   pub within : (i : ℕ) → getD (encode m .shares) i 0 ≤ 65536
   within i = rw (share-is m i) (f .tidy .shape .placeOk i .most)
-
-  pub rings : (i : ℕ) → getD (encode m .starts) i 0 < 32
-  rings i = rw (start-is m i) (f .tidy .shape .placeOk i .ring)
 
   pub linked : (k : ℕ) → k < 17 → getD (encode m .tails) k 0 ≤ 64
   unfolding encode

@@ -11,7 +11,7 @@ use lib.ListN.{length, set, length-set, length-append}
 use lib.Seq.{getD-set-same, getD-set-other}
 use Rattle.base.proofs.Numbers.{true-le}
 use Rattle.rules.specs.Board
-use Rattle.rules.specs.Board.{Record, Place, freePlace, at, entry}
+use Rattle.rules.specs.Board.{Record, Place, freePlace, at, depth, entry}
 use Rattle.rules.specs.Choice.{Turn, refused, goOn, joining, joins, more, takenIn}
 use Rattle.rules.specs.Blocks.{opened, freeAt, renamed, closed}
 use Rattle.rules.specs.Calls.{Single, open!, rename!, close!, record!, serve!, step, codeOf, told, kept, writes}
@@ -53,7 +53,7 @@ module _ (m : Board.Board) (ids lens : List ℕ) (f : Fit m) (holds : Holds m id
   holds-renamed : (n : ℕ) → Holds (goOn m p (renamed n (at m p))) ids lens
   holds-renamed n = holds-set (m .places) p (renamed n (at m p)) ids lens ids lens inside holds (holds p ∙ lane-by ids lens p (at m p) (renamed n (at m p)) (length (at m p .lane)) refl) (λ i ne. refl)
 
-  module _ (x : Record) (room : length (at m p .lane) < 32) (a : length ids ≡ 2048) (d : length lens ≡ 2048) where
+  module _ (x : Record) (room : length (at m p .lane) < depth (at m p)) (a : length ids ≡ 2048) (d : length lens ≡ 2048) where
     abbrev e : ℕ
     e = entry p (at m p) (length (at m p .lane))
 

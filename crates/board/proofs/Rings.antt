@@ -6,7 +6,10 @@ use Prim.Native.Nat.{ℕ, zero, suc, _-_, _<_}
 use native.Mathlib.Omega.{arith}
 use lib.ListN.{length, set}
 use lib.Seq.{getD-set-same, getD-set-other}
-use Rattle.rules.specs.Board.{Record, noRecord, Place, firstEntry, entry, onward}
+use Rattle.lanes.specs.Lanes.{laneEntry}
+use Rattle.lanes.proofs.Rings.{ring-own, ring-moved}
+use Rattle.lanes.proofs.Lanes.{lane-inside, lanes-apart}
+use Rattle.rules.specs.Board.{Record, noRecord, Place, depth, firstEntry, entry, onward}
 use Rattle.board.specs.Reading.{tab, recordAt, laneOf}
 use Rattle.board.specs.Laws.{EntryApart, EntryOwn, LaneAt, LaneDrop, LanePut}
 use Rattle.board.proofs.Lists.{length-tab, getD-tab, tab-ext}
@@ -19,28 +22,28 @@ tab-snoc (suc n) f = ap (λ r. f 0 ∷ r) (tab-snoc n (λ i. f (suc i)))
 -- ---- ENTRIES
 
 pub entry-in : (p : ℕ) (x : Place) (j : ℕ) → p < 64 → entry p x j < 2048
-unfolding entry firstEntry
-entry-in p x j h = omega arith
+unfolding entry
+entry-in p x j h = lane-inside p (x .start) j h
 
 -- an entry hangs on the ring's start alone
 pub entry-by : (p : ℕ) (x y : Place) (j : ℕ) → x .start ≡ y .start → entry p x j ≡ entry p y j
-unfolding entry firstEntry
-entry-by p x y j e = omega (arith, e)
+unfolding entry
+entry-by p x y j e = ap (λ (s : ℕ). laneEntry p s j) e
 
 -- lanes don't overlap
 pub entry-apart : EntryApart
-unfolding entry firstEntry
-entry-apart i p x y j n ne e = ne (omega arith)
+unfolding entry
+entry-apart i p x y j n ne e = lanes-apart i p (x .start) (y .start) j n ne e
 
 -- nor does a lane meet itself
 pub entry-own : EntryOwn
-unfolding entry firstEntry
-entry-own p x j n a b e = omega arith
+unfolding entry
+entry-own p x j n a b e = ring-own (firstEntry p x) (depth x) (x .start) j n a b e
 
 -- the start moved on by one
 pub entry-on : (p : ℕ) (x y : Place) (j : ℕ) → y .start ≡ onward x → entry p y j ≡ entry p x (suc j)
-unfolding entry firstEntry onward
-entry-on p x y j e = omega (arith, e)
+unfolding entry onward
+entry-on p x y j e = ap (λ (s : ℕ). laneEntry p s j) e ∙ ring-moved (firstEntry p x) (depth x) (x .start) j
 
 -- ---- LANES
 

@@ -8,7 +8,7 @@ use Prim.Native.Nat.{ℕ, suc, _-_, _<_}
 use lib.ListN.{length, getD, set, drop}
 use Rattle.bits.specs.Sets.{inSet}
 use Rattle.rules.specs.Board
-use Rattle.rules.specs.Board.{Seventeen, noRecord, Place, entry, onward, active, pending}
+use Rattle.rules.specs.Board.{Seventeen, noRecord, Place, depth, entry, onward, active, pending}
 use Rattle.rules.specs.Spoilt.{unspoilt}
 use Rattle.board.specs.declared.Board as struct
 use Rattle.board.specs.Reading.{encode, recordAt, laneOf, view, Holds, Sound}
@@ -39,12 +39,12 @@ PendingBit = (m : Board.Board) (k : ℕ) → k < 17 → inSet (encode m .pending
 
 -- ---- Rings
 
--- No entry is one of two places, and none of a lane of 32 is used twice.
+-- No entry is one of two places, and none of a lane is used twice.
 abbrev pub EntryApart : Type 0
 EntryApart = (i p : ℕ) (x y : Place) (j n : ℕ) → i ≢ p → entry i x j ≢ entry p y n
 
 abbrev pub EntryOwn : Type 0
-EntryOwn = (p : ℕ) (x : Place) (j n : ℕ) → j < n → n < 32 → entry p x j ≢ entry p x n
+EntryOwn = (p : ℕ) (x : Place) (j n : ℕ) → j < n → n < depth x → entry p x j ≢ entry p x n
 
 -- The j-th record from the front, counting from 0, is at its entry.
 abbrev pub LaneAt : Type 0
@@ -58,7 +58,7 @@ LaneDrop = (ids lens : List ℕ) (p : ℕ) (x y : Place) (c : ℕ) → y .start 
 
 -- Taking a record sets one entry in each table: it goes to the end of its lane.
 abbrev pub LanePut : Type 0
-LanePut = (ids lens : List ℕ) (p : ℕ) (x : Place) (c id len : ℕ) → p < 64 → c < 32
+LanePut = (ids lens : List ℕ) (p : ℕ) (x : Place) (c id len : ℕ) → p < 64 → c < depth x
     → length ids ≡ 2048 → length lens ≡ 2048
     → laneOf (set ids (entry p x c) id) (set lens (entry p x c) len) p x (suc c)
     ≡ laneOf ids lens p x c ++ (record { number = id; bytes = len } ∷ [])

@@ -163,8 +163,8 @@ fn close_block(ids: &[u32], lens: &[u16], block: u32, b: Board) -> Reply
 
 // The board that a step of serving leaves.
 fn rebuilt(
-    starts: [u8; PLACES],
-    counts: [u8; PLACES],
+    starts: [u16; PLACES],
+    counts: [u16; PLACES],
     deficits: [u64; PLACES],
     ready: [u64; PLACES],
     next: [u8; PLACES],

@@ -163,8 +163,8 @@ module _ (m : Board.Board) (g : Tidy m) where
       falls-check m (laneFull (at m (whereIs m n))) 9 _ _
       (at-found n (λ p. length (at m p .lane) ≡ depth (at m p)) e6 (full (whereIs m n))) λ e9. falls-done
     where
-      full : (p : ℕ) → Decides (laneFull (at m p)) (length (at m p .lane) ≡ 32)
-      full p = d-iff (d-leb 32 (length (at m p .lane))) (λ l. omega (arith, g .shape .placeOk p .brief)) (λ e. omega arith)
+      full : (p : ℕ) → Decides (laneFull (at m p)) (length (at m p .lane) ≡ depth (at m p))
+      full p = d-iff (d-leb (depth (at m p)) (length (at m p .lane))) (λ l. omega (arith, g .shape .placeOk p .brief)) (λ e. omega arith)
 
   -- ---- a serve
 

@@ -17,14 +17,8 @@ pub const NO_LINK: u8 = 0;
 // No block's number, which free places have.
 pub const NO_BLOCK: u32 = 0;
 
-// Lane depth: the most records that wait in one lane.
-pub const LANE_DEPTH: u8 = 32;
-
-// Entries of a table that one place has, used as a ring.
-pub const LANE_ENTRIES: usize = LANE_DEPTH as usize;
-
-// Entries of each of the two lent tables: 2,048.
-pub const TABLE_ENTRIES: usize = PLACES * LANE_ENTRIES;
+// Entries of each of the two lent tables.
+pub const TABLE_ENTRIES: usize = 2048;
 
 // L, the largest record, is at least so many bytes.
 pub const LEAST_LARGEST: u32 = 64;

@@ -16,6 +16,7 @@ use Rattle.base.specs.Tests.{least}
 use Rattle.base.proofs.Tests.{and-right}
 use Rattle.units.specs.Classes.{nextStart, classOf}
 use Rattle.rules.specs.Spoilt.{isQueued, isServing, readyNum, isAt}
+use Rattle.lanes.proofs.Lanes.{depth-positive}
 use Rattle.rules.specs.Board.{Record, noRecord, Stand, out, queued, serving, Place, freePlace, blockClass, Board, at, spent}
 use Rattle.rules.specs.Choice.{upd, done, leastReady, isNone, goOn, more, joins, joining, takenIn, tookAt, Taken, taken}
 use Rattle.rules.specs.Blocks.{Opening, opened, freeAt, quiet, closed, renamed}
@@ -191,7 +192,7 @@ module _ (b : Board) (sh : Shape (b .largest) (b .clock) (b .places) (b .orders)
     most = omega (arith, can .room);
     standOk = refl;
     brief = omega arith;
-    ring = omega arith;
+    ring = depth-positive;
     clear = λ _. refl;
     named = inr (can .number, can .share);
   }
@@ -226,7 +227,7 @@ module _ (b : Board) (sh : Shape (b .largest) (b .clock) (b .places) (b .orders)
           owed = k .owed;
           most = k .most;
           standOk = (omega arith, can .has .bought);
-          brief = omega arith;
+          brief = depth-positive;
           ring = k .ring;
           clear = λ f. absurd (true≢false f);
           named = isNamed;

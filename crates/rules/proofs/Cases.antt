@@ -12,7 +12,7 @@ use lib.ListN.{length, List·getD-eq-default}
 use Rattle.base.specs.Tests.{least}
 use Rattle.base.proofs.Tests.{least-true, least-false, and-left, and-right}
 use Rattle.base.proofs.Numbers.{split, leb-yes, true-le, false-lt, eqb-true, eqb-yes}
-use Rattle.rules.specs.Board.{Record, Place, freePlace, Board, at, isOpen, Has, freeShare, spent, charge, front}
+use Rattle.rules.specs.Board.{Record, Place, freePlace, Board, at, depth, isOpen, Has, freeShare, spent, charge, front}
 use Rattle.rules.specs.Choice.{done, Turn, refuse, Check, guarded, whereIs, someHas, noneHas, numberOutside, lengthOutside, recordChecks, takeRecord, tookAt, goOn}
 use Rattle.rules.specs.Choice.{leastReady, lowest, chosen, begin, beginChecks, send, serve, serveBy, leftOf}
 use Rattle.rules.specs.Blocks.{Opening, opened, freeAt, shareOutside, openChecks, openBlock, renamed, renameChecks, renameBlock, closed, closeChecks, closeBlock}
@@ -149,7 +149,7 @@ pub record CanTake (b : Board) (p n : ℕ) (r : Record) : Type 0 where
   pub has : Has b p n
   pub least : 1 ≤ r .bytes
   pub most : r .bytes ≤ b .largest
-  pub room : length (at b p .lane) < 32
+  pub room : length (at b p .lane) < depth (at b p)
 
 can-open : (b : Board) (o : Opening) → Fail (openChecks b o) → CanOpen b o
 can-open b o (e4, (e5, (e7, (e8, _)))) = record {
@@ -182,7 +182,7 @@ can-take b n r (e4, (e6, (e9, _))) = record {
   least = range .0;
   most = range .1;
   has = where-has b n (some-in b n e6);
-  room = false-lt 32 (length (at b (whereIs b n) .lane)) e9;
+  room = false-lt (depth (at b (whereIs b n))) (length (at b (whereIs b n) .lane)) e9;
 }
   where
     range : (1 ≤ r .bytes) × (r .bytes ≤ b .largest)

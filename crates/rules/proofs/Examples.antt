@@ -12,7 +12,8 @@ use Rattle.base.specs.Sums.{sum, below}
 use Rattle.base.specs.Tests.{least, allBelow}
 use Rattle.units.specs.Classes.{Start, classOf, nextStart}
 use Rattle.units.specs.Credit.{framing, charged, largestCharge, creditOf}
-use Rattle.rules.specs.Board.{Record, charge, queued, Board, at, firstEntry, entry, onward, someWait, anyDue, spent, fresh, pending, freePlace}
+use Rattle.lanes.specs.Lanes.{ringEntry, ringOn, laneDepth, laneFirst}
+use Rattle.rules.specs.Board.{Record, charge, queued, Board, at, entry, onward, someWait, anyDue, spent, fresh, pending, freePlace}
 use Rattle.rules.specs.Choice.{whereIs, upd, takenIn, takeRecord, release, leastReady, settle, ended, sendFrom, send, lowest, begin, serveBy, serve, find, openAt}
 use Rattle.rules.specs.Blocks.{opening, freeAt, openBlock, renameBlock, quiet, closed, closeBlock}
 use Rattle.rules.specs.Calls.{Single, open!, rename!, close!, record!, serve!, step, Answer, gives, takes, sends}
@@ -138,7 +139,7 @@ pub record Computed : Type 0 where
   pub lateAnswer : answer late serve! ≡ gives 11
 
 pub computed : Computed
-unfolding answers worked emptied thenOpened fraction filled tight waiting renames story allBelow numbersApart lengthsIn count allPlaces ordersListed neverFalling unspoilt Start play bytesIn slotsIn holds stillHeld Unsent NotSpent servesIn least nextStart classOf framing charged largestCharge creditOf sum below charge firstEntry entry onward someWait anyDue spent fresh whereIs upd takenIn takeRecord release leastReady settle ended sendFrom send lowest begin serveBy serve freeAt openBlock renameBlock quiet closed closeBlock step
+unfolding answers worked emptied thenOpened fraction filled tight waiting renames story allBelow numbersApart lengthsIn count allPlaces ordersListed neverFalling unspoilt Start play bytesIn slotsIn holds stillHeld Unsent NotSpent servesIn least nextStart classOf framing charged largestCharge creditOf sum below charge ringEntry ringOn laneDepth laneFirst entry onward someWait anyDue spent fresh whereIs upd takenIn takeRecord release leastReady settle ended sendFrom send lowest begin serveBy serve freeAt openBlock renameBlock quiet closed closeBlock step
 computed =
     record {
       workedLog = refl;

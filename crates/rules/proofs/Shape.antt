@@ -22,6 +22,7 @@ use Rattle.units.proofs.Classes.{class-le}
 use Rattle.units.specs.Credit.{charged, largestCharge, creditOf}
 use Rattle.units.proofs.Credits.{credit-least, credit-under}
 use Rattle.rules.specs.Spoilt.{isQueued, readyNum, inClass, count}
+use Rattle.lanes.proofs.Lanes.{depth-positive}
 use Rattle.rules.specs.Board.{Record, noRecord, charge, Stand, out, queued, serving, Place, freePlace, depth, blockClass, anyDue}
 use Rattle.rules.specs.Choice.{upd, readyOf, lesser, leastReady, isNone, release, settle, started}
 use Rattle.rules.proofs.Line.{Kept}
@@ -434,4 +435,4 @@ shape-other {L} {c} {l} {o} {H} p x H′ h was is dis new room f =
 
 pub free-ok : (L : ℕ) → 64 ≤ L → PlaceOk L freePlace
 unfolding StandOk All
-free-ok L h = record { items = tt; owed = omega (arith, most-pos L h); most = omega arith; standOk = refl; brief = omega arith; ring = omega arith; clear = λ _. refl; named = inl refl }
+free-ok L h = record { items = tt; owed = omega (arith, most-pos L h); most = omega arith; standOk = refl; brief = omega arith; ring = depth-positive; clear = λ _. refl; named = inl refl }

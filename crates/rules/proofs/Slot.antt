@@ -13,6 +13,8 @@ use Rattle.base.proofs.Numbers.{split, eqb-yes, eqb-no}
 use Rattle.base.specs.Tests.{least}
 use Rattle.units.specs.Credit.{largestCharge}
 use Rattle.rules.specs.Spoilt.{isQueued, isServing, readyNum}
+use Rattle.lanes.proofs.Rings.{ring-on-inside}
+use Rattle.lanes.proofs.Lanes.{depth-positive}
 use Rattle.rules.specs.Board.{Record, noRecord, charge, Stand, out, queued, serving, Place, freePlace, front, onward, depth}
 use Rattle.rules.specs.Choice.{leftOf, emptied, short, going, more}
 use Rattle.rules.proofs.Orders.{pl}
@@ -20,7 +22,7 @@ use Rattle.rules.proofs.Shape.{All, all-rest, all-front, StandOk, Fit, 
 
 pub ring-on : (x : Place) → onward x < depth x
 unfolding onward
-ring-on x = omega arith
+ring-on x = ring-on-inside (depth x) (x .start) depth-positive
 
 pub serving-ok : (L share : ℕ) (lane : List Record) (s : Stand) → isServing s ≡ true → StandOk L share lane s
     → (1 ≤ length lane) × (1 ≤ share) × (charge (getD lane 0 noRecord) * 65536 ≤ leftOf s) × (leftOf s < 3 * largestCharge L * 65536)

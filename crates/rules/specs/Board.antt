@@ -3,12 +3,13 @@ use mathlib.Core.Path.{_≡_}
 use mathlib.Core.Bool.{Bool, false, _&&_, _||_}
 use mathlib.Core.Option.{Option, none}
 use mathlib.Core.List.{List, [], _∷_}
-use Prim.Native.Nat.{ℕ, _+_, _*_, _-_, _%_, _≤_, _<_}
+use Prim.Native.Nat.{ℕ, _+_, _-_, _≤_, _<_}
 use lib.Dec.{leb, ltb, eqb}
 use lib.ListN.{length, getD, replicate}
 use Rattle.base.specs.Sums.{sum, below}
 use Rattle.units.specs.Classes.{classOf}
 use Rattle.units.specs.Credit.{charged}
+use Rattle.lanes.specs.Lanes.{ringEntry, ringOn, laneDepth, laneFirst}
 
 -- ---- Numbers
 
@@ -68,18 +69,18 @@ pub record Seventeen (b : Board) : Type 0 where
 
 -- Lane depth: 32 records. Place p has entries 32p to 32p+31, used as a ring.
 abbrev pub depth : Place → ℕ
-depth x = 32
+depth x = laneDepth
 
-unfoldable pub firstEntry : ℕ → Place → ℕ
-firstEntry p x = 32 * p
+abbrev pub firstEntry : ℕ → Place → ℕ
+firstEntry p x = laneFirst p
 
 -- The j-th record from the front, counting from 0, is at 32p + (start + j) mod 32.
 unfoldable pub entry : ℕ → Place → ℕ → ℕ
-entry p x j = firstEntry p x + (x .start + j) % depth x
+entry p x j = ringEntry (firstEntry p x) (depth x) (x .start) j
 
 -- A send moves the start on by one, mod 32.
 unfoldable pub onward : Place → ℕ
-onward x = (x .start + 1) % depth x
+onward x = ringOn (depth x) (x .start)
 
 -- the record at the front of a lane
 abbrev pub front : Place → Record

@@ -7,20 +7,21 @@ use lib.ListN.{length, getD, set}
 use borrow.Author.Tests.{eq-eqb, ne-eqb, le-leb, lt-leb, lt-ltb, le-ltb}
 use Rattle.units.specs.Classes.{classOf}
 use Rattle.units.specs.Credit.{charged, chargeOf}
+use Rattle.lanes.specs.Lanes.{laneEntry, laneOn}
 use Rattle.serving.specs.declared.Step.{Step}
 use Rattle.slots.specs.declared.Choice.the-variants.{Stop, Go}
 use Rattle.board.specs.Memory.{Engine, engineNow, numbersNow}
 use Rattle.slots.specs.Slots.{EmptyEnd, endedEmpty, WaitingEnd, endedWaiting, opened, choiceOf}
-use Rattle.serving.specs.Serving.{frontEntry, startAfter, sentFrom, enacted, CanEnact, stayed, withinNow, servedWithin}
+use Rattle.serving.specs.Serving.{sentFrom, enacted, CanEnact, stayed, withinNow, servedWithin}
 
 -- ---- A send: entry, charge and start are what the code computed
-module _ (shares lens : List ℕ) (p : ℕ) (e : Engine) (entry charge on k : ℕ) (entry-is : entry ≡ frontEntry p (getD (e .starts) p 0)) (charge-is : charge ≡ chargeOf (getD lens entry 0)) (on-is : on ≡ startAfter (getD (e .starts) p 0)) (k-is : k ≡ classOf (getD shares p 0)) where
+module _ (shares lens : List ℕ) (p : ℕ) (e : Engine) (entry charge on k : ℕ) (entry-is : entry ≡ laneEntry p (getD (e .starts) p 0) 0) (charge-is : charge ≡ chargeOf (getD lens entry 0)) (on-is : on ≡ laneOn (getD (e .starts) p 0)) (k-is : k ≡ classOf (getD shares p 0)) where
   pub sent-last : getD (e .counts) p 0 - 1 ≡ 0 → (x : EmptyEnd) → x ≡ endedEmpty k (e .now .clock) (e .now .active) (e .now .pending) (e .queues .heads) (e .queues .held)
       → engineNow (set (e .starts) p on) (set (e .counts) p (getD (e .counts) p 0 - 1)) (e .queues .deficits) (e .queues .ready) (e .queues .next) (e .queues .heads) (e .queues .tails) (x .held) (x .now) ≡ sentFrom shares lens p e
   unfolding sentFrom
   sent-last z x x-is = rw (eq-eqb (getD (e .counts) p 0 - 1) 0 z, ← on-is, ← k-is, ← x-is)
 
-  module _ (following need : ℕ) (more : getD (e .counts) p 0 - 1 ≢ 0) (following-is : following ≡ frontEntry p on) (need-is : need ≡ chargeOf (getD lens following 0)) where
+  module _ (following need : ℕ) (more : getD (e .counts) p 0 - 1 ≢ 0) (following-is : following ≡ laneEntry p on 0) (need-is : need ≡ chargeOf (getD lens following 0)) where
     pub sent-on : need ≤ e .now .left .0 - charge
         → engineNow (set (e .starts) p on) (set (e .counts) p (getD (e .counts) p 0 - 1)) (e .queues .deficits) (e .queues .ready) (e .queues .next) (e .queues .heads) (e .queues .tails) (e .queues .held) (numbersNow (e .now .clock) (e .now .active) (e .now .pending) (p + 1) (e .now .left .0 - charge)) ≡ sentFrom shares lens p e
     unfolding sentFrom
@@ -45,7 +46,7 @@ module _ (shares lens : List ℕ) (L bytes room : ℕ) (e : Engine) where
     unfolding servedWithin
     within-full s z s-is = rw (c, eq-eqb room 0 z, s-is)
 
-    module _ (entry charge : ℕ) (some : room ≢ 0) (entry-is : entry ≡ frontEntry p (getD (e .starts) p 0)) (charge-is : charge ≡ charged (getD lens entry 0)) where
+    module _ (entry charge : ℕ) (some : room ≢ 0) (entry-is : entry ≡ laneEntry p (getD (e .starts) p 0) 0) (charge-is : charge ≡ charged (getD lens entry 0)) where
       pub within-long : (s : Step) → bytes < charge → s ≡ stayed 13 (e .now) → atRest s
       unfolding servedWithin
       within-long s h s-is = rw (c, ne-eqb room 0 some, ← entry-is, ← charge-is, lt-ltb bytes charge h, s-is)
@@ -56,7 +57,6 @@ module _ (shares lens : List ℕ) (L bytes room : ℕ) (e : Engine) where
       unfolding servedWithin
       within-done h n n-is = rw (c, ne-eqb room 0 some, ← entry-is, ← charge-is, le-ltb bytes charge h, ← n-is)
 
--- the ring of a place that can send
-pub can-ring : (shares lens : List ℕ) (L p t : ℕ) (e : Engine) → CanEnact shares lens L p t e → (p < 64) × (getD (e .starts) p 0 < 32) × (length lens ≡ 2048)
-unfolding opened
-can-ring shares lens L p t e c = (c .sends .inside, c .sends .ring, c .sends .table)
+-- where a slot can serve, its place's lane is in the table
+pub can-read : (shares lens : List ℕ) (L p t : ℕ) (e : Engine) → CanEnact shares lens L p t e → (p < 64) × (length lens ≡ 2048)
+can-read shares lens L p t e c = (c .sends .inside, c .sends .table)

@@ -19,8 +19,10 @@ use Rattle.units.specs.Classes.{classOf}
 use Rattle.units.specs.Credit.{chargeOf, largestCharge}
 use Rattle.units.proofs.Classes.{class-le}
 use Rattle.units.proofs.Credits.{charge-small}
+use Rattle.lanes.specs.Lanes.{laneDepth, laneFirst, laneEntry, laneOn}
+use Rattle.lanes.proofs.Rings.{ring-moved}
 use Rattle.rules.specs.Board
-use Rattle.rules.specs.Board.{Record, noRecord, Place, freePlace, blockClass, at, entry, firstEntry, charge, front, onward}
+use Rattle.rules.specs.Board.{Record, noRecord, Place, freePlace, blockClass, at, entry, charge, front, onward}
 use Rattle.rules.specs.Choice.{isNone, Out, refused, done, taken, Sending, sending, sent, Turn, leftOf, leftAfter, leastReady, upd, started, emptied, short, going, ended, goOn, sendFrom, send, begin, lowest, chosen, serve}
 use Rattle.rules.specs.Spoilt.{count, inClass}
 use Rattle.rules.proofs.Orders.{pl, upd-other, in-head, count-head}
@@ -38,7 +40,7 @@ use Rattle.board.proofs.Moves.{after-first}
 use Rattle.slots.specs.declared.Choice.the-variants.{Stop, Go}
 use Rattle.board.specs.Memory.{Engine, engineOf, withEngine}
 use Rattle.slots.specs.Slots.{choice, choiceOf, chosenClass, slotClock, CanChoose, CanBegin, openedSlot, opened}
-use Rattle.serving.specs.Serving.{frontEntry, startAfter, sentFrom, CanSend, enacted, CanEnact, CanServe}
+use Rattle.serving.specs.Serving.{sentFrom, CanSend, enacted, CanEnact, CanServe}
 use Rattle.board.proofs.Fields.{number-is, share-is, start-is, count-is, deficit-is}
 use Rattle.slots.proofs.Sets as sets
 use Rattle.slots.proofs.Choosing.{choice-is}
@@ -47,19 +49,19 @@ use Rattle.serving.proofs.Sending.{emptyEngine, goingEngine, waitingEng
 
 -- ---- The front of a lane and the record behind it
 
-front-entry : (p : ℕ) (x : Place) → x .start < 32 → frontEntry p (x .start) ≡ entry p x 0
-unfolding frontEntry entry firstEntry
-front-entry p x h = omega arith
+front-entry : (p : ℕ) (x : Place) → laneEntry p (x .start) 0 ≡ entry p x 0
+unfolding entry
+front-entry p x = refl
 
-next-entry : (p : ℕ) (x : Place) → frontEntry p (startAfter (x .start)) ≡ entry p x 1
-unfolding frontEntry startAfter entry firstEntry
-next-entry p x = refl
+next-entry : (p : ℕ) (x : Place) → laneEntry p (laneOn (x .start)) 0 ≡ entry p x 1
+unfolding entry
+next-entry p x = ring-moved (laneFirst p) laneDepth (x .start) 0
 
 module _ (m : Board.Board) (fit : Fit m) (ids lens : List ℕ) (holds : Holds m ids lens) (p : ℕ) where
-  pub front-is : 1 ≤ length (at m p .lane) → recordAt ids lens (frontEntry p (at m p .start)) ≡ front (at m p)
-  front-is h = ap (recordAt ids lens) (front-entry p (at m p) (fit .tidy .shape .placeOk p .ring)) ∙ sym (ap (λ (xs : List Record). getD xs 0 noRecord) (holds p) ∙ lane-at ids lens p (at m p) (length (at m p .lane)) 0 h)
+  pub front-is : 1 ≤ length (at m p .lane) → recordAt ids lens (laneEntry p (at m p .start) 0) ≡ front (at m p)
+  front-is h = ap (recordAt ids lens) (front-entry p (at m p)) ∙ sym (ap (λ (xs : List Record). getD xs 0 noRecord) (holds p) ∙ lane-at ids lens p (at m p) (length (at m p .lane)) 0 h)
 
-  second-is : 1 < length (at m p .lane) → recordAt ids lens (frontEntry p (startAfter (at m p .start))) ≡ getD (drop 1 (at m p .lane)) 0 noRecord
+  second-is : 1 < length (at m p .lane) → recordAt ids lens (laneEntry p (laneOn (at m p .start)) 0) ≡ getD (drop 1 (at m p .lane)) 0 noRecord
   second-is two = ap (recordAt ids lens) (next-entry p (at m p)) ∙ sym (getD-drop 1 (at m p .lane) 0 noRecord ∙ ap (λ (xs : List Record). getD xs 1 noRecord) (holds p) ∙ lane-at ids lens p (at m p) (length (at m p .lane)) 1 two)
 
 -- a waiting record is no longer than L
@@ -68,10 +70,10 @@ short-front m fit p h = all-front (record-fit (m .largest)) noRecord (at m p .la
 
 -- ---- A send from the open slot, with what it reads named
 sent-eq : (shares lens : List ℕ) (p : ℕ) (e : Engine) (st n s : ℕ) → getD (e .starts) p 0 ≡ st → getD (e .counts) p 0 ≡ n → getD shares p 0 ≡ s
-    → sentFrom shares lens p e ≡ cond (eqb (n - 1) 0) (emptyEngine p (classOf s) (startAfter st) (n - 1) e)
-    (cond (leb (chargeOf (getD lens (frontEntry p (startAfter st)) 0)) (e .now .left .0 - chargeOf (getD lens (frontEntry p st) 0)))
-    (goingEngine p (startAfter st) (n - 1) (e .now .left .0 - chargeOf (getD lens (frontEntry p st) 0)) e)
-    (waitingEngine p (classOf s) (startAfter st) (n - 1) (e .now .left .0 - chargeOf (getD lens (frontEntry p st) 0)) e))
+    → sentFrom shares lens p e ≡ cond (eqb (n - 1) 0) (emptyEngine p (classOf s) (laneOn st) (n - 1) e)
+    (cond (leb (chargeOf (getD lens (laneEntry p (laneOn st) 0) 0)) (e .now .left .0 - chargeOf (getD lens (laneEntry p st 0) 0)))
+    (goingEngine p (laneOn st) (n - 1) (e .now .left .0 - chargeOf (getD lens (laneEntry p st 0) 0)) e)
+    (waitingEngine p (classOf s) (laneOn st) (n - 1) (e .now .left .0 - chargeOf (getD lens (laneEntry p st 0) 0)) e))
 unfolding sentFrom
 sent-eq shares lens p e st n s a b c = rw (a, b, c)
 
@@ -93,8 +95,8 @@ charge-is : (r : Record) → chargeOf (r .bytes) ≡ charge r * 65536
 unfolding chargeOf charge
 charge-is r = refl
 
-after-is : (x : Place) → startAfter (x .start) ≡ onward x
-unfolding startAfter onward
+after-is : (x : Place) → laneOn (x .start) ≡ onward x
+unfolding onward
 after-is x = refl
 
 -- a change at one place, whose lane the tables hold
@@ -113,14 +115,14 @@ module _ (m : Board.Board) (fit : Fit m) (p : ℕ) (held! : m .slot ≡ some p) 
   one! : 1 ≤ length (at m p .lane)
   one! = some! m fit p held!
 
-  bytes-is : getD lens (frontEntry p (at m p .start)) 0 ≡ front (at m p) .bytes
+  bytes-is : getD lens (laneEntry p (at m p .start) 0) 0 ≡ front (at m p) .bytes
   bytes-is = ap (λ (r : Record). r .bytes) (front-is m fit ids lens holds p one!)
 
   left-of : encode m .left .0 ≡ leftOf (at m p .stand)
   unfolding encode
   left-of = ap (slotLeft (m .places)) held!
 
-  rest-is : encode m .left .0 - chargeOf (getD lens (frontEntry p (at m p .start)) 0) ≡ leftAfter (at m p)
+  rest-is : encode m .left .0 - chargeOf (getD lens (laneEntry p (at m p .start) 0) 0) ≡ leftAfter (at m p)
   rest-is = rw (left-of, bytes-is, charge-is (front (at m p)))
 
   -- A SEND
@@ -147,11 +149,11 @@ module _ (m : Board.Board) (fit : Fit m) (p : ℕ) (held! : m .slot ≡ some p) 
       two h true t = short-is m fit p held! h t
       two h false t = going-is m fit p held! h
 
-      needs : 1 < length (x .lane) → chargeOf (getD lens (frontEntry p (onward x)) 0) ≡ charge (getD (drop 1 (x .lane)) 0 noRecord) * 65536
-      needs h = ap (λ (n : ℕ). chargeOf (getD lens (frontEntry p n) 0)) (sym (after-is x)) ∙ ap (λ (r : Record). chargeOf (r .bytes)) (second-is m fit ids lens holds p h) ∙ charge-is (getD (drop 1 (x .lane)) 0 noRecord)
+      needs : 1 < length (x .lane) → chargeOf (getD lens (laneEntry p (onward x) 0) 0) ≡ charge (getD (drop 1 (x .lane)) 0 noRecord) * 65536
+      needs h = ap (λ (n : ℕ). chargeOf (getD lens (laneEntry p n 0) 0)) (sym (after-is x)) ∙ ap (λ (r : Record). chargeOf (r .bytes)) (second-is m fit ids lens holds p h) ∙ charge-is (getD (drop 1 (x .lane)) 0 noRecord)
 
       go : (t : Bool) → leb (length (x .lane)) 1 ≡ t → Tidy (cond t A (cond (ltb (leftAfter x) need) B C))
-          → withEngine (encode m) (cond t (emptyEngine p (blockClass x) (onward x) (length (x .lane) - 1) (engineOf (encode m))) (cond (leb (chargeOf (getD lens (frontEntry p (onward x)) 0)) (leftAfter x)) (goingEngine p (onward x) (length (x .lane) - 1) (leftAfter x) (engineOf (encode m))) (waitingEngine p (blockClass x) (onward x) (length (x .lane) - 1) (leftAfter x) (engineOf (encode m))))) ≡ encode (cond t A (cond (ltb (leftAfter x) need) B C))
+          → withEngine (encode m) (cond t (emptyEngine p (blockClass x) (onward x) (length (x .lane) - 1) (engineOf (encode m))) (cond (leb (chargeOf (getD lens (laneEntry p (onward x) 0) 0)) (leftAfter x)) (goingEngine p (onward x) (length (x .lane) - 1) (leftAfter x) (engineOf (encode m))) (waitingEngine p (blockClass x) (onward x) (length (x .lane) - 1) (leftAfter x) (engineOf (encode m))))) ≡ encode (cond t A (cond (ltb (leftAfter x) need) B C))
       go true f t = let z : length (x .lane) - 1 ≡ 0 = omega (arith, true-le (length (x .lane)) 1 f) in ap (λ (n : ℕ). withEngine (encode m) (emptyEngine p (blockClass x) (onward x) n (engineOf (encode m)))) z ∙ empty-is m fit p held! t
       go false f t = rw (needs (false-lt (length (x .lane)) 1 f), fits-not need (leftAfter x)) (two (false-lt (length (x .lane)) 1 f) (ltb (leftAfter x) need) t)
 
@@ -187,7 +189,6 @@ module _ (m : Board.Board) (fit : Fit m) (p : ℕ) (held! : m .slot ≡ some p) 
   can-send h = record {
     inside = omega (arith, inL m fit p held!, fit .tidy .shape .all64);
     table = h;
-    ring = rw (start-is m p) (fit .tidy .shape .placeOk p .ring);
     some = rw (count-is m p) one!;
     low = rw (share-is m p) (ok .1);
     high = rw (share-is m p) (fit .tidy .shape .placeOk p .most);
@@ -245,9 +246,8 @@ pub record Serves (m : Board.Board) (ids lens : List ℕ) (s : Sending) (next : 
       ≡ encode next
   pub holds : Holds next ids lens
   pub inside : s .place < 64
-  pub ring : at m (s .place) .start < 32
-  pub number : getD ids (frontEntry (s .place) (at m (s .place) .start)) 0 ≡ s .front .number
-  pub bytes : getD lens (frontEntry (s .place) (at m (s .place) .start)) 0 ≡ s .front .bytes
+  pub number : getD ids (laneEntry (s .place) (at m (s .place) .start) 0) 0 ≡ s .front .number
+  pub bytes : getD lens (laneEntry (s .place) (at m (s .place) .start) 0) 0 ≡ s .front .bytes
   pub short : s .front .bytes ≤ m .largest
 
 pub record Refuses (m : Board.Board) (code : ℕ) (next : Board.Board) : Type 0 where
@@ -365,7 +365,6 @@ module _ (m : Board.Board) (fit : Fit m) (ids lens : List ℕ) (holds : Holds m 
     enacts = enact-is m m p (m .clock) ids lens fit (w .slot) holds stays;
     holds = holds-send m fit p (w .slot) ids lens holds;
     inside = w .inside;
-    ring = fit .tidy .shape .placeOk p .ring;
     number = ap (λ (r : Record). r .number) (front-is m fit ids lens holds p (w .lane));
     bytes = ap (λ (r : Record). r .bytes) (front-is m fit ids lens holds p (w .lane));
     short = short-front m fit p (w .lane);
@@ -386,7 +385,6 @@ module _ (m : Board.Board) (fit : Fit m) (ids lens : List ℕ) (holds : Holds m 
     enacts = enact-is m (begin m t) p t ids lens fit-begin slot-begin holds-begin opens;
     holds = holds-send (begin m t) fit-begin p slot-begin ids lens holds-begin;
     inside = w .inside;
-    ring = fit .tidy .shape .placeOk p .ring;
     number = ap (λ (x : Record). x .number) front-at;
     bytes = ap (λ (x : Record). x .bytes) front-at;
     short = subst (λ (x : Record). x .bytes ≤ m .largest) (sym (front-is m fit ids lens holds p (w .lane)) ∙ front-at) (short-front m fit p (w .lane));
@@ -419,7 +417,7 @@ module _ (m : Board.Board) (fit : Fit m) (ids lens : List ℕ) (holds : Holds m 
       holds-begin : Holds (begin m t) ids lens
       holds-begin = subst (λ (l : List Place). (i : ℕ) → pl l i .lane ≡ laneOf ids lens i (pl l i) (length (pl l i .lane))) (sym places-are) (holds-set (m .places) p y ids lens in-l holds (holds p ∙ lane-by ids lens p (at m p) y (length (at m p .lane)) refl))
 
-      front-at : recordAt ids lens (frontEntry p (at m p .start)) ≡ front (at (begin m t) p)
+      front-at : recordAt ids lens (laneEntry p (at m p .start) 0) ≡ front (at (begin m t) p)
       front-at = front-is m fit ids lens holds p (w .lane) ∙ sym (ap (λ (l : List Place). front (pl l p)) places-are ∙ ap front (getD-set-same (m .places) p y freePlace in-l))
 
       opens : withEngine (encode m) (opened (encode m .shares) (encode m .largest) p t (engineOf (encode m))) ≡ encode (begin m t)

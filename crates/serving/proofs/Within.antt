@@ -11,6 +11,8 @@ use borrow.Author.Tests.{eq-eqb, ne-eqb, lt-ltb, le-ltb}
 use Rattle.base.proofs.Numbers.{split}
 use Rattle.units.specs.Credit.{charged, largestCharge}
 use Rattle.units.proofs.Credits.{charge-small}
+use Rattle.lanes.specs.Lanes.{laneEntry}
+use Rattle.lanes.proofs.Lanes.{lane-inside}
 use Rattle.rules.specs.Board
 use Rattle.rules.specs.Board.{Record, at, charge}
 use Rattle.rules.specs.Choice.{Out, refused, Sending, sent, serve}
@@ -24,7 +26,7 @@ use Rattle.slots.specs.declared.Choice.{Choice}
 use Rattle.slots.specs.declared.Choice.the-variants.{Go}
 use Rattle.board.specs.Memory.{Engine, engineOf, withEngine}
 use Rattle.slots.specs.Slots.{choiceOf}
-use Rattle.serving.specs.Serving.{frontEntry, enacted, Within, engineAfter, withinOf, servedBy, servedWithin}
+use Rattle.serving.specs.Serving.{enacted, Within, engineAfter, withinOf, servedBy, servedWithin}
 use Rattle.board.proofs.Fields.{start-is}
 use Rattle.serving.proofs.Serves.{Serves, ByAnswer, serve-by}
 
@@ -97,7 +99,7 @@ module _ (m : Board.Board) (fit : Fit m) (ids lens : List ℕ) (holds : Holds m 
 
   go-on : (s : Sending) → serve m .out ≡ sent s → Serves m ids lens s (serve m .next)
       → let c = Go (s .place) (s .clock) in Stops m bytes room (made c) ⊎ Goes m ids lens bytes room (made c)
-  unfolding charge frontEntry
+  unfolding charge
   go-on s e w = rw (start-is m p, w .bytes) (by-room (split 1 room))
     where
       p : ℕ
@@ -116,7 +118,7 @@ module _ (m : Board.Board) (fit : Fit m) (ids lens : List ℕ) (holds : Holds m 
       small = small-charge (r .bytes) (m .largest) (w .short) (fit .tidy .shape .most)
 
       entry : ℕ
-      entry = frontEntry p (at m p .start)
+      entry = laneEntry p (at m p .start) 0
 
       E : Engine
       E = enacted (encode m .shares) lens (encode m .largest) p t (engineOf (encode m))
@@ -144,8 +146,8 @@ module _ (m : Board.Board) (fit : Fit m) (ids lens : List ℕ) (holds : Holds m 
         burst-is = burst-goes m bytes s e room (λ z. omega arith) h;
       }))
         where
-          entry-small : frontEntry p (at m p .start) < 2048
-          entry-small = omega (arith, w .inside, w .ring)
+          entry-small : laneEntry p (at m p .start) 0 < 2048
+          entry-small = lane-inside p (at m p .start) 0 (w .inside)
 
       by-room : (1 ≤ room) ⊎ (room < 1) → Stops m bytes room (result (eqb room 0) (ltb bytes c)) ⊎ Goes m ids lens bytes room (result (eqb room 0) (ltb bytes c))
       by-room (inl h) = rw (ne-eqb room 0 (λ z. omega arith)) (by-bytes h (turn (split c bytes)))

@@ -9,6 +9,7 @@ use lib.ListN.{getD, set, length, replicate}
 use Rattle.bits.specs.Sets.{withBit, withoutBit, lowestBit}
 use Rattle.units.specs.Classes.{classOf, nextStart}
 use Rattle.units.specs.Credit.{charged, chargeOf, creditOf}
+use Rattle.lanes.specs.Lanes.{laneEntry, laneOn}
 use Rattle.board.specs.declared.Board.{Board}
 use Rattle.board.specs.declared.After.{After}
 use Rattle.board.specs.Memory.{Queues, queuesNow, Engine, engineNow, numbersNow}
@@ -19,22 +20,15 @@ use Rattle.serving.specs.declared.Step.{Step}
 
 -- ---- The front record is sent
 
--- the entry of the record at the front of a ring that starts there, and the start of the ring after a send
-unfoldable pub frontEntry : ℕ → ℕ → ℕ
-frontEntry place start = 32 * place + start
-
-unfoldable pub startAfter : ℕ → ℕ
-startAfter start = (start + 1) % 32
-
 unfoldable pub sentFrom : List ℕ → List ℕ → ℕ → Engine → Engine
 sentFrom shares lens place e =
     let start = getD (e .starts) place 0 in
     let count = getD (e .counts) place 0 - 1 in
-    let starts = set (e .starts) place (startAfter start) in
+    let starts = set (e .starts) place (laneOn start) in
     let counts = set (e .counts) place count in
     let k = classOf (getD shares place 0) in
-    let rest = e .now .left .0 - chargeOf (getD lens (frontEntry place start) 0) in
-    let need = chargeOf (getD lens (frontEntry place (startAfter start)) 0) in
+    let rest = e .now .left .0 - chargeOf (getD lens (laneEntry place start 0) 0) in
+    let need = chargeOf (getD lens (laneEntry place (laneOn start) 0) 0) in
     let empty = endedEmpty k (e .now .clock) (e .now .active) (e .now .pending) (e .queues .heads) (e .queues .held) in
     let waiting = endedWaiting place k rest (e .now .clock) (e .now .active) (e .now .pending) (e .queues) in
     cond (eqb count 0)
@@ -46,13 +40,12 @@ sentFrom shares lens place e =
 pub record CanSend (shares lens : List ℕ) (place : ℕ) (e : Engine) : Type 0 where
   pub inside : place < 64
   pub table : length lens ≡ 2048
-  pub ring : getD (e .starts) place 0 < 32
   pub some : 1 ≤ getD (e .counts) place 0
   pub low : 1 ≤ getD shares place 0
   pub high : getD shares place 0 ≤ 65536
   pub tail : getD (e .queues .tails) (classOf (getD shares place 0)) 0 ≤ 64
   pub time : e .now .clock < 2 ^ 62
-  pub fits : chargeOf (getD lens (frontEntry place (getD (e .starts) place 0)) 0) ≤ e .now .left .0
+  pub fits : chargeOf (getD lens (laneEntry place (getD (e .starts) place 0) 0) 0) ≤ e .now .left .0
 
 unfoldable pub enacted : List ℕ → List ℕ → ℕ → ℕ → ℕ → Engine → Engine
 enacted shares lens largest place time e = sentFrom shares lens place (opened shares largest place time e)
@@ -113,7 +106,7 @@ withinOf code place entry bytes time e =
 abbrev pub servedBy : List ℕ → List ℕ → ℕ → ℕ → ℕ → Engine → Choice → Within
 servedBy shares lens largest bytes room e (Stop code) = withinOf code 0 0 0 0 e
 servedBy shares lens largest bytes room e (Go place time) =
-    let entry = frontEntry place (getD (e .starts) place 0) in
+    let entry = laneEntry place (getD (e .starts) place 0) 0 in
     cond (eqb room 0) (withinOf 14 0 0 0 0 e)
     (cond (ltb bytes (charged (getD lens entry 0))) (withinOf 13 0 0 0 0 e)
     (withinOf 0 place entry (charged (getD lens entry 0)) time (enacted shares lens largest place time e)))

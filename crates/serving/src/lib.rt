@@ -5,11 +5,9 @@ ghost use lib.ListN.{getD};
 ghost use Rattle.units.specs.Classes.{classOf};
 ghost use Rattle.board.specs.Memory.{queuesNow, engineNow, numbersNow};
 ghost use Rattle.slots.specs.Slots.{beginningNow, CanBegin, openedSlot};
-ghost use Rattle.serving.specs.Serving.{frontEntry, startAfter, sentFrom, CanSend, enacted, CanEnact, stayed, withinNow, servedWithin, CanServe};
+ghost use Rattle.serving.specs.Serving.{sentFrom, CanSend, enacted, CanEnact, stayed, withinNow, servedWithin, CanServe};
 use board::After;
 use numbers::CLASSES;
-use numbers::LANE_DEPTH;
-use numbers::LANE_ENTRIES;
 use numbers::NO_LINK;
 use numbers::PLACES;
 use numbers::codes;
@@ -32,22 +30,6 @@ pub struct Step {
     pub left: Parts,
 }
 
-// The table entry of the record at the front of a ring that starts there.
-fn front_entry(place: usize, start: u8) -> usize
-    requires { ⌜ (place < 64) × (start < 32) ⌝ }
-    ensures { λ r. ⌜ r ≡ frontEntry place start ⌝ }
-{
-    LANE_ENTRIES * place + start as usize
-}
-
-// The start of the ring after a send.
-fn start_after(start: u8) -> u8
-    requires { ⌜ start < 32 ⌝ }
-    ensures { λ r. ⌜ r ≡ startAfter start ⌝ }
-{
-    (start + 1) % LANE_DEPTH
-}
-
 // The front record of the open slot's block is sent.
 fn send(
     place: usize,
@@ -56,8 +38,8 @@ fn send(
     pending: u32,
     left: Parts,
     shares: &[u32; PLACES],
-    starts: &mut [u8; PLACES],
-    counts: &mut [u8; PLACES],
+    starts: &mut [u16; PLACES],
+    counts: &mut [u16; PLACES],
     deficits: &mut [u64; PLACES],
     ready: &mut [u64; PLACES],
     next: &mut [u8; PLACES],
@@ -70,9 +52,9 @@ fn send(
     ensures { λ r. ⌜ engineNow (now (starts .exit)) (now (counts .exit)) (now (deficits .exit)) (now (ready .exit)) (now (next .exit)) (now (heads .exit)) (now (tails .exit)) (now (held .exit)) r ≡ sentFrom (now (shares .entry)) (now (lens .entry)) place (engineNow (now (starts .entry)) (now (counts .entry)) (now (deficits .entry)) (now (ready .entry)) (now (next .entry)) (now (heads .entry)) (now (tails .entry)) (now (held .entry)) (numbersNow clock active pending (place + 1) (left .0))) ⌝ }
 {
     let ring = starts[place];
-    let entry = front_entry(place, ring);
+    let entry = lanes::entry(place, ring, 0);
     let charge = units::charge(Bytes(lens[entry] as u64));
-    let on = start_after(ring);
+    let on = lanes::onward(ring);
     let count = counts[place] - 1;
     starts[place] = on;
     counts[place] = count;
@@ -81,7 +63,7 @@ fn send(
     if count == 0 {
         return slots::end_empty(k, clock, active, pending, heads, held);
     }
-    let following = front_entry(place, on);
+    let following = lanes::entry(place, on, 0);
     let need = units::charge(Bytes(lens[following] as u64));
     if need.0 <= rest.0 {
         return After {
@@ -163,8 +145,8 @@ fn enact(
     left: Parts,
     largest: u32,
     shares: &[u32; PLACES],
-    starts: &mut [u8; PLACES],
-    counts: &mut [u8; PLACES],
+    starts: &mut [u16; PLACES],
+    counts: &mut [u16; PLACES],
     deficits: &mut [u64; PLACES],
     ready: &mut [u64; PLACES],
     next: &mut [u8; PLACES],
@@ -226,8 +208,8 @@ pub fn serve_within(
     left: Parts,
     largest: u32,
     shares: &[u32; PLACES],
-    starts: &mut [u8; PLACES],
-    counts: &mut [u8; PLACES],
+    starts: &mut [u16; PLACES],
+    counts: &mut [u16; PLACES],
     deficits: &mut [u64; PLACES],
     ready: &mut [u64; PLACES],
     next: &mut [u8; PLACES],
@@ -246,7 +228,7 @@ pub fn serve_within(
             if room == 0 {
                 return stay(codes::LIST_FULL, clock, active, pending, slot, left);
             }
-            let entry = front_entry(place, starts[place]);
+            let entry = lanes::entry(place, starts[place], 0);
             let charge = units::charged(Bytes(lens[entry] as u64));
             if bytes.0 < charge.0 {
                 return stay(codes::OVER_BUDGET, clock, active, pending, slot, left);

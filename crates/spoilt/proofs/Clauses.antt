@@ -22,6 +22,7 @@ use Rattle.arrays.proofs.Totals.{total-below}
 use Rattle.units.specs.Classes.{nextStart}
 use Rattle.units.specs.Credit.{charged, largestCharge, chargeOf}
 use Rattle.units.proofs.Classes.{class-le}
+use Rattle.lanes.specs.Lanes.{laneEntry}
 use Rattle.rules.specs.Board
 use Rattle.rules.specs.Board.{Record, charge, out, queued, serving, Place, at, front, blockClass, isOpen, waits, spent}
 use Rattle.rules.specs.Spoilt
@@ -32,7 +33,6 @@ use Rattle.board.proofs.Rings.{lane-at}
 use Rattle.board.proofs.ClassSets.{and-never}
 use Rattle.spoilt_places.specs.Ranges.{sizeInRange, numbersApart, numberInRange, inOrder, sharesFit, heldWhileWaiting, noneHeld}
 use Rattle.spoilt_orders.specs.Walks.{clockInRange}
-use Rattle.spoilt.specs.Test.{entryOf}
 use Rattle.spoilt.proofs.Apart.{d-apart}
 use Rattle.spoilt.proofs.Places.{stand-is, inner, waits-is, queued-is, serving-is, number-is, share-is, ring-is, deficit-is, free-is, lengths-from, record-is, share-at, number-at, queued-at, all-64}
 use Rattle.spoilt.proofs.Sets.{quiet-is}
@@ -59,7 +59,7 @@ pub every-from : (b : struct.Board) (ids lens : List ℕ) (t : Place → Bool) �
 every-from b ids lens t h = all-intro (λ p. t (at (view b ids lens) p)) 64 (λ p l. rw (inner b ids lens p l) (h p l))
 
 -- the front record's charge, in parts
-pub front-charge : (b : struct.Board) (ids lens : List ℕ) (p : ℕ) → eqb (getD (b .counts) p 0) 0 ≡ false → charge (front (placeOf b ids lens p)) * 65536 ≡ chargeOf (getD lens (entryOf p (getD (b .starts) p 0) 0) 0)
+pub front-charge : (b : struct.Board) (ids lens : List ℕ) (p : ℕ) → eqb (getD (b .counts) p 0) 0 ≡ false → charge (front (placeOf b ids lens p)) * 65536 ≡ chargeOf (getD lens (laneEntry p (getD (b .starts) p 0) 0) 0)
 unfolding charge chargeOf placeOf
 front-charge b ids lens p e =
     ap (λ (r : Record). charged (r .bytes) * 65536) (lane-at ids lens p (bareOf b p) (getD (b .counts) p 0) 0 (pos (getD (b .counts) p 0) e))

@@ -21,6 +21,7 @@ use Rattle.bits.specs.Sets.{setBelow}
 use Rattle.bits.proofs.Sets.{set-ext}
 use Rattle.units.specs.Classes.{classOf, nextStart}
 use Rattle.units.specs.Credit.{largestCharge, chargeOf}
+use Rattle.lanes.specs.Lanes.{laneEntry}
 use Rattle.rules.specs.Board
 use Rattle.rules.specs.Board.{out, queued, serving, Place, freePlace, at, front, charge, blockClass, isOpen, waits, active, pending}
 use Rattle.rules.specs.Spoilt
@@ -38,7 +39,7 @@ use Rattle.board.proofs.Sound.{seventeen-view}
 use Rattle.board.proofs.Walks.{ends, linked-ends, first-follow, follow-length}
 use Rattle.spoilt_places.specs.Ranges.{sizeInRange, numbersApart, inOrder, unusedIsZero, sharesFit, heldWhileWaiting, noneHeld}
 use Rattle.spoilt_orders.specs.Walks.{clockInRange, classActive, classPending, blocksInOrder}
-use Rattle.spoilt.specs.Test.{entryOf, slotOpen}
+use Rattle.spoilt.specs.Test.{slotOpen}
 use Rattle.spoilt.proofs.Apart.{d-apart}
 use Rattle.spoilt.proofs.Counts.{all-met}
 use Rattle.spoilt.proofs.Walk.{orderOf, walked-from, lengthOf}
@@ -225,8 +226,8 @@ module _ (b : struct.Board) (ids lens : List ℕ) (z : Sized b) (s : Sound b ids
   unfolding chargeOf largestCharge
   slot-rule = record { closed = λ e. left-field ∙ ap (slotLeft (v .places)) (slot-none e); place = λ p e. slot-at p e .0; serves = λ p e. serves p e (slot-at p e) }
     where
-      serves : (p : ℕ) → b .slot ≡ suc p → (p < 64) × (eqb (getD (b .counts) p 0) 0 ≡ false) → slotOpen (b .largest) (b .clock) (b .left .0) (getD (b .counts) p 0) (getD lens (entryOf p (getD (b .starts) p 0) 0) 0) ≡ true
-      serves p e w = d-serves (b .largest) (b .clock) (b .left .0) (getD (b .counts) p 0) (getD lens (entryOf p (getD (b .starts) p 0) 0) 0) .no (record {
+      serves : (p : ℕ) → b .slot ≡ suc p → (p < 64) × (eqb (getD (b .counts) p 0) 0 ≡ false) → slotOpen (b .largest) (b .clock) (b .left .0) (getD (b .counts) p 0) (getD lens (laneEntry p (getD (b .starts) p 0) 0) 0) ≡ true
+      serves p e w = d-serves (b .largest) (b .clock) (b .left .0) (getD (b .counts) p 0) (getD lens (laneEntry p (getD (b .starts) p 0) 0) 0) .no (record {
         waits = w .1;
         fits = omega (arith, front-rule p e (w .0) (w .1) .0, front-charge b ids lens p (w .1));
         under = omega (arith, front-rule p e (w .0) (w .1) .1);

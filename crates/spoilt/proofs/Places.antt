@@ -10,15 +10,16 @@ use lib.ListN.{length, getD, List·getD-eq-default}
 use borrow.Author.Tests.{ne-eqb, lt-ltb}
 use Rattle.base.proofs.Tests.{and-left, and-right, and-both, all-at, all-intro}
 use Rattle.units.specs.Credit.{largestCharge, chargeOf}
+use Rattle.lanes.specs.Lanes.{laneDepth, laneEntry}
 use Rattle.rules.specs.Board.{out, queued, serving, Place, freePlace, at, entry, waits}
 use Rattle.rules.specs.Spoilt
 use Rattle.rules.specs.Spoilt.{isQueued, isServing, readyNum, lengthsIn}
 use Rattle.board.specs.declared.Board.{Board}
 use Rattle.board.specs.Reading.{tab, recordAt, laneOf, standBy, bareOf, placeOf, view}
 use Rattle.board.proofs.Lists.{length-tab, getD-tab}
-use Rattle.board.proofs.Rings.{length-lane, entry-by}
+use Rattle.board.proofs.Rings.{length-lane}
 use Rattle.spoilt_places.specs.Ranges.{numberInRange, shareInRange, ringInRange, inOrder, deficitInRange, freeIsZero}
-use Rattle.spoilt.specs.Test.{entryOf, lengthInRange, laneInRange}
+use Rattle.spoilt.specs.Test.{lengthInRange, laneInRange}
 
 pub above-zero : (n : ℕ) → ltb 0 n ≡ not (eqb n 0)
 above-zero zero = refl
@@ -146,7 +147,7 @@ module _ (b : Board) (ids lens : List ℕ) where
 
     pub ring-is : Spoilt.ringInRange (placeOf b ids lens p) ≡ ringInRange (getD (b .starts) p 0) (getD (b .counts) p 0)
     unfolding placeOf bareOf ringInRange
-    ring-is = ap (λ (m : ℕ). ltb (getD (b .starts) p 0) 32 && leb m 32) lane-long
+    ring-is = ap (λ (m : ℕ). ltb (getD (b .starts) p 0) laneDepth && leb m laneDepth) lane-long
 
     pub deficit-is : Spoilt.deficitInRange (b .largest) (placeOf b ids lens p) ≡ deficitInRange (b .largest) (inOrder p (getD (b .counts) p 0) (b .slot)) (getD (b .deficits) p 0)
     unfolding placeOf bareOf deficitInRange chargeOf largestCharge
@@ -158,14 +159,14 @@ module _ (b : Board) (ids lens : List ℕ) where
 
     -- ---- its lane
 
-    pub record-is : (j : ℕ) → entry p (bareOf b p) j ≡ entryOf p (getD (b .starts) p 0) j
-    unfolding entryOf bareOf
-    record-is j = entry-by p (bareOf b p) _ j refl
+    pub record-is : (j : ℕ) → entry p (bareOf b p) j ≡ laneEntry p (getD (b .starts) p 0) j
+    unfolding entry bareOf
+    record-is j = refl
 
     pub lengths-from : laneInRange lens (b .largest) p (getD (b .starts) p 0) (getD (b .counts) p 0) ≡ true → lengthsIn (b .largest) (placeOf b ids lens p .lane) ≡ true
     unfolding placeOf laneOf laneInRange lengthInRange
-    lengths-from h = all-lengths (b .largest) ids lens n (λ j. entry p (bareOf b p) j) (λ j l. rw (record-is j) (all-at (λ i. lengthInRange (b .largest) (getD lens (entryOf p (getD (b .starts) p 0) i) 0)) n j h l))
+    lengths-from h = all-lengths (b .largest) ids lens n (λ j. entry p (bareOf b p) j) (λ j l. rw (record-is j) (all-at (λ i. lengthInRange (b .largest) (getD lens (laneEntry p (getD (b .starts) p 0) i) 0)) n j h l))
 
     pub lengths-to : lengthsIn (b .largest) (placeOf b ids lens p .lane) ≡ true → laneInRange lens (b .largest) p (getD (b .starts) p 0) (getD (b .counts) p 0) ≡ true
     unfolding placeOf laneOf laneInRange lengthInRange
-    lengths-to h = all-intro (λ j. lengthInRange (b .largest) (getD lens (entryOf p (getD (b .starts) p 0) j) 0)) n (λ j l. rw (← record-is j) (each-length (b .largest) ids lens n (λ i. entry p (bareOf b p) i) h j l))
+    lengths-to h = all-intro (λ j. lengthInRange (b .largest) (getD lens (laneEntry p (getD (b .starts) p 0) j) 0)) n (λ j l. rw (← record-is j) (each-length (b .largest) ids lens n (λ i. entry p (bareOf b p) i) h j l))

@@ -16,12 +16,13 @@ use Rattle.base.proofs.Decides.{Each, d-every, d-and, d-eqb, d-true, d-leb, d-a
 use Rattle.bits.specs.Sets.{setBelow}
 use Rattle.units.specs.Classes.{nextStart}
 use Rattle.units.specs.Credit.{chargeOf}
+use Rattle.lanes.specs.Lanes.{laneEntry}
 use Rattle.rules.specs.Spoilt.{count}
 use Rattle.rules.proofs.Orders.{ready}
 use Rattle.board.specs.declared.Board.{Board}
 use Rattle.spoilt_places.specs.Ranges.{sizeInRange, numbersApart, inOrder, placeRules, placesInRange, placeInRange, sharesFit, heldWhileWaiting}
 use Rattle.spoilt_orders.specs.Walks.{clockInRange, ofClass, blocksInOrder, ordersListed, classActive, classPending, activeAsRuled, pendingAsRuled}
-use Rattle.spoilt.specs.Test.{tablesWhole, entryOf, laneInRange, lanesInRange, slotOpen, slotInRange, soundTest}
+use Rattle.spoilt.specs.Test.{tablesWhole, laneInRange, lanesInRange, slotOpen, slotInRange, soundTest}
 use Rattle.spoilt.proofs.Walk.{lengthOf, less, belongs, allBelong}
 
 -- ---- one place
@@ -44,14 +45,14 @@ placeRulesAt b p =
 pub record SlotRule (b : Board) (lens : List ℕ) : Type 0 where
   pub closed : b .slot ≡ 0 → b .left .0 ≡ 0
   pub place : (p : ℕ) → b .slot ≡ suc p → p < 64
-  pub serves : (p : ℕ) → b .slot ≡ suc p → slotOpen (b .largest) (b .clock) (b .left .0) (getD (b .counts) p 0) (getD lens (entryOf p (getD (b .starts) p 0) 0) 0) ≡ true
+  pub serves : (p : ℕ) → b .slot ≡ suc p → slotOpen (b .largest) (b .clock) (b .left .0) (getD (b .counts) p 0) (getD lens (laneEntry p (getD (b .starts) p 0) 0) 0) ≡ true
 
 pub d-slot : (b : Board) (lens : List ℕ) → Decides (slotInRange lens (b .largest) (b .clock) (b .slot) (b .left .0) (b .starts) (b .counts)) (SlotRule b lens)
 unfolding slotInRange
 d-slot b lens = go (b .slot) refl
   where
     rest : ℕ → Bool
-    rest p = slotOpen (b .largest) (b .clock) (b .left .0) (getD (b .counts) p 0) (getD lens (entryOf p (getD (b .starts) p 0) 0) 0)
+    rest p = slotOpen (b .largest) (b .clock) (b .left .0) (getD (b .counts) p 0) (getD lens (laneEntry p (getD (b .starts) p 0) 0) 0)
 
     go : (s : ℕ) → b .slot ≡ s → Decides (cond (eqb s 0) (eqb (b .left .0) 0) (leb s 64 && rest (s - 1))) (SlotRule b lens)
     go zero e = d-iff (d-eqb (b .left .0) 0) (λ w. record { closed = λ z. w; place = λ p f. absurd (omega (arith, e)); serves = λ p f. absurd (omega (arith, e)) }) (λ w. w .closed e)

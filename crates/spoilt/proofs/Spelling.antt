@@ -18,6 +18,7 @@ use Rattle.bits.specs.Sets.{setBelow}
 use Rattle.bits.proofs.Sets.{set-ext}
 use Rattle.units.specs.Classes.{classOf}
 use Rattle.units.proofs.Classes.{class-le}
+use Rattle.lanes.specs.Lanes.{laneEntry}
 use Rattle.rules.specs.Board
 use Rattle.rules.specs.Board.{Place, at, blockClass, active, pending}
 use Rattle.rules.specs.Choice.{leftOf}
@@ -30,7 +31,6 @@ use Rattle.board.proofs.Same.{same}
 use Rattle.board.proofs.Walks.{ends-once, ends-behind, first-follow}
 use Rattle.spoilt_places.specs.Ranges.{inOrder, freeIsZero, shareInRange, unusedIsZero}
 use Rattle.spoilt_orders.specs.Walks.{classActive, classPending, blocksInOrder}
-use Rattle.spoilt.specs.Test.{entryOf}
 use Rattle.spoilt.proofs.Counts.{all-listed}
 use Rattle.spoilt.proofs.Walk.{risesFrom, lastFrom, Walked, walked, orderOf, lengthOf}
 use Rattle.spoilt.proofs.Places.{inner, lane-long, ready-is, share-at, queued-at}
@@ -140,8 +140,8 @@ module _ (b : struct.Board) (ids lens : List ℕ) (r : Rules b lens) where
   lists-all = all-listed (v .places) (orderOf b) none-outside (λ k h q. ends-once (b .next) 64 (getD (b .heads) k 0) (walk! k h .ends!) q) class-of
       (below-ext (λ k. length (orderOf b k)) (lengthOf b) 17 (λ k h. sym (walk! k h .long)) ∙ r .listed ∙ below-ext _ _ 64 (λ p h. ap oneIf (sym (queued-at b ids lens p h))))
 
-  pub slot-serves : (p : ℕ) → b .slot ≡ suc p → Serves (b .largest) (b .clock) (b .left .0) (getD (b .counts) p 0) (getD lens (entryOf p (getD (b .starts) p 0) 0) 0)
-  slot-serves p e = d-serves (b .largest) (b .clock) (b .left .0) (getD (b .counts) p 0) (getD lens (entryOf p (getD (b .starts) p 0) 0) 0) .yes (r .slot .serves p e)
+  pub slot-serves : (p : ℕ) → b .slot ≡ suc p → Serves (b .largest) (b .clock) (b .left .0) (getD (b .counts) p 0) (getD lens (laneEntry p (getD (b .starts) p 0) 0) 0)
+  slot-serves p e = d-serves (b .largest) (b .clock) (b .left .0) (getD (b .counts) p 0) (getD lens (laneEntry p (getD (b .starts) p 0) 0) 0) .yes (r .slot .serves p e)
 
   pub slot-at : (p : ℕ) → b .slot ≡ suc p → (p < 64) × (eqb (getD (b .counts) p 0) 0 ≡ false)
   slot-at p e = (r .slot .place p e, slot-serves p e .waits)

@@ -9,7 +9,8 @@ use lib.Dec.{leb, ltb, eqb}
 use lib.ListN.{length, getD}
 use Rattle.base.specs.Tests.{Decides, every, allBelow}
 use Rattle.units.specs.Credit.{chargeOf}
-use Rattle.rules.specs.Board.{tableLength, out, entry}
+use Rattle.lanes.specs.Lanes.{laneEntry}
+use Rattle.rules.specs.Board.{tableLength}
 use Rattle.board.specs.declared.Board.{Board}
 use Rattle.board.specs.Reading.{Sized, Sound}
 use Rattle.spoilt_places.specs.Ranges.{sizeInRange, numbersApart, placesInRange, sharesFit, heldWhileWaiting}
@@ -21,16 +22,12 @@ tablesWhole ids lens = eqb (length ids) tableLength && eqb (length lens) tableLe
 
 -- ---- A LANE
 
--- the entry of the j-th record of place p's lane
-unfoldable pub entryOf : ℕ → ℕ → ℕ → ℕ
-entryOf p start j = entry p (record { number = 0; share = 0; start = start; lane = []; deficit = 0; stand = out }) j
-
 -- waiting lengths 1 to L
 unfoldable pub lengthInRange : ℕ → ℕ → Bool
 lengthInRange largest len = leb 1 len && leb len largest
 
 unfoldable pub laneInRange : List ℕ → ℕ → ℕ → ℕ → ℕ → Bool
-laneInRange lens largest p start count = allBelow count (λ j. lengthInRange largest (getD lens (entryOf p start j) 0))
+laneInRange lens largest p start count = allBelow count (λ j. lengthInRange largest (getD lens (laneEntry p start j) 0))
 
 unfoldable pub lanesInRange : List ℕ → ℕ → List ℕ → List ℕ → Bool
 lanesInRange lens largest starts counts = allBelow 64 (λ p. laneInRange lens largest p (getD starts p 0) (getD counts p 0))
@@ -45,7 +42,7 @@ slotOpen largest clock left count len = not (eqb count 0) && (leb (chargeOf len)
 unfoldable pub slotInRange : List ℕ → ℕ → ℕ → ℕ → ℕ → List ℕ → List ℕ → Bool
 slotInRange lens largest clock slot left starts counts =
     let p = slot - 1 in
-    cond (eqb slot 0) (eqb left 0) (leb slot 64 && slotOpen largest clock left (getD counts p 0) (getD lens (entryOf p (getD starts p 0) 0) 0))
+    cond (eqb slot 0) (eqb left 0) (leb slot 64 && slotOpen largest clock left (getD counts p 0) (getD lens (laneEntry p (getD starts p 0) 0) 0))
 
 -- ---- THE TEST
 

@@ -2,14 +2,13 @@
 ghost use mathlib.Core.Path.{_≡_};
 ghost use Prim.Native.Nat.{ℕ, _<_};
 ghost use lib.ListN.{length};
-ghost use Rattle.spoilt.specs.Test.{tablesWhole, entryOf, lengthInRange, laneInRange, lanesInRange, slotOpen, slotInRange, orderRules, soundTest};
+ghost use Rattle.spoilt.specs.Test.{tablesWhole, lengthInRange, laneInRange, lanesInRange, slotOpen, slotInRange, orderRules, soundTest};
 ghost use Rattle.spoilt.specs.Early.{earlyCode};
 ghost use Rattle.board.specs.Leaving.{Known};
 ghost use Rattle.base.specs.Tests.{every};
 ghost use Rattle.spoilt_places.specs.Ranges.{placesInRange};
 use board::Board;
 use numbers::CLOCK_END;
-use numbers::LANE_ENTRIES;
 use numbers::LAST_LINK;
 use numbers::NO_LINK;
 use numbers::PLACES;
@@ -38,23 +37,14 @@ fn length_in_range(largest: u32, len: u16) -> bool
     len as u32 <= largest
 }
 
-// The entry of the j-th record of place p's lane.
-fn entry_of(p: usize, start: u8, j: usize) -> usize
-    requires { ⌜ (p < 64) × (j < 256) ⌝ }
-    ensures { λ r. ⌜ (r ≡ entryOf p start j) × (r < 2048) ⌝ }
-{
-    LANE_ENTRIES * p + (start as usize + j) % LANE_ENTRIES
-}
-
 // The waiting lengths of place p.
-fn lane_in_range(lens: &[u16], largest: u32, p: usize, start: u8, count: u8) -> bool
+fn lane_in_range(lens: &[u16], largest: u32, p: usize, start: u16, count: u16) -> bool
     requires { ⌜ (p < 64) × (length (now lens) ≡ 2048) ⌝ }
     ensures { λ r. ⌜ r ≡ laneInRange (now (lens .entry)) largest p start count ⌝ }
 {
-    let waiting = count as usize;
-    let mut j: usize = 0;
-    while j < waiting {
-        let e = entry_of(p, start, j);
+    let mut j: u16 = 0;
+    while j < count {
+        let e = lanes::entry(p, start, j);
         if !length_in_range(largest, lens[e]) {
             return false;
         }
@@ -67,8 +57,8 @@ fn lane_in_range(lens: &[u16], largest: u32, p: usize, start: u8, count: u8) -> 
 fn lanes_in_range<'a>(
     lens: &[u16],
     largest: u32,
-    starts: &'a [u8; PLACES],
-    counts: &'a [u8; PLACES],
+    starts: &'a [u16; PLACES],
+    counts: &'a [u16; PLACES],
 ) -> bool
     requires { ⌜ length (now lens) ≡ 2048 ⌝ }
     ensures { λ r. ⌜ r ≡ lanesInRange (now (lens .entry)) largest (now (starts .entry)) (now (counts .entry)) ⌝ }
@@ -84,7 +74,7 @@ fn lanes_in_range<'a>(
 }
 
 // An open slot's block waits, its front fits what is left, that is under 3L bytes, and the slot's clock is below 2^62.
-fn slot_open(largest: u32, clock: u64, left: Parts, count: u8, len: u16) -> bool
+fn slot_open(largest: u32, clock: u64, left: Parts, count: u16, len: u16) -> bool
     ensures { λ r. ⌜ r ≡ slotOpen largest clock (left .0) count len ⌝ }
 {
     if count == 0 {
@@ -108,8 +98,8 @@ fn slot_in_range<'a>(
     clock: u64,
     slot: u8,
     left: Parts,
-    starts: &'a [u8; PLACES],
-    counts: &'a [u8; PLACES],
+    starts: &'a [u16; PLACES],
+    counts: &'a [u16; PLACES],
 ) -> bool
     requires { ⌜ length (now lens) ≡ 2048 ⌝ }
     ensures { λ r. ⌜ r ≡ slotInRange (now (lens .entry)) largest clock slot (left .0) (now (starts .entry)) (now (counts .entry)) ⌝ }
@@ -121,7 +111,7 @@ fn slot_in_range<'a>(
         return false;
     }
     let p = slot as usize - 1;
-    let e = entry_of(p, starts[p], 0);
+    let e = lanes::entry(p, starts[p], 0);
     slot_open(largest, clock, left, counts[p], lens[e])
 }
 

@@ -64,7 +64,7 @@ fn block_in_range(
     least: u64,
     p: usize,
     share: u32,
-    count: u8,
+    count: u16,
     ready: u64,
 ) -> bool
     requires { ⌜ k ≤ 16 ⌝ }
@@ -88,7 +88,7 @@ fn order_length<'a>(
     tail: u8,
     head: u8,
     shares: &'a [u32; PLACES],
-    counts: &'a [u8; PLACES],
+    counts: &'a [u16; PLACES],
     ready: &'a [u64; PLACES],
     next: &'a [u8; PLACES],
 ) -> u32
@@ -123,7 +123,7 @@ fn order_length<'a>(
 }
 
 // How many blocks wait and have not the open slot.
-fn blocks_in_order(slot: u8, counts: &[u8; PLACES]) -> u32
+fn blocks_in_order(slot: u8, counts: &[u16; PLACES]) -> u32
     ensures { λ r. ⌜ r ≡ blocksInOrder slot (now (counts .entry)) ⌝ }
 {
     let mut blocks: u32 = 0;
@@ -143,7 +143,7 @@ pub fn orders_listed<'a>(
     heads: &'a [u8; CLASSES],
     tails: &'a [u8; CLASSES],
     shares: &'a [u32; PLACES],
-    counts: &'a [u8; PLACES],
+    counts: &'a [u16; PLACES],
     ready: &'a [u64; PLACES],
     next: &'a [u8; PLACES],
 ) -> bool

@@ -9,6 +9,7 @@ use Rattle.base.specs.Sums.{oneIf, below}
 use Rattle.base.specs.Tests.{every, allBelow}
 use Rattle.arrays.specs.Lists.{totalOf}
 use Rattle.units.specs.Credit.{chargeOf}
+use Rattle.lanes.specs.Lanes.{laneDepth}
 
 -- L in range
 unfoldable pub sizeInRange : ℕ → Bool
@@ -36,7 +37,7 @@ shareInRange share = leb share 65536
 
 -- start and count in range
 unfoldable pub ringInRange : ℕ → ℕ → Bool
-ringInRange start count = ltb start 32 && leb count 32
+ringInRange start count = ltb start laneDepth && leb count laneDepth
 
 -- the block of place p is in its class's order: it waits, and it has not the open slot
 unfoldable pub inOrder : ℕ → ℕ → ℕ → Bool

@@ -5,7 +5,6 @@ ghost use Rattle.spoilt_places.specs.Ranges.{sizeInRange, timesFound, nu
 use numbers::CLASSES;
 use numbers::GREATEST_LARGEST;
 use numbers::GREATEST_SHARE;
-use numbers::LANE_DEPTH;
 use numbers::LEAST_LARGEST;
 use numbers::NO_BLOCK;
 use numbers::NO_LINK;
@@ -90,17 +89,18 @@ fn share_in_range(share: u32) -> bool
 }
 
 // Start and count in range.
-fn ring_in_range(start: u8, count: u8) -> bool
+fn ring_in_range(start: u16, count: u16) -> bool
     ensures { λ r. ⌜ r ≡ ringInRange start count ⌝ }
 {
-    if LANE_DEPTH <= start {
+    let depth = lanes::depth();
+    if depth <= start {
         return false;
     }
-    count <= LANE_DEPTH
+    count <= depth
 }
 
 // The block of place p waits and has not the open slot.
-pub fn in_order(p: usize, count: u8, slot: u8) -> bool
+pub fn in_order(p: usize, count: u16, slot: u8) -> bool
     ensures { λ r. ⌜ r ≡ inOrder p count slot ⌝ }
 {
     if count == 0 {
@@ -127,7 +127,7 @@ fn deficit_in_range(largest: u32, queued: bool, deficit: Parts) -> bool
 }
 
 // All not in use 0: a free place.
-fn free_is_zero(share: u32, number: u32, start: u8, count: u8, deficit: Parts) -> bool
+fn free_is_zero(share: u32, number: u32, start: u16, count: u16, deficit: Parts) -> bool
     ensures { λ r. ⌜ r ≡ freeIsZero share number start count (deficit .0) ⌝ }
 {
     if 0 < share {
@@ -165,8 +165,8 @@ fn place_in_range(
     p: usize,
     number: u32,
     share: u32,
-    start: u8,
-    count: u8,
+    start: u16,
+    count: u16,
     deficit: Parts,
     ready: u64,
     next: u8,
@@ -198,8 +198,8 @@ pub fn places_in_range<'a>(
     slot: u8,
     numbers: &'a [u32; PLACES],
     shares: &'a [u32; PLACES],
-    starts: &'a [u8; PLACES],
-    counts: &'a [u8; PLACES],
+    starts: &'a [u16; PLACES],
+    counts: &'a [u16; PLACES],
     deficits: &'a [u64; PLACES],
     ready: &'a [u64; PLACES],
     next: &'a [u8; PLACES],

@@ -6,9 +6,10 @@ use mathlib.Core.List.{List}
 use Prim.Native.Nat.{ℕ, _≤_, _<_}
 use native.Mathlib.Omega.{arith}
 use lib.Dec.{eqb, leb}
-use lib.ListN.{length, set}
+use lib.ListN.{length, getD, set}
+use Rattle.lanes.specs.Lanes.{laneDepth, laneEntry}
 use Rattle.rules.specs.Board
-use Rattle.rules.specs.Board.{Record, at, entry, firstEntry}
+use Rattle.rules.specs.Board.{Record, at, entry}
 use Rattle.rules.specs.Choice.{Turn, whereIs, numberOutside, noneHas, lengthOutside, laneFull, tookAt, takeRecord}
 use Rattle.rules.specs.Calls.{record!, step, one, done! }
 use Rattle.rules.proofs.Cases.{some-in, where-has}
@@ -19,12 +20,12 @@ use Rattle.board.specs.Leaving.{Returned, returned, replied, written, Known, ru
 use Rattle.board.proofs.Reading.{Fit}
 use Rattle.board.proofs.Sound.{fit-view}
 use Rattle.board.proofs.Fields.{count-is, start-is, count-at}
-use Rattle.board.proofs.Bounds.{bought, within, rings, linked}
+use Rattle.board.proofs.Bounds.{bought, within, linked}
 use Rattle.board.proofs.Agrees.{turned, agrees, by-spelling}
 use Rattle.finding.specs.Finding.{foundIn}
 use Rattle.finding.proofs.Finding.{not-zeroth, where-is, none-found, where-le}
 use Rattle.board.specs.Memory.{takingOf, withTaking, blocksOf}
-use Rattle.taking.specs.Taking.{takenAt, RecordNeeds, Recording, recording, entryAt, recordedIn}
+use Rattle.taking.specs.Taking.{takenAt, RecordNeeds, Recording, recording, recordedIn}
 use Rattle.taking.proofs.Taking.{take-is}
 
 module _ (m : Board.Board) (f : Fit m) (ids lens : List ℕ) (n id len : ℕ) where
@@ -34,14 +35,18 @@ module _ (m : Board.Board) (f : Fit m) (ids lens : List ℕ) (n id len : ℕ) wh
   abbrev recorded : Recording → Returned Reply
   recorded x = returned (replied (x .code) (withTaking (encode m) (x .taking))) (x .ids) (x .lens)
 
+  -- the entry behind the last record of place i
+  abbrev behind : ℕ → ℕ
+  behind i = laneEntry i (getD (encode m .starts) i 0) (getD (encode m .counts) i 0)
+
   abbrev took : ℕ → Recording
-  took i = recording 0 (takenAt (encode m .shares) (encode m .clock) i (takingOf (encode m))) (set ids (entryAt (encode m .starts) (encode m .counts) i) id) (set lens (entryAt (encode m .starts) (encode m .counts) i) len)
+  took i = recording 0 (takenAt (encode m .shares) (encode m .clock) i (takingOf (encode m))) (set ids (behind i) id) (set lens (behind i) len)
 
   abbrev by-record : Turn → Returned Reply
   by-record = turned (encode m) ids lens m (record! n r)
 
-  entry-is : (i : ℕ) → entryAt (encode m .starts) (encode m .counts) i ≡ entry i (at m i) (length (at m i .lane))
-  unfolding entryAt entry firstEntry
+  entry-is : (i : ℕ) → behind i ≡ entry i (at m i) (length (at m i .lane))
+  unfolding entry
   entry-is i = rw (start-is m i, count-is m i)
 
   took-is : whereIs m n < 64 → recorded (took (whereIs m n)) ≡ by-record (tookAt m (whereIs m n) r)
@@ -55,7 +60,7 @@ module _ (m : Board.Board) (f : Fit m) (ids lens : List ℕ) (n id len : ℕ) wh
   record-is =
       agrees recorded by-record m _ (numberOutside n || lengthOutside m len) 4 _ _ _ refl refl λ e4.
       agrees recorded by-record m _ (noneHas m n) 6 _ _ _ (ap (λ (i : ℕ). eqb i 64) (found e4) ∙ none-found (whereIs m n) (where-le m f n)) refl λ e6.
-      agrees recorded by-record m _ (laneFull (at m (whereIs m n))) 9 _ _ _ (ap (leb 32) (count-at m (whereIs m n) _ (found e4))) refl λ e9.
+      agrees recorded by-record m _ (laneFull (at m (whereIs m n))) 9 _ _ _ (ap (leb laneDepth) (count-at m (whereIs m n) _ (found e4))) refl λ e9.
       ap (λ (i : ℕ). recorded (took i)) (found e4) ∙ took-is (some-in m n e6)
     where
       found : numberOutside n || lengthOutside m len ≡ false → foundIn (encode m .numbers) n ≡ whereIs m n
@@ -64,7 +69,7 @@ module _ (m : Board.Board) (f : Fit m) (ids lens : List ℕ) (n id len : ℕ) wh
 module _ (m : Board.Board) (f : Fit m) where
   written-record-needs : (ids lens : List ℕ) → length ids ≡ 2048 → length lens ≡ 2048 → RecordNeeds (blocksOf (encode m)) (encode m .tails) (encode m .clock) ids lens
   unfolding encode
-  written-record-needs ids lens a d = record { low = bought m f; high = within m f; ring = rings m f; time = omega (arith, f .tidy .time); last = linked m f; ids-all = a; lens-all = d }
+  written-record-needs ids lens a d = record { low = bought m f; high = within m f; time = omega (arith, f .tidy .time); last = linked m f; ids-all = a; lens-all = d }
 
 -- ---- On a value that is known to be good
 module _ (b : struct.Board) (ids lens : List ℕ) (k : Known b ids lens) where

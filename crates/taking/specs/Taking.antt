@@ -3,11 +3,12 @@
 use mathlib.Core.Bool.{cond, _||_}
 use mathlib.Core.Path.{_≡_}
 use mathlib.Core.List.{List}
-use Prim.Native.Nat.{ℕ, _+_, _-_, _*_, _%_, _^_, _≤_, _<_}
+use Prim.Native.Nat.{ℕ, _+_, _-_, _^_, _≤_, _<_}
 use lib.Dec.{ltb, leb, eqb}
 use lib.ListN.{getD, set, length}
 use Rattle.bits.specs.Sets.{withBit}
 use Rattle.units.specs.Classes.{classOf, nextStart}
+use Rattle.lanes.specs.Lanes.{laneDepth, laneEntry}
 use Rattle.board.specs.Memory.{Orders, ordersNow, Taking, taking, Blocks}
 use Rattle.finding.specs.Finding.{foundIn}
 
@@ -35,7 +36,7 @@ takenAt shares clock i t =
 -- what the lists must have for a record to be taken at place i
 pub record TakeNeeds (shares counts tails : List ℕ) (clock i : ℕ) : Type 0 where
   pub place : i < 64
-  pub room : getD counts i 0 < 32
+  pub room : getD counts i 0 < laneDepth
   pub low : 1 ≤ getD shares i 0
   pub high : getD shares i 0 ≤ 65536
   pub time : clock ≤ 2 ^ 62
@@ -47,7 +48,6 @@ pub record TakeNeeds (shares counts tails : List ℕ) (clock i : ℕ) : Type 0 w
 pub record RecordNeeds (x : Blocks) (tails : List ℕ) (clock : ℕ) (ids lens : List ℕ) : Type 0 where
   pub low : (i : ℕ) → 1 ≤ getD (x .numbers) i 0 → 1 ≤ getD (x .shares) i 0
   pub high : (i : ℕ) → getD (x .shares) i 0 ≤ 65536
-  pub ring : (i : ℕ) → getD (x .starts) i 0 < 32
   pub time : clock ≤ 2 ^ 62
   pub last : (k : ℕ) → k < 17 → getD tails k 0 ≤ 64
   pub ids-all : length ids ≡ 2048
@@ -63,15 +63,12 @@ pub record Recording : Type 0 where
 abbrev pub recording : ℕ → Taking → List ℕ → List ℕ → Recording
 recording code t ids lens = record { code = code; taking = t; ids = ids; lens = lens }
 
--- the entry behind the last record of place i
-unfoldable pub entryAt : List ℕ → List ℕ → ℕ → ℕ
-entryAt starts counts i = 32 * i + (getD starts i 0 + getD counts i 0) % 32
-
 unfoldable pub recordedIn : Blocks → ℕ → ℕ → ℕ → ℕ → ℕ → Taking → List ℕ → List ℕ → Recording
 recordedIn x largest clock number id len t ids lens =
     let i = foundIn (x .numbers) number in
-    let e = entryAt (x .starts) (t .counts) i in
+    let count = getD (t .counts) i 0 in
+    let e = laneEntry i (getD (x .starts) i 0) count in
     cond (eqb number 0 || (eqb len 0 || ltb largest len)) (recording 4 t ids lens)
     (cond (eqb i 64) (recording 6 t ids lens)
-    (cond (leb 32 (getD (t .counts) i 0)) (recording 9 t ids lens)
+    (cond (leb laneDepth count) (recording 9 t ids lens)
     (recording 0 (takenAt (x .shares) clock i t) (set ids e id) (set lens e len))))

@@ -5,8 +5,6 @@ ghost use lib.ListN.{length, getD, set};
 ghost use Rattle.board.specs.Memory.{ordersNow, taking, blocks};
 ghost use Rattle.taking.specs.Taking.{joinedOrders, takenAt, TakeNeeds, RecordNeeds, recording, recordedIn};
 use numbers::CLASSES;
-use numbers::LANE_DEPTH;
-use numbers::LANE_ENTRIES;
 use numbers::NO_LINK;
 use numbers::NO_PLACE;
 use numbers::PLACES;
@@ -46,7 +44,7 @@ fn take_in(
     clock: u64,
     active: u32,
     shares: &[u32; PLACES],
-    counts: &mut [u8; PLACES],
+    counts: &mut [u16; PLACES],
     next: &mut [u8; PLACES],
     heads: &mut [u8; CLASSES],
     tails: &mut [u8; CLASSES],
@@ -81,8 +79,8 @@ pub fn record_in(
     active: u32,
     numbers: &[u32; PLACES],
     shares: &[u32; PLACES],
-    starts: &[u8; PLACES],
-    counts: &mut [u8; PLACES],
+    starts: &[u16; PLACES],
+    counts: &mut [u16; PLACES],
     next: &mut [u8; PLACES],
     heads: &mut [u8; CLASSES],
     tails: &mut [u8; CLASSES],
@@ -107,14 +105,13 @@ pub fn record_in(
         };
     }
     let count = counts[i];
-    if LANE_DEPTH <= count {
+    if lanes::depth() <= count {
         return Took {
             code: codes::LANE_FULL,
             active: active,
         };
     }
-    let first = starts[i] as usize;
-    let at = LANE_ENTRIES * i + (first + count as usize) % LANE_ENTRIES;
+    let at = lanes::entry(i, starts[i], count);
     ids[at] = id;
     lens[at] = length;
     let set = take_in(i, clock, active, shares, counts, next, heads, tails, ready);

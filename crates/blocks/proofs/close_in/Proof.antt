@@ -17,6 +17,9 @@ returns-2 : tie.Need-returns-2
 unfolding closedIn
 returns-2 c = rw (ne-eqb _ _ (c .before .before .before .if1 .left), ← c .before .find .ensures, eq-eqb _ _ (c .if2 .taken))
 
+mul-if3 : tie.Need-mul-if3
+mul-if3 c = let h = found-in _ _ _ (c .before .find .ensures) (c .if2 .left) in search needs
+
 element-copy-out-if3 : tie.Need-element-copy-out-if3
 element-copy-out-if3 c = found-in _ _ _ (c .before .find .ensures) (c .if2 .left)
 
@@ -45,6 +48,9 @@ mul-shares c = let h = found-in _ _ _ (c .before .before .before .before .before
 element-write-shares : tie.Need-element-write-shares
 element-write-shares c = found-in _ _ _ (c .before .before .before .before .before .before .find .ensures) (c .before .before .before .before .before .if2 .left)
 
+mul-starts : tie.Need-mul-starts
+mul-starts c = let h = found-in _ _ _ (c .before .before .before .before .before .before .find .ensures) (c .before .before .before .before .before .if2 .left) in search needs
+
 element-write-starts : tie.Need-element-write-starts
 element-write-starts c = found-in _ _ _ (c .before .before .before .before .before .before .find .ensures) (c .before .before .before .before .before .if2 .left)
 
@@ -59,6 +65,7 @@ close-in-spec =
     returns
     find-requires
     returns-2
+    mul-if3
     element-copy-out-if3
     returns-3
     mul-hold-in
@@ -68,5 +75,6 @@ close-in-spec =
     element-write-numbers
     mul-shares
     element-write-shares
+    mul-starts
     element-write-starts
     returns-4)

@@ -17,14 +17,14 @@ rebuilt-requires c κs = search needs
 mul-t46 : tie.Need-mul-t46
 mul-t46 c = let w = (sent-index _ _ _ (c .before .before .before .before .before .before .before .before .before .before .before .before .before .before .before .before .before .before .before .before .before .before .before .before .before .pre) _ _ _ (c .before .before .before .serve-within .ensures) (c .before .if1 .left)) in omega (arith, w .0, w .1)
 
-element-copy-out-t29 : tie.Need-element-copy-out-t29
-element-copy-out-t29 c = let w = (sent-index _ _ _ (c .before .before .before .before .before .before .before .before .before .before .before .before .before .before .before .before .before .before .before .before .before .before .before .before .before .pre) _ _ _ (c .before .before .before .serve-within .ensures) (c .before .if1 .left)) in omega (arith, w .0, w .1)
+element-copy-out-t30 : tie.Need-element-copy-out-t30
+element-copy-out-t30 c = let w = (sent-index _ _ _ (c .before .before .before .before .before .before .before .before .before .before .before .before .before .before .before .before .before .before .before .before .before .before .before .before .before .pre) _ _ _ (c .before .before .before .serve-within .ensures) (c .before .if1 .left)) in omega (arith, w .0, w .1)
 
 mul-t49 : tie.Need-mul-t49
 mul-t49 c = let w = (sent-index _ _ _ (c .before .before .before .before .before .before .before .before .before .before .before .before .before .before .before .before .before .before .before .before .before .before .before .before .before .before .pre) _ _ _ (c .before .before .before .before .serve-within .ensures) (c .before .before .if1 .left)) in omega (arith, w .0, w .1)
 
-shared-slice-read-t26 : tie.Need-shared-slice-read-t26
-shared-slice-read-t26 c = let w = (sent-index _ _ _ (c .before .before .before .before .before .before .before .before .before .before .before .before .before .before .before .before .before .before .before .before .before .before .before .before .before .before .before .pre) _ _ _ (c .before .before .before .before .before .serve-within .ensures) (c .before .before .before .if1 .left)) in omega (arith, w .1, c .before .before .before .before .before .before .before .before .before .before .before .before .before .before .before .before .before .before .before .before .before .before .before .before .before .before .before .pre .ids-all)
+shared-slice-read-t28 : tie.Need-shared-slice-read-t28
+shared-slice-read-t28 c = let w = (sent-index _ _ _ (c .before .before .before .before .before .before .before .before .before .before .before .before .before .before .before .before .before .before .before .before .before .before .before .before .before .before .before .pre) _ _ _ (c .before .before .before .before .before .serve-within .ensures) (c .before .before .before .if1 .left)) in omega (arith, w .1, c .before .before .before .before .before .before .before .before .before .before .before .before .before .before .before .before .before .before .before .before .before .before .before .before .before .before .before .pre .ids-all)
 
 mul-t51 : tie.Need-mul-t51
 mul-t51 c = let w = (sent-index _ _ _ (c .before .before .before .before .before .before .before .before .before .before .before .before .before .before .before .before .before .before .before .before .before .before .before .before .before .before .before .pre) _ _ _ (c .before .before .before .before .before .serve-within .ensures) (c .before .before .before .if1 .left)) in omega (arith, w .0, w .1)
@@ -43,9 +43,9 @@ serve-board-spec =
     returns
     rebuilt-requires
     mul-t46
-    element-copy-out-t29
+    element-copy-out-t30
     mul-t49
-    shared-slice-read-t26
+    shared-slice-read-t28
     mul-t51
     shared-slice-read-t53
     returns-2)

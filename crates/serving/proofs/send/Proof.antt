@@ -1,5 +1,4 @@
 use Rattle.serving.proofs.Cases.{sent-last, sent-on, sent-waits}
-use Rattle.serving.specs.Serving.{frontEntry, startAfter}
 use Rattle.units.proofs.Classes.{class-le}
 use lib.ListN.{getD}
 use native.Mathlib.Omega.{arith}
@@ -7,28 +6,32 @@ use borrow.Author.Needs.{needs}
 use Rattle.serving.proofs.send.Statement.{statement}
 use Rattle.serving.proofs.send.Tie as tie
 
+mul-ring : tie.Need-mul-ring
+mul-ring c = search needs
+
 element-copy-out-ring : tie.Need-element-copy-out-ring
 element-copy-out-ring c = search needs
 
-front-entry-requires : tie.Need-front-entry-requires
-front-entry-requires c κs = search needs
+entry-requires : tie.Need-entry-requires
+entry-requires c κs = search needs
 
-mul-t28 : tie.Need-mul-t28
-unfolding frontEntry
-mul-t28 c = omega (arith, c .front-entry .ensures, c .before .before .before .pre .inside, c .before .before .before .pre .ring, c .before .before .before .pre .table)
+mul-t25 : tie.Need-mul-t25
+mul-t25 c = omega (arith, c .entry .ensures .1)
 
-shared-slice-read-t30 : tie.Need-shared-slice-read-t30
-unfolding frontEntry
-shared-slice-read-t30 c = omega (arith, c .before .front-entry .ensures, c .before .before .before .before .pre .inside, c .before .before .before .before .pre .ring, c .before .before .before .before .pre .table)
+shared-slice-read-t28 : tie.Need-shared-slice-read-t28
+shared-slice-read-t28 c = omega (arith, c .before .entry .ensures .1, c .before .before .before .before .pre .table)
 
-cast-t31 : tie.Need-cast-t31
-cast-t31 c = omega (arith, c .shared-slice-known2 .given (c .before .front-entry .result))
+cast-t30 : tie.Need-cast-t30
+cast-t30 c = omega (arith, c .shared-slice-known2 .given (c .before .entry .result))
 
 charge-requires : tie.Need-charge-requires
-charge-requires c κs = omega (arith, c .shared-slice-known2 .given (c .before .front-entry .result))
+charge-requires c κs = omega (arith, c .shared-slice-known2 .given (c .before .entry .result))
 
-start-after-requires : tie.Need-start-after-requires
-start-after-requires c κs = search needs
+onward-requires : tie.Need-onward-requires
+onward-requires c κs = search needs
+
+mul-count : tie.Need-mul-count
+mul-count c = search needs
 
 element-copy-out-count : tie.Need-element-copy-out-count
 element-copy-out-count c = search needs
@@ -36,14 +39,20 @@ element-copy-out-count c = search needs
 sub-count : tie.Need-sub-count
 sub-count c = search needs
 
+mul-starts : tie.Need-mul-starts
+mul-starts c = search needs
+
 element-write-starts : tie.Need-element-write-starts
 element-write-starts c = search needs
+
+mul-counts : tie.Need-mul-counts
+mul-counts c = search needs
 
 element-write-counts : tie.Need-element-write-counts
 element-write-counts c = search needs
 
-sub-t31 : tie.Need-sub-t31
-sub-t31 c = rw (c .before .before .before .before .charge .ensures, c .before .before .before .before .before .before .front-entry .ensures) (c .before .before .before .before .before .before .before .before .before .pre .fits)
+sub-t30 : tie.Need-sub-t30
+sub-t30 c = rw (c .before .before .before .before .charge .ensures, c .before .before .before .before .before .before .entry .ensures .0) (c .before .before .before .before .before .before .before .before .before .pre .fits)
 
 mul-class-of : tie.Need-mul-class-of
 mul-class-of c = search needs
@@ -61,70 +70,71 @@ end-empty-requires : tie.Need-end-empty-requires
 end-empty-requires c κs = (omega (arith, c .before .before .before .class-of .ensures, class-le (getD (c .before .before .before .before .before .before .before .before .before .before .before .before .before .before .args .shares .now) (c .before .before .before .before .before .before .before .before .before .before .before .before .before .before .args .place) 0)), c .before .before .before .before .before .before .before .before .before .before .before .before .before .before .pre .time)
 
 returns : tie.Need-returns
-returns c = sent-last _ _ _ _ _ _ _ _ (c .before .before .before .before .before .before .before .before .before .before .before .before .front-entry .ensures) (c .before .before .before .before .before .before .before .before .before .before .charge .ensures) (c .before .before .before .before .before .before .before .before .before .start-after .ensures) (c .before .before .before .before .class-of .ensures) (c .before .before .before .if1 .taken) _ (c .end-empty .ensures)
+returns c = sent-last _ _ _ _ _ _ _ _ (c .before .before .before .before .before .before .before .before .before .before .before .before .entry .ensures .0) (c .before .before .before .before .before .before .before .before .before .before .charge .ensures) (c .before .before .before .before .before .before .before .before .before .onward .ensures) (c .before .before .before .before .class-of .ensures) (c .before .before .before .if1 .taken) _ (c .end-empty .ensures)
 
-front-entry-requires-2 : tie.Need-front-entry-requires-2
-unfolding startAfter
-front-entry-requires-2 c κs = (c .before .before .before .before .before .before .before .before .before .before .before .before .pre .inside, omega (arith, c .before .before .before .before .before .before .start-after .ensures))
+entry-requires-2 : tie.Need-entry-requires-2
+entry-requires-2 c κs = c .before .before .before .before .before .before .before .before .before .before .before .before .pre .inside
 
-mul-t28-2 : tie.Need-mul-t28-2
-unfolding frontEntry startAfter
-mul-t28-2 c = omega (arith, c .front-entry2 .ensures, c .before .before .before .before .before .before .before .start-after .ensures, c .before .before .before .before .before .before .before .before .before .before .before .before .before .pre .inside, c .before .before .before .before .before .before .before .before .before .before .before .before .before .pre .table)
+mul-t25-2 : tie.Need-mul-t25-2
+mul-t25-2 c = omega (arith, c .entry2 .ensures .1)
 
-shared-slice-read-t30-2 : tie.Need-shared-slice-read-t30-2
-unfolding frontEntry startAfter
-shared-slice-read-t30-2 c = omega (arith, c .before .front-entry2 .ensures, c .before .before .before .before .before .before .before .before .start-after .ensures, c .before .before .before .before .before .before .before .before .before .before .before .before .before .before .pre .inside, c .before .before .before .before .before .before .before .before .before .before .before .before .before .before .pre .table)
+shared-slice-read-t28-2 : tie.Need-shared-slice-read-t28-2
+shared-slice-read-t28-2 c = omega (arith, c .before .entry2 .ensures .1, c .before .before .before .before .before .before .before .before .before .before .before .before .before .before .pre .table)
 
-cast-t31-2 : tie.Need-cast-t31-2
-cast-t31-2 c = omega (arith, c .shared-slice-known3 .given (c .before .front-entry2 .result))
+cast-t30-2 : tie.Need-cast-t30-2
+cast-t30-2 c = omega (arith, c .shared-slice-known3 .given (c .before .entry2 .result))
 
 charge-requires-2 : tie.Need-charge-requires-2
-charge-requires-2 c κs = omega (arith, c .shared-slice-known3 .given (c .before .front-entry2 .result))
+charge-requires-2 c κs = omega (arith, c .shared-slice-known3 .given (c .before .entry2 .result))
 
-add-t47 : tie.Need-add-t47
-add-t47 c = search needs
+add-t46 : tie.Need-add-t46
+add-t46 c = search needs
 
-cast-t48 : tie.Need-cast-t48
-cast-t48 c = search needs
+cast-t47 : tie.Need-cast-t47
+cast-t47 c = search needs
 
 returns-2 : tie.Need-returns-2
-returns-2 c = sent-on _ _ _ _ _ _ _ _ (c .before .before .before .before .before .before .before .before .before .before .before .before .before .before .before .front-entry .ensures) (c .before .before .before .before .before .before .before .before .before .before .before .before .before .charge .ensures) (c .before .before .before .before .before .before .before .before .before .before .before .before .start-after .ensures) (c .before .before .before .before .before .before .before .class-of .ensures) _ _ (c .before .before .before .before .before .before .if1 .left) (c .before .before .before .before .before .front-entry2 .ensures) (c .before .before .before .charge2 .ensures) (c .if2 .taken)
+returns-2 c = sent-on _ _ _ _ _ _ _ _ (c .before .before .before .before .before .before .before .before .before .before .before .before .before .before .before .entry .ensures .0) (c .before .before .before .before .before .before .before .before .before .before .before .before .before .charge .ensures) (c .before .before .before .before .before .before .before .before .before .before .before .before .onward .ensures) (c .before .before .before .before .before .before .before .class-of .ensures) _ _ (c .before .before .before .before .before .before .if1 .left) (c .before .before .before .before .before .entry2 .ensures .0) (c .before .before .before .charge2 .ensures) (c .if2 .taken)
 
 end-waiting-requires : tie.Need-end-waiting-requires
 end-waiting-requires c κs = (c .before .before .before .before .before .before .before .before .before .before .before .before .before .before .before .before .before .before .before .before .before .before .before .before .pre .inside, (omega (arith, c .before .before .before .before .before .before .before .before .before .before .before .before .before .class-of .ensures, class-le (getD (c .before .before .before .before .before .before .before .before .before .before .before .before .before .before .before .before .before .before .before .before .before .before .before .before .args .shares .now) (c .before .before .before .before .before .before .before .before .before .before .before .before .before .before .before .before .before .before .before .before .before .before .before .before .args .place) 0)), (c .before .before .before .before .before .before .before .before .before .before .before .before .before .before .before .before .before .before .before .before .before .before .before .before .pre .time, rw (c .before .before .before .before .before .before .before .before .before .before .before .before .before .class-of .ensures) (c .before .before .before .before .before .before .before .before .before .before .before .before .before .before .before .before .before .before .before .before .before .before .before .before .pre .tail))))
 
 returns-3 : tie.Need-returns-3
-returns-3 c = sent-waits _ _ _ _ _ _ _ _ (c .before .before .before .before .before .before .before .before .before .before .before .before .before .before .before .before .before .before .before .before .before .before .front-entry .ensures) (c .before .before .before .before .before .before .before .before .before .before .before .before .before .before .before .before .before .before .before .before .charge .ensures) (c .before .before .before .before .before .before .before .before .before .before .before .before .before .before .before .before .before .before .before .start-after .ensures) (c .before .before .before .before .before .before .before .before .before .before .before .before .before .before .class-of .ensures) _ _ (c .before .before .before .before .before .before .before .before .before .before .before .before .before .if1 .left) (c .before .before .before .before .before .before .before .before .before .before .before .before .front-entry2 .ensures) (c .before .before .before .before .before .before .before .before .before .before .charge2 .ensures) (c .before .before .before .before .before .before .before .if2 .left) _ (c .end-waiting .ensures)
+returns-3 c = sent-waits _ _ _ _ _ _ _ _ (c .before .before .before .before .before .before .before .before .before .before .before .before .before .before .before .before .before .before .before .before .before .before .entry .ensures .0) (c .before .before .before .before .before .before .before .before .before .before .before .before .before .before .before .before .before .before .before .before .charge .ensures) (c .before .before .before .before .before .before .before .before .before .before .before .before .before .before .before .before .before .before .before .onward .ensures) (c .before .before .before .before .before .before .before .before .before .before .before .before .before .before .class-of .ensures) _ _ (c .before .before .before .before .before .before .before .before .before .before .before .before .before .if1 .left) (c .before .before .before .before .before .before .before .before .before .before .before .before .entry2 .ensures .0) (c .before .before .before .before .before .before .before .before .before .before .charge2 .ensures) (c .before .before .before .before .before .before .before .if2 .left) _ (c .end-waiting .ensures)
 
 pub send-spec : {M : Type 1} → statement M
 send-spec =
     tie.close
     (tie.spec
+    mul-ring
     element-copy-out-ring
-    front-entry-requires
-    mul-t28
-    shared-slice-read-t30
-    cast-t31
+    entry-requires
+    mul-t25
+    shared-slice-read-t28
+    cast-t30
     charge-requires
-    start-after-requires
+    onward-requires
+    mul-count
     element-copy-out-count
     sub-count
+    mul-starts
     element-write-starts
+    mul-counts
     element-write-counts
-    sub-t31
+    sub-t30
     mul-class-of
     element-copy-out-class-of
     class-of-requires
     cast-k
     end-empty-requires
     returns
-    front-entry-requires-2
-    mul-t28-2
-    shared-slice-read-t30-2
-    cast-t31-2
+    entry-requires-2
+    mul-t25-2
+    shared-slice-read-t28-2
+    cast-t30-2
     charge-requires-2
-    add-t47
-    cast-t48
+    add-t46
+    cast-t47
     returns-2
     end-waiting-requires
     returns-3)

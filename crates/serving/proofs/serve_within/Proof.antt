@@ -1,5 +1,4 @@
-use Rattle.serving.proofs.Cases.{within-stop, within-full, within-long, within-done, can-ring}
-use Rattle.serving.specs.Serving.{frontEntry}
+use Rattle.serving.proofs.Cases.{within-stop, within-full, within-long, within-done, can-read}
 use native.Mathlib.Omega.{arith}
 use mathlib.Core.Path.{sym, _∙_}
 use borrow.Author.Needs.{needs}
@@ -24,31 +23,32 @@ stay-requires-2 c κs = search needs
 returns : tie.Need-returns
 returns c = within-full _ _ _ _ _ _ _ _ (sym (c .before .before .before .before .before .choose .ensures) ∙ c .before .before .before .chosen2 .given .1) _ (c .before .if1 .taken) (c .stay2 .ensures)
 
-element-copy-out-front-entry : tie.Need-element-copy-out-front-entry
-element-copy-out-front-entry c = (can-ring _ _ _ _ _ _ (c .before .before .before .before .before .before .before .pre .enacts _ _ (sym (c .before .before .before .before .choose .ensures) ∙ c .before .before .chosen2 .given .1))) .0
+mul-entry : tie.Need-mul-entry
+mul-entry c = let h = (can-read _ _ _ _ _ _ (c .before .before .before .before .before .before .before .pre .enacts _ _ (sym (c .before .before .before .before .choose .ensures) ∙ c .before .before .chosen2 .given .1))) .0 in search needs
 
-front-entry-requires : tie.Need-front-entry-requires
-front-entry-requires c κs = ((can-ring _ _ _ _ _ _ (c .before .before .before .before .before .before .before .before .pre .enacts _ _ (sym (c .before .before .before .before .before .choose .ensures) ∙ c .before .before .before .chosen2 .given .1))) .0, (can-ring _ _ _ _ _ _ (c .before .before .before .before .before .before .before .before .pre .enacts _ _ (sym (c .before .before .before .before .before .choose .ensures) ∙ c .before .before .before .chosen2 .given .1))) .1)
+element-copy-out-entry : tie.Need-element-copy-out-entry
+element-copy-out-entry c = (can-read _ _ _ _ _ _ (c .before .before .before .before .before .before .before .pre .enacts _ _ (sym (c .before .before .before .before .choose .ensures) ∙ c .before .before .chosen2 .given .1))) .0
 
-mul-t33 : tie.Need-mul-t33
-unfolding frontEntry
-mul-t33 c = let w = (can-ring _ _ _ _ _ _ (c .before .before .before .before .before .before .before .before .before .pre .enacts _ _ (sym (c .before .before .before .before .before .before .choose .ensures) ∙ c .before .before .before .before .chosen2 .given .1))) in omega (arith, c .front-entry .ensures, w .0, w .1, w .2)
+entry-requires : tie.Need-entry-requires
+entry-requires c κs = (can-read _ _ _ _ _ _ (c .before .before .before .before .before .before .before .before .pre .enacts _ _ (sym (c .before .before .before .before .before .choose .ensures) ∙ c .before .before .before .chosen2 .given .1))) .0
 
-shared-slice-read-t35 : tie.Need-shared-slice-read-t35
-unfolding frontEntry
-shared-slice-read-t35 c = let w = (can-ring _ _ _ _ _ _ (c .before .before .before .before .before .before .before .before .before .before .pre .enacts _ _ (sym (c .before .before .before .before .before .before .before .choose .ensures) ∙ c .before .before .before .before .before .chosen2 .given .1))) in omega (arith, c .before .front-entry .ensures, w .0, w .1, w .2)
+mul-t30 : tie.Need-mul-t30
+mul-t30 c = omega (arith, c .entry .ensures .1)
 
-cast-t36 : tie.Need-cast-t36
-cast-t36 c = omega (arith, c .shared-slice-known2 .given (c .before .front-entry .result))
+shared-slice-read-t33 : tie.Need-shared-slice-read-t33
+shared-slice-read-t33 c = let w = (can-read _ _ _ _ _ _ (c .before .before .before .before .before .before .before .before .before .before .pre .enacts _ _ (sym (c .before .before .before .before .before .before .before .choose .ensures) ∙ c .before .before .before .before .before .chosen2 .given .1))) in omega (arith, c .before .entry .ensures .1, w .1)
+
+cast-t35 : tie.Need-cast-t35
+cast-t35 c = omega (arith, c .shared-slice-known2 .given (c .before .entry .result))
 
 charged-requires : tie.Need-charged-requires
-charged-requires c κs = omega (arith, c .shared-slice-known2 .given (c .before .front-entry .result))
+charged-requires c κs = omega (arith, c .shared-slice-known2 .given (c .before .entry .result))
 
 stay-requires-3 : tie.Need-stay-requires-3
 stay-requires-3 c κs = search needs
 
 returns-2 : tie.Need-returns-2
-returns-2 c = within-long _ _ _ _ _ _ _ _ (sym (c .before .before .before .before .before .before .before .before .before .before .before .before .choose .ensures) ∙ c .before .before .before .before .before .before .before .before .before .before .chosen2 .given .1) _ _ (c .before .before .before .before .before .before .before .before .if1 .left) (c .before .before .before .before .before .before .front-entry .ensures) (c .before .before .before .before .charged .ensures) _ (c .before .if2 .taken) (c .stay3 .ensures)
+returns-2 c = within-long _ _ _ _ _ _ _ _ (sym (c .before .before .before .before .before .before .before .before .before .before .before .before .choose .ensures) ∙ c .before .before .before .before .before .before .before .before .before .before .chosen2 .given .1) _ _ (c .before .before .before .before .before .before .before .before .if1 .left) (c .before .before .before .before .before .before .entry .ensures .0) (c .before .before .before .before .charged .ensures) _ (c .before .if2 .taken) (c .stay3 .ensures)
 
 enact-requires : tie.Need-enact-requires
 enact-requires c κs = c .before .before .before .before .before .before .before .before .before .before .before .before .before .before .before .before .before .before .before .before .before .before .pre .enacts _ _ (sym (c .before .before .before .before .before .before .before .before .before .before .before .before .before .before .before .before .before .before .before .choose .ensures) ∙ c .before .before .before .before .before .before .before .before .before .before .before .before .before .before .before .before .before .chosen2 .given .1)
@@ -57,7 +57,7 @@ returns-3 : tie.Need-returns-3
 returns-3 c = within-stop _ _ _ _ _ _ _ _ (sym (c .before .before .before .before .choose .ensures) ∙ c .before .before .chosen .given .1) (c .stay .ensures)
 
 returns-4 : tie.Need-returns-4
-returns-4 c = within-done _ _ _ _ _ _ _ _ (sym (c .before .before .before .before .before .before .before .before .before .before .before .before .before .before .before .before .before .before .before .before .before .choose .ensures) ∙ c .before .before .before .before .before .before .before .before .before .before .before .before .before .before .before .before .before .before .before .chosen2 .given .1) _ _ (c .before .before .before .before .before .before .before .before .before .before .before .before .before .before .before .before .before .if1 .left) (c .before .before .before .before .before .before .before .before .before .before .before .before .before .before .before .front-entry .ensures) (c .before .before .before .before .before .before .before .before .before .before .before .before .before .charged .ensures) (c .before .before .before .before .before .before .before .before .before .before .if2 .left) _ (c .before .enact .ensures)
+returns-4 c = within-done _ _ _ _ _ _ _ _ (sym (c .before .before .before .before .before .before .before .before .before .before .before .before .before .before .before .before .before .before .before .before .before .choose .ensures) ∙ c .before .before .before .before .before .before .before .before .before .before .before .before .before .before .before .before .before .before .before .chosen2 .given .1) _ _ (c .before .before .before .before .before .before .before .before .before .before .before .before .before .before .before .before .before .if1 .left) (c .before .before .before .before .before .before .before .before .before .before .before .before .before .before .before .entry .ensures .0) (c .before .before .before .before .before .before .before .before .before .before .before .before .before .charged .ensures) (c .before .before .before .before .before .before .before .before .before .before .if2 .left) _ (c .before .enact .ensures)
 
 pub serve-within-spec : {M : Type 1} → statement M
 serve-within-spec =
@@ -69,11 +69,12 @@ serve-within-spec =
     enum-known-chosen-2
     stay-requires-2
     returns
-    element-copy-out-front-entry
-    front-entry-requires
-    mul-t33
-    shared-slice-read-t35
-    cast-t36
+    mul-entry
+    element-copy-out-entry
+    entry-requires
+    mul-t30
+    shared-slice-read-t33
+    cast-t35
     charged-requires
     stay-requires-3
     returns-2

@@ -1,6 +1,6 @@
 use mathlib.Core.Bool.{true}
-use mathlib.Core.Path.{_∙_, _≡_, ap, refl, sym}
-use Prim.Native.Nat.{_-_, _<_, _≤_, ℕ}
+use mathlib.Core.Path.{_∙_, _≡_, ap, sym}
+use Prim.Native.Nat.{_-_, _≤_, ℕ}
 use native.Mathlib.Omega.{arith}
 use lib.ListN.{getD}
 use borrow.Author.Needs.{needs}
@@ -8,39 +8,38 @@ use borrow.Author.Tests.{not-false, not-true}
 use denote.Ref.{now}
 use Rattle.base.proofs.Loops.{all-more, all-none, all-stop}
 use Rattle.base.specs.Tests.{allBelow}
-use Rattle.rules.specs.Board.{at}
-use Rattle.spoilt.specs.Test.{entryOf, laneInRange, lengthInRange}
+use Rattle.lanes.specs.Lanes.{laneEntry}
+use Rattle.spoilt.specs.Test.{laneInRange, lengthInRange}
 use Rattle.spoilt.proofs.lane_in_range.Statement.{statement}
 use Rattle.spoilt.proofs.lane_in_range.Tie as tie
 use Rattle.spoilt.proofs.lane_in_range.Reads as reads
 use Rattle.spoilt.proofs.lane_in_range.Lts as lts
-use Rattle.spoilt.proofs.entry_of.Reads as entry-of-reads
 use Rattle.spoilt.proofs.length_in_range.Reads as length-in-range-reads
 
 abbrev Inv-loop : tie.InvT-loop
-Inv-loop lens largest p start count waiting j₀ j = (j ≤ waiting) × ((waiting ≡ count) × ((waiting < 256) × (allBelow j (λ i. lengthInRange largest (getD lens (entryOf p start i) 0)) ≡ true)))
+Inv-loop lens largest p start count j₀ j = (j ≤ count) × (allBelow j (λ i. lengthInRange largest (getD lens (laneEntry p start i) 0)) ≡ true)
 
 abbrev μ-loop : tie.MeasureT-loop
-μ-loop lens largest p start count waiting j₀ j = waiting - j
+μ-loop lens largest p start count j₀ j = count - j
 
 loop-holds : tie.Need-loop-holds Inv-loop μ-loop
-loop-holds c = (omega arith, (refl, (omega arith, all-none _)))
+loop-holds c = (omega arith, all-none _)
 
-entry-of-requires : tie.Need-entry-of-requires Inv-loop μ-loop
-entry-of-requires c κs = omega (arith, c .before .loop .inv, c .loop-test .taken)
+entry-requires : tie.Need-entry-requires Inv-loop μ-loop
+entry-requires c κs = search needs
 
 mul-length-in-range : tie.Need-mul-length-in-range Inv-loop μ-loop
 mul-length-in-range c = search needs
 
 shared-slice-read-length-in-range : tie.Need-shared-slice-read-length-in-range Inv-loop μ-loop
-shared-slice-read-length-in-range c = omega (arith, c .before .entry-of .ensures .1)
+shared-slice-read-length-in-range c = omega (arith, c .before .entry .ensures .1)
 
 length-in-range-requires : tie.Need-length-in-range-requires Inv-loop μ-loop
 length-in-range-requires c κs = search needs
 
 returns : tie.Need-returns Inv-loop μ-loop
 unfolding laneInRange
-returns c = sym (all-stop _ (c .before .before .before .before .before .before .before .args .count) (c .before .before .before .before .before .loop .j) (c .before .before .before .before .loop-test .taken) (ap (λ (i : ℕ). lengthInRange (c .before .before .before .before .before .before .before .args .largest) (getD (now (c .before .before .before .before .before .before .before .args .lens)) i 0)) (sym (c .before .before .before .entry-of .ensures .0)) ∙ sym (c .before .length-in-range .ensures) ∙ not-true _ (c .if1 .taken)))
+returns c = sym (all-stop _ (c .before .before .before .before .before .before .before .args .count) (c .before .before .before .before .before .loop .j) (c .before .before .before .before .loop-test .taken) (ap (λ (i : ℕ). lengthInRange (c .before .before .before .before .before .before .before .args .largest) (getD (now (c .before .before .before .before .before .before .before .args .lens)) i 0)) (sym (c .before .before .before .entry .ensures .0)) ∙ sym (c .before .length-in-range .ensures) ∙ not-true _ (c .if1 .taken)))
 
 add-j : tie.Need-add-j Inv-loop μ-loop
 add-j c = search needs
@@ -49,11 +48,11 @@ loop-less : tie.Need-loop-less Inv-loop μ-loop
 loop-less c = search needs
 
 loop-again : tie.Need-loop-again Inv-loop μ-loop
-loop-again c = (omega (arith, c .before .before .before .before .loop-test .taken), (refl, (c .before .before .before .before .before .loop .inv .1 .1 .0, all-more _ (c .before .before .before .before .before .loop .j) (c .before .before .before .before .before .loop .inv .1 .1 .1) (ap (λ (i : ℕ). lengthInRange (c .before .before .before .before .before .before .before .args .largest) (getD (now (c .before .before .before .before .before .before .before .args .lens)) i 0)) (sym (c .before .before .before .entry-of .ensures .0)) ∙ sym (c .before .length-in-range .ensures) ∙ not-false _ (c .if1 .left)))))
+loop-again c = (omega (arith, c .before .before .before .before .loop-test .taken), all-more _ (c .before .before .before .before .before .loop .j) (c .before .before .before .before .before .loop .inv .1) (ap (λ (i : ℕ). lengthInRange (c .before .before .before .before .before .before .before .args .largest) (getD (now (c .before .before .before .before .before .before .before .args .lens)) i 0)) (sym (c .before .before .before .entry .ensures .0)) ∙ sym (c .before .length-in-range .ensures) ∙ not-false _ (c .if1 .left)))
 
 returns-2 : tie.Need-returns-2 Inv-loop μ-loop
 unfolding laneInRange
-returns-2 c = let e : c .before .loop .j ≡ c .before .before .before .args .count = omega (arith, c .before .loop .inv, c .loop-test .left) in sym (rw e at (c .before .loop .inv .1 .1 .1))
+returns-2 c = let e : c .before .loop .j ≡ c .before .before .before .args .count = omega (arith, c .before .loop .inv, c .loop-test .left) in sym (rw e at (c .before .loop .inv .1))
 
 pub lane-in-range-spec : {M : Type 1} → statement M
 lane-in-range-spec =
@@ -62,7 +61,7 @@ lane-in-range-spec =
     Inv-loop
     μ-loop
     loop-holds
-    entry-of-requires
+    entry-requires
     mul-length-in-range
     shared-slice-read-length-in-range
     length-in-range-requires

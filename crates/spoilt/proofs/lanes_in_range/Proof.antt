@@ -24,8 +24,14 @@ abbrev μ-loop : tie.MeasureT-loop
 loop-holds : tie.Need-loop-holds Inv-loop μ-loop
 loop-holds c = (omega arith, all-none _)
 
+mul-lane-in-range : tie.Need-mul-lane-in-range Inv-loop μ-loop
+mul-lane-in-range c = search needs
+
 element-copy-out-lane-in-range : tie.Need-element-copy-out-lane-in-range Inv-loop μ-loop
 element-copy-out-lane-in-range c = search needs
+
+mul-lane-in-range-2 : tie.Need-mul-lane-in-range-2 Inv-loop μ-loop
+mul-lane-in-range-2 c = search needs
 
 element-copy-out-lane-in-range-2 : tie.Need-element-copy-out-lane-in-range-2 Inv-loop μ-loop
 element-copy-out-lane-in-range-2 c = search needs
@@ -57,7 +63,9 @@ lanes-in-range-spec =
     Inv-loop
     μ-loop
     loop-holds
+    mul-lane-in-range
     element-copy-out-lane-in-range
+    mul-lane-in-range-2
     element-copy-out-lane-in-range-2
     lane-in-range-requires
     returns

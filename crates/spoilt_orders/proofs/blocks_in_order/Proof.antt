@@ -25,6 +25,9 @@ abbrev μ-loop : tie.MeasureT-loop
 loop-holds : tie.Need-loop-holds Inv-loop μ-loop
 loop-holds c = (omega arith, (omega arith, sym (below-none _)))
 
+mul-in-order : tie.Need-mul-in-order Inv-loop μ-loop
+mul-in-order c = search needs
+
 element-copy-out-in-order : tie.Need-element-copy-out-in-order Inv-loop μ-loop
 element-copy-out-in-order c = search needs
 
@@ -57,6 +60,7 @@ blocks-in-order-spec =
     Inv-loop
     μ-loop
     loop-holds
+    mul-in-order
     element-copy-out-in-order
     in-order-requires
     one-if-requires

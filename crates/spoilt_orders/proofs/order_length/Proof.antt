@@ -46,6 +46,9 @@ mul-block-in-range c = search needs
 element-copy-out-block-in-range : tie.Need-element-copy-out-block-in-range Inv-loop μ-loop
 element-copy-out-block-in-range c = search needs
 
+mul-block-in-range-2 : tie.Need-mul-block-in-range-2 Inv-loop μ-loop
+mul-block-in-range-2 c = search needs
+
 element-copy-out-block-in-range-2 : tie.Need-element-copy-out-block-in-range-2 Inv-loop μ-loop
 element-copy-out-block-in-range-2 c = search needs
 
@@ -88,6 +91,7 @@ order-length-spec =
     element-copy-out-at
     mul-block-in-range
     element-copy-out-block-in-range
+    mul-block-in-range-2
     element-copy-out-block-in-range-2
     block-in-range-requires
     returns-3

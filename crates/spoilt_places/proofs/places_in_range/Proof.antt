@@ -35,20 +35,26 @@ mul-place-in-range-2 c = search needs
 element-copy-out-place-in-range-2 : tie.Need-element-copy-out-place-in-range-2 Inv-loop μ-loop
 element-copy-out-place-in-range-2 c = search needs
 
+mul-place-in-range-3 : tie.Need-mul-place-in-range-3 Inv-loop μ-loop
+mul-place-in-range-3 c = search needs
+
 element-copy-out-place-in-range-3 : tie.Need-element-copy-out-place-in-range-3 Inv-loop μ-loop
 element-copy-out-place-in-range-3 c = search needs
+
+mul-place-in-range-4 : tie.Need-mul-place-in-range-4 Inv-loop μ-loop
+mul-place-in-range-4 c = search needs
 
 element-copy-out-place-in-range-4 : tie.Need-element-copy-out-place-in-range-4 Inv-loop μ-loop
 element-copy-out-place-in-range-4 c = search needs
 
-mul-t26 : tie.Need-mul-t26 Inv-loop μ-loop
-mul-t26 c = search needs
+mul-t28 : tie.Need-mul-t28 Inv-loop μ-loop
+mul-t28 c = search needs
 
-element-copy-out-t29 : tie.Need-element-copy-out-t29 Inv-loop μ-loop
-element-copy-out-t29 c = search needs
+element-copy-out-t31 : tie.Need-element-copy-out-t31 Inv-loop μ-loop
+element-copy-out-t31 c = search needs
 
-mul-place-in-range-3 : tie.Need-mul-place-in-range-3 Inv-loop μ-loop
-mul-place-in-range-3 c = search needs
+mul-place-in-range-5 : tie.Need-mul-place-in-range-5 Inv-loop μ-loop
+mul-place-in-range-5 c = search needs
 
 element-copy-out-place-in-range-5 : tie.Need-element-copy-out-place-in-range-5 Inv-loop μ-loop
 element-copy-out-place-in-range-5 c = search needs
@@ -87,11 +93,13 @@ places-in-range-spec =
     element-copy-out-place-in-range
     mul-place-in-range-2
     element-copy-out-place-in-range-2
-    element-copy-out-place-in-range-3
-    element-copy-out-place-in-range-4
-    mul-t26
-    element-copy-out-t29
     mul-place-in-range-3
+    element-copy-out-place-in-range-3
+    mul-place-in-range-4
+    element-copy-out-place-in-range-4
+    mul-t28
+    element-copy-out-t31
+    mul-place-in-range-5
     element-copy-out-place-in-range-5
     element-copy-out-place-in-range-6
     place-in-range-requires

@@ -1,3 +1,4 @@
+use borrow.Author.Needs.{needs}
 use borrow.Author.Tests.{le-ltb, lt-ltb}
 use Rattle.spoilt_places.specs.Ranges.{ringInRange}
 use Rattle.spoilt_places.proofs.ring_in_range.Statement.{statement}
@@ -5,13 +6,16 @@ use Rattle.spoilt_places.proofs.ring_in_range.Tie as tie
 use Rattle.spoilt_places.proofs.ring_in_range.Reads as reads
 use Rattle.spoilt_places.proofs.ring_in_range.Lts as lts
 
+depth-requires : tie.Need-depth-requires
+depth-requires c κs = search needs
+
 returns : tie.Need-returns
 unfolding ringInRange
-returns c = rw (le-ltb _ _ (c .if1 .taken))
+returns c = rw (← c .before .depth .ensures, le-ltb _ _ (c .if1 .taken))
 
 returns-2 : tie.Need-returns-2
 unfolding ringInRange
-returns-2 c = rw (lt-ltb _ _ (c .if1 .left))
+returns-2 c = rw (← c .before .depth .ensures, lt-ltb _ _ (c .if1 .left))
 
 pub ring-in-range-spec : {M : Type 1} → statement M
-ring-in-range-spec = tie.close (tie.spec returns returns-2)
+ring-in-range-spec = tie.close (tie.spec depth-requires returns returns-2)

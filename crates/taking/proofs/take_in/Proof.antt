@@ -2,16 +2,23 @@ use Prim.Native.Nat.{_≤_}
 use native.Mathlib.Omega.{arith}
 use borrow.Author.Tests.{eq-eqb, ne-eqb}
 use Rattle.units.proofs.Classes.{class-le}
+use Rattle.lanes.proofs.Lanes.{depth-most}
 use Rattle.taking.specs.Taking.{takenAt}
 use borrow.Author.Needs.{needs}
 use Rattle.taking.proofs.take_in.Statement.{statement}
 use Rattle.taking.proofs.take_in.Tie as tie
 
+mul-count : tie.Need-mul-count
+mul-count c = search needs
+
 element-copy-out-count : tie.Need-element-copy-out-count
 element-copy-out-count c = search needs
 
 add-counts : tie.Need-add-counts
-add-counts c = search needs
+add-counts c = omega (arith, depth-most, c .before .pre .room)
+
+mul-counts : tie.Need-mul-counts
+mul-counts c = search needs
 
 element-write-counts : tie.Need-element-write-counts
 element-write-counts c = search needs
@@ -46,8 +53,10 @@ pub take-in-spec : {M : Type 1} → statement M
 take-in-spec =
     tie.close
     (tie.spec
+    mul-count
     element-copy-out-count
     add-counts
+    mul-counts
     element-write-counts
     returns
     mul-class-of
