@@ -1,6 +1,6 @@
 -- A field played by the engine's steps is a field played by the rules.
 use mathlib.Core.Path.{_≡_, refl, sym, ap, subst, _∙_}
-use mathlib.Core.Bool.{true, false, true≢false, false≢true}
+use mathlib.Core.Bool.{false, true≢false}
 use mathlib.Core.Logic.{_⊎_, inl, inr, _≢_}
 use mathlib.Core.List.{List}
 use Prim.Native.Nat.{ℕ, _+_, _≤_, _<_}
@@ -22,8 +22,7 @@ use Rattle.board.specs.Reading.{encode, view}
 use Rattle.board.proofs.Reading.{view-encode}
 use Rattle.board.proofs.Sound.{fit-view}
 use Rattle.log.specs.declared.Event.{Event}
-use Rattle.log.specs.declared.Event.the-variants.{Largest, Open, Close, Rename, Arrive, Serve, Passed}
-use Rattle.log.specs.Format.{inTurn}
+use Rattle.log.specs.declared.Event.the-variants.{Open, Close, Rename, Arrive, Serve, Passed}
 use Rattle.lines.specs.Text.{Line}
 use Rattle.lines.specs.Listing.{openLine, closeLine, nameLine, inLine}
 use Rattle.board.specs.Memory.{takingOf, withTaking, blocksOf, engineOf, withEngine}
@@ -57,10 +56,6 @@ none-sent m t = call-cases m t (Sends m) (record {
   begins = λ r t p on q e. absurd (true≢false e);
 })
 
--- L is not read twice
-pub no-second : (l : ℕ) → inTurn (Largest l) true ≡ true → ⊥
-unfolding inTurn
-no-second l e = absurd (false≢true e)
 
 step-serve : (m : Board.Board) → step m serve! ≡ serve m
 unfolding step

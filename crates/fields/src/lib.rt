@@ -1,10 +1,10 @@
 // One field of a log played: what it says is done on the engine's arrays, and its line is put in front of a buffer. The
 // board is not tested here: whoever goes from field to field tests it once, and each step leaves it good.
 ghost use mathlib.Core.Path.{_≡_};
-ghost use mathlib.Core.Bool.{true};
+ghost use mathlib.Core.Bool.{false};
 ghost use Prim.Native.Nat.{_^_, _<_, _≤_};
 ghost use lib.ListN.{length, getD};
-ghost use Rattle.log.specs.Format.{inTurn};
+ghost use Rattle.log.specs.Format.{isL};
 ghost use Rattle.log.specs.declared.Event.the-variants.{Serve};
 ghost use Rattle.lines.specs.Text.{Line};
 ghost use Rattle.board.specs.Memory.{numbersNow, boardNow};
@@ -166,7 +166,7 @@ pub fn play_field(
         (now heads) (now tails) (now held)
         largest (numbersNow clock active pending slot (left .0)))
         (now ids) (now lens) (sent .0))
-        × ((sent .0 < 2 ^ 63) × (inTurn event true ≡ true)) ⌝ }
+        × ((sent .0 < 2 ^ 63) × (isL event ≡ false)) ⌝ }
     ensures { λ r. ⌜
         (let before = memory
         (boardNow (now (numbers .entry)) (now (shares .entry)) (now (starts .entry)) (now (counts .entry))

@@ -1,5 +1,6 @@
 pub mod Numbers
 pub mod Fields
+pub mod Stages
 pub mod Readings
 pub mod Spellings
 pub mod Worked

@@ -11,9 +11,11 @@ use lib.Dec.{leb, eqb, lit<, lit≤}
 use lib.ListN.{getD, length, take, drop, length-append, length-take, length-drop, take-append-drop}
 use lib.Seq.{getD-at, take-add, drop-drop, take-suc, drop-cons, getD-drop, length-take-le, drop-length}
 use Rattle.base.proofs.Tests.{and-left, and-right, and-both}
+use Rattle.log.specs.declared.Stage.{Stage}
+use Rattle.log.specs.declared.Stage.the-variants.{BeforeL}
 use Rattle.log.specs.declared.Event.{Event}
 use Rattle.log.specs.declared.Event.the-variants.{Largest, Open, Close, Rename, Arrive, Serve, Passed}
-use Rattle.log.specs.Format.{numberAt, tagAt, lengthAt, tagOf, isPassed, lengthOf, rightLength, eventOf, isLong}
+use Rattle.log.specs.Format.{numberAt, tagAt, lengthAt, tagOf, isPassed, lengthOf, rightLength, eventOf, pastL, stageAfter, isLong}
 use Rattle.log.specs.Rows.{End, whole, broken, long, WholeField, only, atEnd, readFrom, readLog, Reads}
 use Rattle.log.specs.Spelling.{bytesOf, Operand, operandsOf, valueOf, widthOf, Fit, fieldOf, valueAt, SaysIf}
 use Rattle.log.specs.Spelling.{Says, AllBytes, Spelt, logOf, AllSay, AllInTurn, withOffsets}
@@ -146,27 +148,31 @@ said-if false e tag value pre rest p h =
 
 -- what is written is read
 pub field-back : FieldBack
-field-back e tag value pre rest begun h t =
+field-back e tag value pre rest stage h t =
     let said = said-if (isPassed e) e tag value pre rest refl h in
     let ends : length pre + length (fieldOf tag value) ≡ length pre + 3 + length value = omega (arith, field-length tag value) in
-    rw ends (made-whole (pre ++ (fieldOf tag value ++ rest)) (length pre) tag (length value) begun e (frame-back tag value pre rest (said .0)) (said .1 .0) (said .1 .1) t)
+    rw ends (made-whole (pre ++ (fieldOf tag value ++ rest)) (length pre) tag (length value) stage e (frame-back tag value pre rest (said .0)) (said .1 .0) (said .1 .1) t)
 
 -- ---- a log that was written is read back, and ends whole
 
-row-back : (xs : List Spelt) (pre : List ℕ) (begun : Bool) → AllSay xs → AllInTurn begun xs → Reads (pre ++ logOf xs) (length pre) begun (withOffsets (length pre) xs) whole
+row-back : (xs : List Spelt) (pre : List ℕ) (stage : Stage) → AllSay xs → AllInTurn stage xs
+    → Reads (pre ++ logOf xs) (length pre) stage (withOffsets (length pre) xs) whole
 unfolding atEnd
-row-back [] pre begun h t = and-both begun _ t (eq-eqb (length pre) (length (pre ++ [])) (omega (arith, length-append pre [])))
-row-back (x ∷ xs) pre begun h t =
-    let on : length (pre ++ fieldOf (x .tag) (x .value)) ≡ length pre + length (fieldOf (x .tag) (x .value)) = length-append pre (fieldOf (x .tag) (x .value)) in
-    let later : Reads ((pre ++ fieldOf (x .tag) (x .value)) ++ logOf xs) (length (pre ++ fieldOf (x .tag) (x .value))) true (withOffsets (length (pre ++ fieldOf (x .tag) (x .value))) xs) whole =
-    row-back xs (pre ++ fieldOf (x .tag) (x .value)) true (h .1) (t .1) in
-    (refl, (field-back (x .event) (x .tag) (x .value) pre (logOf xs) begun (h .0) (t .0), rw (← append-assoc, ← on) later))
+row-back [] pre stage h t =
+    and-both (pastL stage) _ t (eq-eqb (length pre) (length (pre ++ [])) (omega (arith, length-append pre [])))
+row-back (x ∷ xs) pre stage h t =
+    let field = fieldOf (x .tag) (x .value) in
+    let on : length (pre ++ field) ≡ length pre + length field = length-append pre field in
+    let then = stageAfter stage (x .event) in
+    let later : Reads ((pre ++ field) ++ logOf xs) (length (pre ++ field)) then (withOffsets (length (pre ++ field)) xs) whole =
+    row-back xs (pre ++ field) then (h .1) (t .1) in
+    (refl, (field-back (x .event) (x .tag) (x .value) pre (logOf xs) stage (h .0) (t .0), rw (← append-assoc, ← on) later))
 
 pub log-back : LogBack
 unfolding isLong
 log-back xs h t l = sym (one-reading (logOf xs) (record { fields = withOffsets 0 xs; ends = whole }) (record {
   over = λ o. absurd (omega (arith, ltb-true 32768 (length (logOf xs)) o));
-  row = λ o. row-back xs [] false h t;
+  row = λ o. row-back xs [] BeforeL h t;
 }))
 
 -- ---- what is read was written
@@ -247,28 +253,28 @@ field-splits s at next b l e =
 
 -- a whole field is one that was written
 pub field-only : FieldOnly
-field-only s at begun e next b h =
-    let w = whole-is s at begun e next h in
+field-only s at stage e next b h =
+    let w = whole-is s at stage e next h in
     let l = framed-fits s at (w .framed) in
     let f = byte-at s b in
     ((rw (← w .says) (says-if (leb 128 (tagAt s at)) s (at + 3) (tagAt s at) (lengthAt s at) f refl (w .right) l (number-lt s (at + 1) 2 f) (f at)), w .turn), field-splits s at next f l (w .ends))
 
 -- and a log that ends whole is one that was written
-row-only : (s : List ℕ) (at : ℕ) (begun : Bool) (fs : List WholeField) (e : End) → AllBytes s → Reads s at begun fs e → e ≡ whole
-    → (xs : List Spelt) × (AllSay xs × (AllInTurn begun xs × (drop at s ≡ logOf xs)))
+row-only : (s : List ℕ) (at : ℕ) (stage : Stage) (fs : List WholeField) (e : End) → AllBytes s → Reads s at stage fs e → e ≡ whole
+    → (xs : List Spelt) × (AllSay xs × (AllInTurn stage xs × (drop at s ≡ logOf xs)))
 unfolding atEnd
-row-only s at begun [] whole b r q = ([], (tt, (and-left begun _ r, ap (λ (n : ℕ). drop n s) (eqb-true at (length s) (and-right begun _ r)) ∙ drop-length s)))
-row-only s at begun [] (broken n) b r q = absurd (let z : _≡_ {A = ℕ} 0 1 = cc in omega arith)
-row-only s at begun [] long b r q = absurd r
-row-only s at begun (f ∷ fs) e b r q =
-    let o = field-only s at begun (f .event) (f .next) b (r .1 .0) in
-    let w = row-only s (f .next) true fs e b (r .1 .1) q in
+row-only s at stage [] whole b r q = ([], (tt, (and-left (pastL stage) _ r, ap (λ (n : ℕ). drop n s) (eqb-true at (length s) (and-right (pastL stage) _ r)) ∙ drop-length s)))
+row-only s at stage [] (broken n) b r q = absurd (let z : _≡_ {A = ℕ} 0 1 = cc in omega arith)
+row-only s at stage [] long b r q = absurd r
+row-only s at stage (f ∷ fs) e b r q =
+    let o = field-only s at stage (f .event) (f .next) b (r .1 .0) in
+    let w = row-only s (f .next) (stageAfter stage (f .event)) fs e b (r .1 .1) q in
     (record { event = f .event; tag = tagAt s at; value = valueAt s at } ∷ w .0, ((o .0 .0, w .1 .0), ((o .0 .1, w .1 .1 .0), o .1 ∙ ap (λ (d : List ℕ). fieldOf (tagAt s at) (valueAt s at) ++ d) (w .1 .1 .1))))
 
 pub log-only : LogOnly
 unfolding readLog
 log-only s b h = go (isLong (length s)) refl h
   where
-    go : (t : Bool) → isLong (length s) ≡ t → cond t (only long) (readFrom s 0 false) .ends ≡ whole → (xs : List Spelt) × (AllSay xs × (AllInTurn false xs × (s ≡ logOf xs)))
+    go : (t : Bool) → isLong (length s) ≡ t → cond t (only long) (readFrom s 0 BeforeL) .ends ≡ whole → (xs : List Spelt) × (AllSay xs × (AllInTurn BeforeL xs × (s ≡ logOf xs)))
     go true p h = absurd (let z : _≡_ {A = ℕ} 0 1 = cc in omega arith)
-    go false p h = row-only s 0 false (readLog s .fields) (readLog s .ends) b (has-reading s .row p) (rw p h)
+    go false p h = row-only s 0 BeforeL (readLog s .fields) (readLog s .ends) b (has-reading s .row p) (rw p h)

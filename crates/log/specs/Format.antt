@@ -1,5 +1,5 @@
 -- The log's format: one field.
-use mathlib.Core.Bool.{Bool, not, cond, _&&_, _||_}
+use mathlib.Core.Bool.{Bool, true, false, not, cond, _&&_, _||_}
 use mathlib.Core.List.{List, [], _∷_}
 use Prim.Native.Nat.{ℕ, zero, suc, _+_, _-_, _*_}
 use lib.Dec.{ltb, leb, eqb}
@@ -7,6 +7,8 @@ use lib.ListN.{getD, length}
 use Rattle.base.specs.Tests.{every}
 use Rattle.log.specs.declared.Event.{Event}
 use Rattle.log.specs.declared.Event.the-variants.{Largest, Open, Close, Rename, Arrive, Serve, Passed}
+use Rattle.log.specs.declared.Stage.{Stage}
+use Rattle.log.specs.declared.Stage.the-variants.{BeforeL, AfterL}
 use Rattle.log.specs.declared.Field.{Field}
 use Rattle.log.specs.declared.Field.the-variants.{Whole, Broken}
 use Rattle.log.specs.declared.Frame.{Frame}
@@ -73,25 +75,39 @@ isL e = eqb (tagOf e) 6
 abbrev pub isPassed : Event → Bool
 isPassed e = leb 128 (tagOf e)
 
--- L comes first and once, 64 to 2,048; all else comes after it.
-unfoldable pub inTurn : Event → Bool → Bool
-inTurn (Largest l) begun = not begun && (leb 64 l && leb l 2048)
-inTurn (Open block share) begun = begun
-inTurn (Close block) begun = begun
-inTurn (Rename old new) begun = begun
-inTurn (Arrive block number length) begun = begun
-inTurn Serve begun = begun
-inTurn Passed begun = begun
+-- L has been read.
+abbrev pub pastL : Stage → Bool
+pastL BeforeL = false
+pastL AfterL = true
 
--- A field is whole, or it ends the reading: a cut field, another tag or a wrong length, a missing or second L or one outside its range.
-unfoldable pub isWhole : List ℕ → ℕ → Bool → Bool
-isWhole s at begun =
-    every (isFramed s at ∷ rightLength (tagAt s at) (lengthAt s at) ∷ inTurn (eventOf s (tagAt s at) (at + 3)) begun ∷ [])
+-- The stage after a whole field: only L leads to another.
+unfoldable pub stageAfter : Stage → Event → Stage
+stageAfter stage e = cond (isL e) AfterL stage
+
+-- L comes first and once, 64 to 2,048; all else comes after it.
+unfoldable pub inTurn : Event → Stage → Bool
+inTurn (Largest l) stage = not (pastL stage) && (leb 64 l && leb l 2048)
+inTurn (Open block share) stage = pastL stage
+inTurn (Close block) stage = pastL stage
+inTurn (Rename old new) stage = pastL stage
+inTurn (Arrive block number length) stage = pastL stage
+inTurn Serve stage = pastL stage
+inTurn Passed stage = pastL stage
+
+-- A field is whole, or it ends the reading: a cut field, another tag or a wrong length, a missing or second L or one
+-- outside its range.
+unfoldable pub isWhole : List ℕ → ℕ → Stage → Bool
+isWhole s at stage =
+    every
+    (isFramed s at
+    ∷ rightLength (tagAt s at) (lengthAt s at)
+    ∷ inTurn (eventOf s (tagAt s at) (at + 3)) stage
+    ∷ [])
 
 -- The broken offset is that of the field's first byte.
-unfoldable pub fieldAt : List ℕ → ℕ → Bool → Field
-fieldAt s at begun =
-    cond (isWhole s at begun) (Whole (eventOf s (tagAt s at) (at + 3)) (at + 3 + lengthAt s at)) (Broken at)
+unfoldable pub fieldAt : List ℕ → ℕ → Stage → Field
+fieldAt s at stage =
+    cond (isWhole s at stage) (Whole (eventOf s (tagAt s at) (at + 3)) (at + 3 + lengthAt s at)) (Broken at)
 
 -- A log over 32,768 bytes gives the one line `long`.
 unfoldable pub isLong : ℕ → Bool

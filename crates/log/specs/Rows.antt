@@ -7,9 +7,11 @@ use lib.Dec.{eqb}
 use lib.ListN.{length}
 use Rattle.log.specs.declared.Event.{Event}
 use Rattle.log.specs.declared.Event.the-variants.{Largest}
+use Rattle.log.specs.declared.Stage.{Stage}
+use Rattle.log.specs.declared.Stage.the-variants.{BeforeL}
 use Rattle.log.specs.declared.Field.{Field}
 use Rattle.log.specs.declared.Field.the-variants.{Whole, Broken}
-use Rattle.log.specs.Format.{isL, fieldAt, isLong}
+use Rattle.log.specs.Format.{isL, pastL, stageAfter, fieldAt, isLong}
 
 -- A log ends whole, or at a broken field's offset, or it is long.
 pub data End : Type 0 where
@@ -34,36 +36,41 @@ abbrev pub andThen : WholeField → Reading → Reading
 andThen f r = record { fields = f ∷ r .fields; ends = r .ends }
 
 -- The log ends whole where its last field ends, and only after L: an empty log has no L.
-unfoldable pub atEnd : List ℕ → ℕ → Bool → Bool
-atEnd s at begun = begun && eqb at (length s)
+unfoldable pub atEnd : List ℕ → ℕ → Stage → Bool
+atEnd s at stage = pastL stage && eqb at (length s)
 
--- A whole field is followed by the reading from its end; L has then been read. Any other field ends the reading.
-abbrev pub follow : (ℕ → Reading) → ℕ → Field → Reading
-follow rest at (Whole e next) = andThen (record { offset = at; event = e; next = next }) (rest next)
-follow rest at (Broken n) = only (broken n)
+-- A whole field is followed by the reading from its end, in the stage after it. Any other field ends the reading.
+abbrev pub follow : (ℕ → Stage → Reading) → ℕ → Stage → Field → Reading
+follow rest at stage (Whole e next) =
+    andThen (record { offset = at; event = e; next = next }) (rest next (stageAfter stage e))
+follow rest at stage (Broken n) = only (broken n)
 
 -- The reading from an offset on, of at most n fields and the end.
-unfoldable pub readUpTo : ℕ → List ℕ → ℕ → Bool → Reading
-readUpTo zero s at begun = only (broken at)
-readUpTo (suc n) s at begun = cond (atEnd s at begun) (only whole) (follow (λ next. readUpTo n s next true) at (fieldAt s at begun))
+unfoldable pub readUpTo : ℕ → List ℕ → ℕ → Stage → Reading
+readUpTo zero s at stage = only (broken at)
+readUpTo (suc n) s at stage =
+    cond (atEnd s at stage) (only whole) (follow (readUpTo n s) at stage (fieldAt s at stage))
 
 -- A log has fewer fields than bytes.
-unfoldable pub readFrom : List ℕ → ℕ → Bool → Reading
-readFrom s at begun = readUpTo (suc (length s)) s at begun
+unfoldable pub readFrom : List ℕ → ℕ → Stage → Reading
+readFrom s at stage = readUpTo (suc (length s)) s at stage
 
 unfoldable pub readLog : List ℕ → Reading
-readLog s = cond (isLong (length s)) (only long) (readFrom s 0 false)
+readLog s = cond (isLong (length s)) (only long) (readFrom s 0 BeforeL)
 
 -- The same without a count, as what holds of a reading: these fields with this end are the log's from an offset on.
-abbrev pub Reads : List ℕ → ℕ → Bool → List WholeField → End → Type 0
-Reads s at begun [] whole = atEnd s at begun ≡ true
-Reads s at begun [] (broken n) = (atEnd s at begun ≡ false) × (fieldAt s at begun ≡ Broken n)
-Reads s at begun [] long = ⊥
-Reads s at begun (f ∷ fs) e = (f .offset ≡ at) × ((fieldAt s at begun ≡ Whole (f .event) (f .next)) × Reads s (f .next) true fs e)
+abbrev pub Reads : List ℕ → ℕ → Stage → List WholeField → End → Type 0
+Reads s at stage [] whole = atEnd s at stage ≡ true
+Reads s at stage [] (broken n) = (atEnd s at stage ≡ false) × (fieldAt s at stage ≡ Broken n)
+Reads s at stage [] long = ⊥
+Reads s at stage (f ∷ fs) e =
+    (f .offset ≡ at)
+    × ((fieldAt s at stage ≡ Whole (f .event) (f .next))
+    × Reads s (f .next) (stageAfter stage (f .event)) fs e)
 
 pub record IsReading (s : List ℕ) (r : Reading) : Type 0 where
   pub over : isLong (length s) ≡ true → r ≡ only long
-  pub row : isLong (length s) ≡ false → Reads s 0 false (r .fields) (r .ends)
+  pub row : isLong (length s) ≡ false → Reads s 0 BeforeL (r .fields) (r .ends)
 
 -- Each field begins where the one before ended, and has bytes of its own.
 abbrev pub InRow : ℕ → List WholeField → Type 0
@@ -75,10 +82,10 @@ abbrev pub endOf : ℕ → List WholeField → ℕ
 endOf at [] = at
 endOf at (f ∷ fs) = endOf (f .next) fs
 
--- L has been read after these fields.
-abbrev pub begunAfter : Bool → List WholeField → Bool
-begunAfter begun [] = begun
-begunAfter begun (f ∷ fs) = true
+-- The stage after these fields.
+abbrev pub stageOf : Stage → List WholeField → Stage
+stageOf stage [] = stage
+stageOf stage (f ∷ fs) = stageOf (stageAfter stage (f .event)) fs
 
 -- None of the fields is L.
 abbrev pub NoL : List WholeField → Type 0
@@ -90,12 +97,13 @@ abbrev pub LFirst : List WholeField → Type 0
 LFirst [] = Unit {0}
 LFirst (f ∷ fs) = ((l : ℕ) × ((f .event ≡ Largest l) × ((64 ≤ l) × (l ≤ 2048)))) × NoL fs
 
--- What the reading of a log that is not long is like. It ends whole exactly where its last field ends at the log's end, and broken at the
--- offset of the first field that is not whole.
+-- What the reading of a log that is not long is like. It ends whole exactly where its last field ends at the log's end,
+-- and broken at the offset of the first field that is not whole.
 pub record RowOf (s : List ℕ) (r : Reading) : Type 0 where
   pub rises : InRow 0 (r .fields)
   pub first : LFirst (r .fields)
-  pub ended : r .ends ≡ whole → (begunAfter false (r .fields) ≡ true) × (endOf 0 (r .fields) ≡ length s)
-  pub reached : begunAfter false (r .fields) ≡ true → endOf 0 (r .fields) ≡ length s → r .ends ≡ whole
-  pub stopped : (n : ℕ) → r .ends ≡ broken n → (n ≡ endOf 0 (r .fields)) × (fieldAt s n (begunAfter false (r .fields)) ≡ Broken n)
+  pub ended : r .ends ≡ whole → (pastL (stageOf BeforeL (r .fields)) ≡ true) × (endOf 0 (r .fields) ≡ length s)
+  pub reached : pastL (stageOf BeforeL (r .fields)) ≡ true → endOf 0 (r .fields) ≡ length s → r .ends ≡ whole
+  pub stopped : (n : ℕ) → r .ends ≡ broken n
+      → (n ≡ endOf 0 (r .fields)) × (fieldAt s n (stageOf BeforeL (r .fields)) ≡ Broken n)
   pub short : r .ends ≡ long → ⊥

@@ -4,8 +4,9 @@ use mathlib.Core.Bool.{Bool, true, false}
 use mathlib.Core.List.{List, [], _∷_, _++_}
 use Prim.Native.Nat.{ℕ, zero, suc, _+_, _/_, _%_, _^_, _≤_, _<_}
 use lib.ListN.{length, take, drop}
-use Rattle.log.specs.Format.{lengthAt, tagOf, isPassed, inTurn}
+use Rattle.log.specs.Format.{lengthAt, tagOf, isPassed, pastL, stageAfter, inTurn}
 use Rattle.log.specs.Rows.{WholeField}
+use Rattle.log.specs.declared.Stage.{Stage}
 use Rattle.log.specs.declared.Event.{Event}
 use Rattle.log.specs.declared.Event.the-variants.{Largest, Open, Close, Rename, Arrive, Serve, Passed}
 
@@ -83,9 +84,9 @@ AllSay [] = Unit {0}
 AllSay (x ∷ xs) = Says (x .event) (x .tag) (x .value) × AllSay xs
 
 -- L comes first and once.
-abbrev pub AllInTurn : Bool → List Spelt → Type 0
-AllInTurn begun [] = begun ≡ true
-AllInTurn begun (x ∷ xs) = (inTurn (x .event) begun ≡ true) × AllInTurn true xs
+abbrev pub AllInTurn : Stage → List Spelt → Type 0
+AllInTurn stage [] = pastL stage ≡ true
+AllInTurn stage (x ∷ xs) = (inTurn (x .event) stage ≡ true) × AllInTurn (stageAfter stage (x .event)) xs
 
 -- The fields with their offsets, from an offset on.
 abbrev pub withOffsets : ℕ → List Spelt → List WholeField

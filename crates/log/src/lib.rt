@@ -2,7 +2,7 @@
 ghost use mathlib.Core.Path.{_≡_};
 ghost use Prim.Native.Nat.{_+_, _-_, _<_, _≤_};
 ghost use lib.ListN.{length};
-ghost use Rattle.log.specs.Format.{numberAt, lengthOf, rightLength, frameAt, eventOf, inTurn, fieldAt, isLong};
+ghost use Rattle.log.specs.Format.{numberAt, lengthOf, rightLength, frameAt, eventOf, pastL, stageAfter, inTurn, fieldAt, isLong};
 
 mod tags;
 
@@ -23,6 +23,12 @@ pub enum Event {
     Arrive(u32, u32, u16),
     Serve,
     Passed,
+}
+
+// How far a log has been read: L has not been read, or it has.
+pub enum Stage {
+    BeforeL,
+    AfterL,
 }
 
 // A field is whole, with the offset after it, or it ends the reading at its own offset.
@@ -137,22 +143,43 @@ fn event_at(log: &[u8], tag: u8, at: usize) -> Event
     }
 }
 
-// L comes first and once, in its range, and nothing else before it.
-fn in_turn(event: Event, begun: bool) -> bool
-    ensures { λ r. ⌜ r ≡ inTurn event begun ⌝ }
+// Whether L has been read.
+pub fn past_l(stage: Stage) -> bool
+    ensures { λ r. ⌜ r ≡ pastL stage ⌝ }
 {
-    let Event::Largest(largest) = event else {
-        return begun;
+    match stage {
+        Stage::BeforeL => false,
+        Stage::AfterL => true,
+    }
+}
+
+// The stage after a whole field: only L leads to another.
+pub fn stage_after(stage: Stage, event: Event) -> Stage
+    ensures { λ r. ⌜ r ≡ stageAfter stage event ⌝ }
+{
+    let Event::Largest(_) = event else {
+        return stage;
     };
-    if begun {
+    Stage::AfterL
+}
+
+// L comes first and once, in its range, and nothing else before it.
+fn in_turn(event: Event, stage: Stage) -> bool
+    ensures { λ r. ⌜ r ≡ inTurn event stage ⌝ }
+{
+    let past = past_l(stage);
+    let Event::Largest(largest) = event else {
+        return past;
+    };
+    if past {
         return false;
     }
     LEAST_LARGEST <= largest && largest <= GREATEST_LARGEST
 }
 
-// The field at an offset; begun says that L has been read.
-pub fn field_at(log: &[u8], at: usize, begun: bool) -> Field
-    ensures { λ r. ⌜ r ≡ fieldAt (now (log .entry)) at begun ⌝ }
+// The field at an offset, in a stage.
+pub fn field_at(log: &[u8], at: usize, stage: Stage) -> Field
+    ensures { λ r. ⌜ r ≡ fieldAt (now (log .entry)) at stage ⌝ }
 {
     let Frame::Framed(tag, n) = frame_at(log, at) else {
         return Field::Broken(at);
@@ -163,7 +190,7 @@ pub fn field_at(log: &[u8], at: usize, begun: bool) -> Field
     let value = at + HEADER;
     let next = value + n;
     let event = event_at(log, tag, value);
-    if in_turn(event, begun) {
+    if in_turn(event, stage) {
         return Field::Whole(event, next);
     }
     Field::Broken(at)

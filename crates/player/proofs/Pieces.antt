@@ -6,7 +6,7 @@ use mathlib.Core.List.{List, [], _∷_, _++_, append-assoc, append-nil}
 use Prim.Native.Nat.{ℕ, _+_, _-_, _/_, _^_, _≤_, _<_}
 use native.Mathlib.Omega.{arith}
 use native.Mathlib.Decide.{ℕ-discrete}
-use lib.Dec.{ltb, leb}
+use lib.Dec.{ltb, leb, eqb}
 use lib.ListN.{length, take}
 use borrow.Author.Tests.{ne-eqb, le-ltb, ltb-true}
 use Rattle.base.proofs.Numbers.{false-lt}
@@ -15,16 +15,19 @@ use Rattle.rules.specs.Board.{Place, fresh}
 use Rattle.rules.specs.Calls.{wrongTables, make}
 use Rattle.board.specs.declared.Board as struct
 use Rattle.board.specs.Reading.{encode, view, isSound}
-use types.Run.{OneOf, miss}
+use types.Run.{OneOf}
 use denote.Enum.Declared.{tagOf}
 use Rattle.log.proofs.Event.{the-type}
+use Rattle.log.specs.declared.Stage.{Stage}
+use Rattle.log.specs.declared.Stage.the-variants.{BeforeL}
 use Rattle.log.specs.declared.Event.{Event}
 use Rattle.log.specs.declared.Event.the-variants.{Largest}
 use Rattle.log.specs.declared.Field.the-variants.{Whole, Broken}
-use Rattle.log.specs.Format.{inTurn, isLong, fieldAt}
+use Rattle.log.specs.Format.{isL, pastL, stageAfter, inTurn, isLong, fieldAt}
 use Rattle.log.specs.Rows.{atEnd}
 use Rattle.log.proofs.Fields.{whole-is, whole-next, broken-at}
-use Rattle.log.proofs.Readings.{unbegun, turn-first}
+use Rattle.log.proofs.Stages.{later, no-l-by-place, turn-first, past-after}
+use Rattle.log.proofs.Readings.{before-all}
 use Rattle.lines.specs.Text.{Written, Line}
 use Rattle.lines.specs.Listing.{endLine, brokenLine, longLine}
 use Rattle.lines.proofs.Texts.{none, then, from-front}
@@ -48,23 +51,23 @@ use Rattle.player.specs.Pieces.{PiecesListing, PiecesFew}
 
 -- ---- The code, test by test
 module _ (len : ℕ) (s : State) (ids lens : List ℕ) (a : length ids ≡ 2048) (d : length lens ≡ 2048) where
-  tables-right : pieceCode len s ids lens ≡ cond (s .begun) (cond (unfit len s ids lens) 2 0) 0
+  tables-right : pieceCode len s ids lens ≡ cond (pastL (s .stage)) (cond (unfit len s ids lens) 2 0) 0
   unfolding pieceCode
-  tables-right = ap (λ (t : Bool). cond t 3 (cond (s .begun) (cond (unfit len s ids lens) 2 0) 0)) (none-wrong (length ids) (length lens) a d)
+  tables-right = ap (λ (t : Bool). cond t 3 (cond (pastL (s .stage)) (cond (unfit len s ids lens) 2 0) 0)) (none-wrong (length ids) (length lens) a d)
 
-  pub code-unbegun : s .begun ≡ false → 0 ≡ pieceCode len s ids lens
-  code-unbegun e = sym (tables-right ∙ ap (λ (t : Bool). cond t (cond (unfit len s ids lens) 2 0) 0) e)
+  pub code-before : pastL (s .stage) ≡ false → 0 ≡ pieceCode len s ids lens
+  code-before e = sym (tables-right ∙ ap (λ (t : Bool). cond t (cond (unfit len s ids lens) 2 0) 0) e)
 
-  module _ (b : s .begun ≡ true) where
-    begun-code : pieceCode len s ids lens ≡ cond (unfit len s ids lens) 2 0
-    begun-code = tables-right ∙ ap (λ (t : Bool). cond t (cond (unfit len s ids lens) 2 0) 0) b
+  module _ (b : pastL (s .stage) ≡ true) where
+    past-code : pieceCode len s ids lens ≡ cond (unfit len s ids lens) 2 0
+    past-code = tables-right ∙ ap (λ (t : Bool). cond t (cond (unfit len s ids lens) 2 0) 0) b
 
     pub code-long : isLong len ≡ true → 2 ≡ pieceCode len s ids lens
-    code-long e = sym (begun-code ∙ ap (λ (t : Bool). cond (t || (ltb (s .at) (s .sent .0 / 65536) || not (isSound (s .board) ids lens))) 2 0) e)
+    code-long e = sym (past-code ∙ ap (λ (t : Bool). cond (t || (ltb (s .at) (s .sent .0 / 65536) || not (isSound (s .board) ids lens))) 2 0) e)
 
     module _ (short : isLong len ≡ false) where
       short-code : pieceCode len s ids lens ≡ cond (ltb (s .at) (s .sent .0 / 65536) || not (isSound (s .board) ids lens)) 2 0
-      short-code = begun-code ∙ ap (λ (t : Bool). cond (t || (ltb (s .at) (s .sent .0 / 65536) || not (isSound (s .board) ids lens))) 2 0) short
+      short-code = past-code ∙ ap (λ (t : Bool). cond (t || (ltb (s .at) (s .sent .0 / 65536) || not (isSound (s .board) ids lens))) 2 0) short
 
       pub code-bytes : ltb (s .at) (s .sent .0 / 65536) ≡ true → 2 ≡ pieceCode len s ids lens
       code-bytes e = sym (short-code ∙ ap (λ (t : Bool). cond (t || not (isSound (s .board) ids lens)) 2 0) e)
@@ -80,6 +83,17 @@ module _ (len : ℕ) (s : State) (ids lens : List ℕ) (a : length ids ≡ 2048)
       pub code-early : ltb (s .at) (s .sent .0 / 65536) ≡ false → earlyCode (s .board) ids lens ≡ pieceCode len s ids lens
       unfolding earlyCode
       code-early e = ap (λ (t : Bool). cond t 3 (cond (isSound (s .board) ids lens) 0 2)) (none-wrong (length ids) (length lens) a d) ∙ code-board e (isSound (s .board) ids lens) refl
+
+-- ---- A state after L
+
+module _ (s : State) (past : pastL (s .stage) ≡ true) where
+  pub read-is : readTo s ≡ s .at
+  read-is = ap (λ (t : Bool). cond t (s .at) 0) past
+
+  pub left-is : (log ids lens : List ℕ)
+      → restOf log s ids lens ≡ listingFrom (reads (memory (s .board) ids lens (s .sent .0))) log (s .at) (s .stage)
+  unfolding restOf
+  left-is log ids lens = ap (λ (t : Bool). cond t (listingFrom (reads (memory (s .board) ids lens (s .sent .0))) log (s .at) (s .stage)) (listingOf log)) past
 
 -- ---- A piece that ends the listing
 
@@ -100,24 +114,26 @@ module _ (log : List ℕ) (s : State) (ids lens out : List ℕ) (used : ℕ) (wh
 
 -- ---- A piece under way: what is written so far, and the listing of what follows, is what was left at its beginning
 
-pub record UnderWay (log whole : List ℕ) (from : ℕ) (out₀ : List ℕ) (s : Memory) (at used : ℕ) (out : List ℕ) : Type 0 where
+pub record UnderWay (log whole : List ℕ) (from : ℕ) (out₀ : List ℕ) (s : Memory) (stage : Stage) (at used : ℕ) (out : List ℕ) : Type 0 where
   pub good : KnownMemory s
+  pub past : pastL stage ≡ true
   pub text : List ℕ
   pub written : Written out₀ 0 text used out
-  pub joined : text ++ listingFrom (reads s) log at true ≡ whole
+  pub joined : text ++ listingFrom (reads s) log at stage ≡ whole
   pub fits : used ≤ length out₀
   pub same : length out ≡ length out₀
   pub few : s .sent / 65536 ≤ at
   pub moved : ((from < at) × (at ≤ length log)) ⊎ ((from ≡ at) × (used ≡ 0))
 
-pub under-first : (log : List ℕ) (s : Memory) (at : ℕ) (out : List ℕ) → KnownMemory s → s .sent / 65536 ≤ at → UnderWay log (listingFrom (reads s) log at true) at out s at 0 out
-under-first log s at out k few! = record { good = k; text = []; written = none out 0; joined = refl; fits = omega arith; same = refl; few = few!; moved = inr (refl, refl) }
+pub under-first : (log : List ℕ) (s : Memory) (stage : Stage) (at : ℕ) (out : List ℕ) → KnownMemory s → pastL stage ≡ true → s .sent / 65536 ≤ at
+    → UnderWay log (listingFrom (reads s) log at stage) at out s stage at 0 out
+under-first log s stage at out k past! few! = record { good = k; past = past!; text = []; written = none out 0; joined = refl; fits = omega arith; same = refl; few = few!; moved = inr (refl, refl) }
 
 -- the front of a buffer that has a line is as long as the line says
 line-count : {before line after : List ℕ} {count : ℕ} → Line before line count after → length (take count after) ≡ count
 line-count l = ap length (l .text) ∙ sym (l .counts)
 
-module _ (log whole : List ℕ) (from : ℕ) (out₀ : List ℕ) (s : Memory) (at used : ℕ) (out : List ℕ) (u : UnderWay log whole from out₀ s at used out) where
+module _ (log whole : List ℕ) (from : ℕ) (out₀ : List ℕ) (s : Memory) (stage : Stage) (at used : ℕ) (out : List ℕ) (u : UnderWay log whole from out₀ s stage at used out) where
   pub under-room : 64 ≤ length out - used → used + 64 ≤ length out
   under-room h = omega (arith, u .fits, u .same)
 
@@ -125,9 +141,9 @@ module _ (log whole : List ℕ) (from : ℕ) (out₀ : List ℕ) (s : Memory) (a
   under-fits h count few = omega (arith, under-room h)
 
   -- the sum of bytes is far below its limit while the log goes on
-  pub under-small : (e : Event) (next : ℕ) → fieldAt log at true ≡ Whole e next → isLong (length log) ≡ false → s .sent < 2 ^ 63
+  pub under-small : (e : Event) (next : ℕ) → fieldAt log at stage ≡ Whole e next → isLong (length log) ≡ false → s .sent < 2 ^ 63
   unfolding isLong
-  under-small e next f h = omega (arith, u .few, whole-next log at true e next f, false-lt 32769 (length log) h)
+  under-small e next f h = omega (arith, u .few, whole-next log at stage e next f, false-lt 32769 (length log) h)
 
   -- one line more
   module _ (before text line : List ℕ) (count used′ : ℕ) (out′ : List ℕ) (l : Line before text count line) (few : count ≤ 64) (room : used + 64 ≤ length out) (w : Written out used (take count line) used′ out′) where
@@ -144,42 +160,49 @@ module _ (log whole : List ℕ) (from : ℕ) (out₀ : List ℕ) (s : Memory) (a
     text-fits = omega (arith, wrote .ends, wrote-fits)
 
     -- a field is played, and the next one follows
-    pub under-next : (e : Event) (next : ℕ) → fieldAt log at true ≡ Whole e next → (n : Memory) → FieldPlayed s e n before count line → length out′ ≡ length out → UnderWay log whole from out₀ n next used′ out′
-    under-next e next f n p same! = record {
+    pub under-next : (e : Event) (next : ℕ) → fieldAt log at stage ≡ Whole e next → (n : Memory) → FieldPlayed s e n before count line
+        → length out′ ≡ length out → (stage′ : Stage) → stage′ ≡ stageAfter stage e → UnderWay log whole from out₀ n stage′ next used′ out′
+    under-next e next f n p same! stage′ then! = record {
       good = p .good;
+      past = ap pastL then! ∙ past-after e stage (whole-is log at stage e next f .turn);
       text = u .text ++ take count line;
       written = wrote;
-      joined = append-assoc (u .text) (take count line) (listingFrom (reads n) log next true) ∙ ap (λ (t : List ℕ). u .text ++ t) goes ∙ u .joined;
+      joined =
+          append-assoc (u .text) (take count line) (listingFrom (reads n) log next stage′)
+          ∙ ap (λ (t : List ℕ). u .text ++ t) (ap (λ (t : Stage). take count line ++ listingFrom (reads n) log next t) then! ∙ goes)
+          ∙ u .joined;
       fits = wrote-fits;
       same = same! ∙ u .same;
-      few = omega (arith, p .more, u .few, whole-next log at true e next f);
+      few = omega (arith, p .more, u .few, whole-next log at stage e next f);
       moved = inl (on (u .moved));
     }
       where
-        goes : take count line ++ listingFrom (reads n) log next true ≡ listingFrom (reads s) log at true
-        goes = ap₂ (λ (t : List ℕ) (q : Playing). t ++ listingFrom q log next true) (p .line .text) (p .next) ∙ sym (listing-whole (reads s) log at true e next f)
+        goes : take count line ++ listingFrom (reads n) log next (stageAfter stage e) ≡ listingFrom (reads s) log at stage
+        goes =
+            ap₂ (λ (t : List ℕ) (q : Playing). t ++ listingFrom q log next (stageAfter stage e)) (p .line .text) (p .next)
+            ∙ sym (listing-whole (reads s) log at stage e next f)
 
         on : ((from < at) × (at ≤ length log)) ⊎ ((from ≡ at) × (used ≡ 0)) → (from < next) × (next ≤ length log)
-        on (inl h) = let w = whole-next log at true e next f in (omega (arith, h .0, w .0), w .1)
-        on (inr h) = let w = whole-next log at true e next f in (omega (arith, h .0, w .0), w .1)
+        on (inl h) = let w = whole-next log at stage e next f in (omega (arith, h .0, w .0), w .1)
+        on (inr h) = let w = whole-next log at stage e next f in (omega (arith, h .0, w .0), w .1)
 
     -- or it is the last one
     module _ (s₀ : State) (ids lens : List ℕ) (is : restOf log s₀ ids lens ≡ whole) (ids′ lens′ : List ℕ) where
-      pub under-last : text ≡ listingFrom (reads s) log at true → PieceDone log s₀ ids lens out₀ (endedPiece used′ s₀) ids′ lens′ out′
+      pub under-last : text ≡ listingFrom (reads s) log at stage → PieceDone log s₀ ids lens out₀ (endedPiece used′ s₀) ids′ lens′ out′
       under-last e = ended-done log s₀ ids lens out₀ used′ (u .text ++ take count line) (is ∙ sym (u .joined) ∙ ap (λ (t : List ℕ). u .text ++ t) (sym (l .text ∙ e))) ids′ lens′ out′ text-fits wrote
 
   -- the state from which the next piece goes on
   abbrev gone : State
-  gone = record { begun = true; at = at; sent = record { 0 = s .sent }; board = s .board }
+  gone = record { stage = stage; at = at; sent = record { 0 = s .sent }; board = s .board }
 
   -- there is no room for another line
   pub under-more : (s₀ : State) (ids lens : List ℕ) → restOf log s₀ ids lens ≡ whole → isLong (length log) ≡ false → readTo s₀ ≡ from → length out - used < 64
       → PieceDone log s₀ ids lens out₀ (record { code = 0; used = used; over = false; state = gone }) (s .ids) (s .lens) out
-  unfolding restAfter restOf
+  unfolding restAfter
   under-more s₀ ids lens is short from! full = record {
     done = refl;
     fits = u .fits;
-    joined = ap (λ (t : List ℕ). t ++ listingFrom (reads s) log at true) (l .text) ∙ u .joined ∙ sym is;
+    joined = ap₂ (λ (t r : List ℕ). t ++ r) (l .text) (left-is gone (u .past) log (s .ids) (s .lens)) ∙ u .joined ∙ sym is;
     rest = l .rest;
     goesOn = λ e. sym ready;
     moves = λ e h. go h (u .moved);
@@ -190,16 +213,20 @@ module _ (log whole : List ℕ) (from : ℕ) (out₀ : List ℕ) (s : Memory) (a
 
       ready : 0 ≡ pieceCode (length log) gone (s .ids) (s .lens)
       ready =
-          code-board (length log) gone (s .ids) (s .lens) (u .good .ids-all) (u .good .lens-all) refl short (le-ltb _ _ (u .few)) true
+          code-board (length log) gone (s .ids) (s .lens) (u .good .ids-all) (u .good .lens-all) (u .past) short (le-ltb _ _ (u .few)) true
           (sound-known (s .board) (s .ids) (s .lens) (u .good))
 
-      go : 64 ≤ length out₀ → ((from < at) × (at ≤ length log)) ⊎ ((from ≡ at) × (used ≡ 0)) → (readTo s₀ < at) × (at ≤ length log)
-      go h (inl m) = (omega (arith, from!, m .0), m .1)
+      go : 64 ≤ length out₀ → ((from < at) × (at ≤ length log)) ⊎ ((from ≡ at) × (used ≡ 0)) → (readTo s₀ < readTo gone) × (readTo gone ≤ length log)
+      go h (inl m) = let r = read-is gone (u .past) in (omega (arith, from!, m .0, r), omega (arith, m .1, r))
       go h (inr m) = absurd (omega (arith, m .1, u .same))
 
-not-end : (log : List ℕ) (at : ℕ) → at ≢ length log → atEnd log at true ≡ false
+not-end : (log : List ℕ) (at : ℕ) (stage : Stage) → at ≢ length log → atEnd log at stage ≡ false
 unfolding atEnd
-not-end log at ne = ne-eqb at (length log) ne
+not-end log at stage ne = go (pastL stage)
+  where
+    go : (t : Bool) → t && eqb at (length log) ≡ false
+    go true = ne-eqb at (length log) ne
+    go false = refl
 
 -- ---- The last line of a log that is read to its end: the board's clock and its lanes are what is read of them
 
@@ -215,20 +242,17 @@ module _ (s : Memory) (k : KnownMemory s) where
   unfolding encode
   counts-is = ap (λ (c : struct.Board). totalOf (c .counts)) (sym (k .sound .spells)) ∙ total-map (λ (x : Place). length (x .lane)) (m .places)
 
-  pub end-listing : (log : List ℕ) (at clock count : ℕ) → at ≡ length log → clock ≡ s .board .clock → count ≡ totalOf (s .board .counts) → endLine clock (s .sent) count ≡ listingFrom (reads s) log at true
-  end-listing log at clock count e c n = ap₂ (λ (x y : ℕ). endLine x (s .sent) y) (c ∙ clock-is) (n ∙ counts-is) ∙ sym (listing-end (reads s) log) ∙ ap (λ (i : ℕ). listingFrom (reads s) log i true) (sym e)
+  module _ (log : List ℕ) (at : ℕ) (stage : Stage) where
+    pub end-listing : (clock count : ℕ) → pastL stage ≡ true → at ≡ length log → clock ≡ s .board .clock → count ≡ totalOf (s .board .counts)
+        → endLine clock (s .sent) count ≡ listingFrom (reads s) log at stage
+    end-listing clock count past e c n =
+        ap₂ (λ (x y : ℕ). endLine x (s .sent) y) (c ∙ clock-is) (n ∙ counts-is)
+        ∙ sym (listing-end (reads s) log stage past)
+        ∙ ap (λ (i : ℕ). listingFrom (reads s) log i stage) (sym e)
 
-  pub broken-listing : (log : List ℕ) (at n : ℕ) → at ≢ length log → fieldAt log at true ≡ Broken n → brokenLine at ≡ listingFrom (reads s) log at true
-  broken-listing log at n ne f = ap brokenLine (sym (broken-at log at true n f)) ∙ sym (listing-broken (reads s) log at true n (not-end log at ne) f)
-
--- ---- A state from which a piece goes on
-pub read-is : (len : ℕ) (s : State) (ids lens : List ℕ) → CanGoOn len s ids lens → readTo s ≡ s .at
-read-is len s ids lens r = ap (λ (t : Bool). cond t (s .at) 0) (r .begun)
-
-module _ (log : List ℕ) (s : State) (ids lens : List ℕ) (r : CanGoOn (length log) s ids lens) where
-  pub left-is : restOf log s ids lens ≡ listingFrom (reads (memory (s .board) ids lens (s .sent .0))) log (s .at) true
-  unfolding restOf
-  left-is = ap (λ (t : Bool). cond t (listingFrom (reads (memory (s .board) ids lens (s .sent .0))) log (s .at) true) (listingOf log)) (r .begun)
+    pub broken-listing : (n : ℕ) → at ≢ length log → fieldAt log at stage ≡ Broken n → brokenLine at ≡ listingFrom (reads s) log at stage
+    broken-listing n ne f =
+        ap brokenLine (sym (broken-at log at stage n f)) ∙ sym (listing-broken (reads s) log at stage n (not-end log at stage ne) f)
 
 -- ---- The first field
 
@@ -237,12 +261,12 @@ pub code-tables : (len : ℕ) (s : State) (ids lens : List ℕ) → pieceCode le
 unfolding pieceCode
 code-tables len s ids lens e = go (wrongTables (length ids) (length lens)) refl e
   where
-    go : (t : Bool) → wrongTables (length ids) (length lens) ≡ t → _≡_ {A = ℕ} (cond t 3 (cond (s .begun) (cond (unfit len s ids lens) 2 0) 0)) 0 → (length ids ≡ 2048) × (length lens ≡ 2048)
+    go : (t : Bool) → wrongTables (length ids) (length lens) ≡ t → _≡_ {A = ℕ} (cond t 3 (cond (pastL (s .stage)) (cond (unfit len s ids lens) 2 0) 0)) 0 → (length ids ≡ 2048) × (length lens ≡ 2048)
     go true q z = absurd (omega arith)
     go false q z = right-tables (length ids) (length lens) q
 
 -- L is in its range
-largest-range : (l : ℕ) → inTurn (Largest l) false ≡ true → (leb 64 l && leb l 2048) ≡ true
+largest-range : (l : ℕ) → inTurn (Largest l) BeforeL ≡ true → (leb 64 l && leb l 2048) ≡ true
 unfolding inTurn
 largest-range l e = e
 
@@ -250,10 +274,10 @@ made-code : (ids lens : List ℕ) (l : ℕ) → length ids ≡ 2048 → length l
 unfolding made make
 made-code ids lens l a d e = rw (none-wrong (length ids) (length lens) a d, e) refl
 
-module _ (log : List ℕ) (s : State) (ids lens out : List ℕ) (unread : s .begun ≡ false) where
+module _ (log : List ℕ) (s : State) (ids lens out : List ℕ) (unread : pastL (s .stage) ≡ false) where
   left-whole : restOf log s ids lens ≡ listingOf log
   unfolding restOf
-  left-whole = ap (λ (t : Bool). cond t (listingFrom (reads (memory (s .board) ids lens (s .sent .0))) log (s .at) true) (listingOf log)) unread
+  left-whole = ap (λ (t : Bool). cond t (listingFrom (reads (memory (s .board) ids lens (s .sent .0))) log (s .at) (s .stage)) (listingOf log)) unread
 
   -- no room for a line
   pub first-none : pieceCode (length log) s ids lens ≡ 0 → length out < 64 → PieceDone log s ids lens out (record { code = 0; used = 0; over = false; state = s }) ids lens out
@@ -266,9 +290,9 @@ module _ (log : List ℕ) (s : State) (ids lens out : List ℕ) (unread : s .beg
   first-last before text line count used ids′ lens′ out′ l few room w e = ended-done log s ids lens out used (take count line) (left-whole ∙ sym e ∙ sym (l .text)) ids′ lens′ out′ (omega (arith, line-count l)) w
 
   -- the board is made
-  module _ (a : length ids ≡ 2048) (d : length lens ≡ 2048) (short : isLong (length log) ≡ false) (l next : ℕ) (f : fieldAt log 0 false ≡ Whole (Largest l) next) (r : Reply) (ids′ lens′ : List ℕ) (m : returned r ids′ lens′ ≡ made ids lens l) where
+  module _ (a : length ids ≡ 2048) (d : length lens ≡ 2048) (short : isLong (length log) ≡ false) (l next : ℕ) (f : fieldAt log 0 BeforeL ≡ Whole (Largest l) next) (r : Reply) (ids′ lens′ : List ℕ) (m : returned r ids′ lens′ ≡ made ids lens l) where
     starts : Starts (made ids lens l) l
-    starts = made-starts ids lens l (made-code ids lens l a d (largest-range l (whole-is log 0 false (Largest l) next f .turn)))
+    starts = made-starts ids lens l (made-code ids lens l a d (largest-range l (whole-is log 0 BeforeL (Largest l) next f .turn)))
 
     made-good : Known (r .board) ids′ lens′
     made-good = subst (λ (w : Returned Reply). Known (w .reply .board) (w .ids) (w .lens)) (sym m) (starts .good)
@@ -276,34 +300,47 @@ module _ (log : List ℕ) (s : State) (ids lens out : List ℕ) (unread : s .beg
     made-reads : view (r .board) ids′ lens′ ≡ fresh l
     made-reads = ap (λ (w : Returned Reply). view (w .reply .board) (w .ids) (w .lens)) m ∙ starts .reads
 
-    abbrev after-first : State
-    after-first = record { begun = true; at = next; sent = record { 0 = 0 }; board = r .board }
+    module _ (stage : Stage) (on : stage ≡ stageAfter BeforeL (Largest l)) where
+      abbrev after-first : State
+      after-first = record { stage = stage; at = next; sent = record { 0 = 0 }; board = r .board }
 
-    pub first-made : PieceDone log s ids lens out (record { code = 0; used = 0; over = false; state = after-first }) ids′ lens′ out
-    unfolding restAfter restOf isLong
-    first-made = record {
-      done = refl;
-      fits = omega arith;
-      joined = ap (λ (b : Board.Board). listingFrom (record { board = b; sent = 0 }) log next true) made-reads ∙ sym (listing-first log (omega (arith, false-lt 32769 (length log) short)) ∙ listing-whole unmade log 0 false (Largest l) next f) ∙ sym left-whole;
-      rest = refl;
-      goesOn = λ e. sym (code-early (length log) after-first ids′ lens′ (made-good .ids-all) (made-good .lens-all) refl short (le-ltb next (0 / 65536) (omega arith))) ∙ early-none (r .board) ids′ lens′ made-good;
-      moves = λ e h. let w = whole-next log 0 false (Largest l) next f in (omega (arith, ap (λ (t : Bool). cond t (s .at) 0) unread, w .0), w .1);
-    }
+      past : pastL stage ≡ true
+      past = ap pastL on ∙ past-after (Largest l) BeforeL (whole-is log 0 BeforeL (Largest l) next f .turn)
+
+      pub first-made : PieceDone log s ids lens out (record { code = 0; used = 0; over = false; state = after-first }) ids′ lens′ out
+      unfolding restAfter isLong
+      first-made = record {
+        done = refl;
+        fits = omega arith;
+        joined =
+            left-is after-first past log ids′ lens′
+            ∙ ap₂ (λ (b : Board.Board) (t : Stage). listingFrom (record { board = b; sent = 0 }) log next t) made-reads on
+            ∙ sym (listing-first log (omega (arith, false-lt 32769 (length log) short)) ∙ listing-whole unmade log 0 BeforeL (Largest l) next f)
+            ∙ sym left-whole;
+        rest = refl;
+        goesOn = λ e. sym (code-early (length log) after-first ids′ lens′ (made-good .ids-all) (made-good .lens-all) past short (le-ltb next (0 / 65536) (omega arith))) ∙ early-none (r .board) ids′ lens′ made-good;
+        moves = λ e h.
+            let w = whole-next log 0 BeforeL (Largest l) next f in
+            let now = read-is after-first past in
+            (omega (arith, ap (λ (t : Bool). cond t (s .at) 0) unread, w .0, now), omega (arith, w .1, now));
+      }
 
 pub long-listing : (log : List ℕ) → isLong (length log) ≡ true → longLine ≡ listingOf log
 unfolding isLong
 long-listing log h = sym (listing-long log (ltb-true 32768 (length log) h))
 
-pub first-broken : (log : List ℕ) (n : ℕ) → isLong (length log) ≡ false → fieldAt log 0 false ≡ Broken n → brokenLine 0 ≡ listingOf log
+pub first-broken : (log : List ℕ) (n : ℕ) → isLong (length log) ≡ false → fieldAt log 0 BeforeL ≡ Broken n → brokenLine 0 ≡ listingOf log
 unfolding isLong
-first-broken log n h f = ap brokenLine (sym (broken-at log 0 false n f)) ∙ sym (listing-first log (omega (arith, false-lt 32769 (length log) h)) ∙ listing-broken unmade log 0 false n (unbegun log 0) f)
+first-broken log n h f = ap brokenLine (sym (broken-at log 0 BeforeL n f)) ∙ sym (listing-first log (omega (arith, false-lt 32769 (length log) h)) ∙ listing-broken unmade log 0 BeforeL n (before-all log 0) f)
 
-pub is-largest : (log : List ℕ) (e : Event) (next l : ℕ) → fieldAt log 0 false ≡ Whole e next → e ≡ Largest l → fieldAt log 0 false ≡ Whole (Largest l) next
+pub is-largest : (log : List ℕ) (e : Event) (next l : ℕ) → fieldAt log 0 BeforeL ≡ Whole e next → e ≡ Largest l → fieldAt log 0 BeforeL ≡ Whole (Largest l) next
 is-largest log e next l f q = f ∙ ap (λ (x : Event). Whole x next) q
 
--- only the first variant is L
-pub not-largest : (log : List ℕ) (e : Event) (next : ℕ) → fieldAt log 0 false ≡ Whole e next → OneOf (1 ∷ 2 ∷ 3 ∷ 4 ∷ 5 ∷ 6 ∷ []) (tagOf the-type e) → ⊥
-not-largest log e next f k = let t = turn-first e (whole-is log 0 false e next f .turn) in miss (1 ∷ 2 ∷ 3 ∷ 4 ∷ 5 ∷ 6 ∷ []) 0 tt (subst (λ (x : Event). OneOf (1 ∷ 2 ∷ 3 ∷ 4 ∷ 5 ∷ 6 ∷ []) (tagOf the-type x)) (t .1 .0) k)
+-- nothing but L is whole before L
+pub not-largest : (log : List ℕ) (e : Event) (next : ℕ) → fieldAt log 0 BeforeL ≡ Whole e next → OneOf later (tagOf the-type e) → ⊥
+not-largest log e next f k =
+    let t = turn-first e (whole-is log 0 BeforeL e next f .turn) in
+    true≢false (sym (ap isL (t .1 .0)) ∙ no-l-by-place e k)
 
 -- ---- The promise of a piece
 
@@ -340,7 +377,7 @@ pieces-left log s ids lens written (more {written = w} out r ids′ lens′ out�
     ap (λ (t : List ℕ). take (r .used) out′ ++ t) (pieces-left log (r .state) ids′ lens′ w rest (d .goesOn e)) ∙ sym (ap (λ (t : Bool). take (r .used) out′ ++ cond t [] (restOf log (r .state) ids′ lens′)) e) ∙ d .joined
 
 pub before-first-ready : (log ids lens : List ℕ) → length ids ≡ 2048 → length lens ≡ 2048 → pieceCode (length log) beforeFirst ids lens ≡ 0
-before-first-ready log ids lens a d = sym (code-unbegun (length log) beforeFirst ids lens a d refl)
+before-first-ready log ids lens a d = sym (code-before (length log) beforeFirst ids lens a d refl)
 
 before-first-left : (log ids lens : List ℕ) → restOf log beforeFirst ids lens ≡ listingOf log
 unfolding restOf

@@ -9,7 +9,8 @@ use lib.ListN.{length, take, drop}
 use Rattle.rules.specs.Board.{fresh}
 use Rattle.rules.specs.Calls.{wrongTables}
 use Rattle.board.specs.Reading.{encode, isSound}
-use Rattle.log.specs.Format.{isLong}
+use Rattle.log.specs.declared.Stage.the-variants.{BeforeL}
+use Rattle.log.specs.Format.{pastL, isLong}
 use Rattle.plays.specs.Listing.{listingFrom, listingOf}
 use Rattle.fields.specs.Fields.{memory, reads, KnownMemory}
 use Rattle.player.specs.declared.State.{State}
@@ -17,32 +18,34 @@ use Rattle.player.specs.declared.Piece.{Piece}
 
 -- before the first piece: L has not been read, and there is no board yet
 abbrev pub beforeFirst : State
-beforeFirst = record { begun = false; at = 0; sent = record { 0 = 0 }; board = encode (fresh 0) }
+beforeFirst = record { stage = BeforeL; at = 0; sent = record { 0 = 0 }; board = encode (fresh 0) }
 
 -- the offset up to which the log has been read
 abbrev pub readTo : State → ℕ
-readTo s = cond (s .begun) (s .at) 0
+readTo s = cond (pastL (s .stage)) (s .at) 0
 
 -- what of the listing is still to be written
 unfoldable pub restOf : List ℕ → State → List ℕ → List ℕ → List ℕ
 restOf log s ids lens =
     let m = memory (s .board) ids lens (s .sent .0) in
-    cond (s .begun) (listingFrom (reads m) log (s .at) true) (listingOf log)
+    cond (pastL (s .stage)) (listingFrom (reads m) log (s .at) (s .stage)) (listingOf log)
 
 -- the same after a piece; after the last one nothing
 unfoldable pub restAfter : List ℕ → Piece → List ℕ → List ℕ → List ℕ
 restAfter log r ids lens = cond (r .over) [] (restOf log (r .state) ids lens)
 
--- A table of another length is 3. After L, a long log, bytes sent of which there are too many for the offset, or a spoilt board is 2: no piece leaves such a state.
+-- A table of another length is 3. After L, a long log, bytes sent of which there are too many for the offset, or a spoilt
+-- board is 2: no piece leaves such a state.
 abbrev pub unfit : ℕ → State → List ℕ → List ℕ → Bool
 unfit len s ids lens = isLong len || (ltb (s .at) (s .sent .0 / 65536) || not (isSound (s .board) ids lens))
 
 unfoldable pub pieceCode : ℕ → State → List ℕ → List ℕ → ℕ
-pieceCode len s ids lens = cond (wrongTables (length ids) (length lens)) 3 (cond (s .begun) (cond (unfit len s ids lens) 2 0) 0)
+pieceCode len s ids lens =
+    cond (wrongTables (length ids) (length lens)) 3 (cond (pastL (s .stage)) (cond (unfit len s ids lens) 2 0) 0)
 
 -- what is known of a state from which a piece goes on after L
 pub record CanGoOn (len : ℕ) (s : State) (ids lens : List ℕ) : Type 0 where
-  pub begun : s .begun ≡ true
+  pub past : pastL (s .stage) ≡ true
   pub short : isLong len ≡ false
   pub few : s .sent .0 / 65536 ≤ s .at
   pub good : KnownMemory (memory (s .board) ids lens (s .sent .0))

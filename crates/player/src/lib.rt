@@ -3,6 +3,7 @@ ghost use mathlib.Core.Path.{_≡_};
 ghost use mathlib.Core.Bool.{true, false};
 ghost use Prim.Native.Nat.{_+_, _≤_};
 ghost use lib.ListN.{length, take};
+ghost use Rattle.log.specs.Format.{pastL};
 ghost use Rattle.lines.specs.Text.{Written};
 ghost use Rattle.arrays.specs.Lists.{totalOf};
 ghost use Rattle.player.specs.Pieces.{beforeFirst, pieceCode, CanGoOn, endedPiece, PieceDone, PieceOf};
@@ -10,6 +11,7 @@ use board::Board;
 use lines::LINE_ROOM;
 use log::Event;
 use log::Field;
+use log::Stage;
 use numbers::PLACES;
 use numbers::TABLE_ENTRIES;
 use numbers::codes;
@@ -18,9 +20,10 @@ use units::Bytes;
 // The most bytes sent for each byte of a log that was read: a field has more than one, and sends one record at most.
 const SENT_PER_LOG_BYTE: usize = serving::ANY_LENGTH as usize;
 
-// What stands between two pieces of a listing: whether L has been read, the offset of the next field, the bytes sent so far, and the board.
+// What stands between two pieces of a listing: the stage of the log, the offset of the next field, the bytes sent so
+// far, and the board.
 pub struct State {
-    pub begun: bool,
+    pub stage: Stage,
     pub at: usize,
     pub sent: Bytes,
     pub board: Board,
@@ -75,7 +78,9 @@ fn append(out: &mut [u8], used: usize, line: &[u8; LINE_ROOM], count: usize) -> 
 // Whether a piece may go on from a state: TABLE_LENGTH for the tables, SPOILT for a log, a sum or a board with which no
 // piece leaves one.
 fn unready(len: usize, ids: &[u32], lens: &[u16], s: State) -> u8
-    ensures { λ r. ⌜ (r ≡ pieceCode len s (now (ids .entry)) (now (lens .entry))) × (r ≡ 0 → s .begun ≡ true → CanGoOn len s (now (ids .entry)) (now (lens .entry))) ⌝ }
+    ensures { λ r. ⌜
+        (r ≡ pieceCode len s (now (ids .entry)) (now (lens .entry)))
+        × (r ≡ 0 → pastL (s .stage) ≡ true → CanGoOn len s (now (ids .entry)) (now (lens .entry))) ⌝ }
 {
     if ids.len() != TABLE_ENTRIES {
         return codes::TABLE_LENGTH;
@@ -83,7 +88,8 @@ fn unready(len: usize, ids: &[u32], lens: &[u16], s: State) -> u8
     if lens.len() != TABLE_ENTRIES {
         return codes::TABLE_LENGTH;
     }
-    if !s.begun {
+    let stage = s.stage;
+    if !log::past_l(stage) {
         return codes::DONE;
     }
     if log::is_long(len) {
@@ -129,6 +135,7 @@ fn next_piece(log: &[u8], ids: &mut [u32], lens: &mut [u16], out: &mut [u8], s: 
     let mut pending = b.pending;
     let mut slot = b.slot;
     let mut left = b.left;
+    let mut stage = s.stage;
     let mut at = s.at;
     let mut sent = s.sent;
     let mut used: usize = 0;
@@ -158,7 +165,7 @@ fn next_piece(log: &[u8], ids: &mut [u32], lens: &mut [u16], out: &mut [u8], s: 
                 used: used,
                 over: false,
                 state: State {
-                    begun: true,
+                    stage: stage,
                     at: at,
                     sent: sent,
                     board: board,
@@ -170,7 +177,7 @@ fn next_piece(log: &[u8], ids: &mut [u32], lens: &mut [u16], out: &mut [u8], s: 
             let end = append(out, used, &line, last);
             return last_piece(end, s);
         }
-        let Field::Whole(event, on) = log::field_at(log, at, true) else {
+        let Field::Whole(event, on) = log::field_at(log, at, stage) else {
             let count = lines::put_broken(&mut line, at as u64);
             let end = append(out, used, &line, count);
             return last_piece(end, s);
@@ -199,6 +206,7 @@ fn next_piece(log: &[u8], ids: &mut [u32], lens: &mut [u16], out: &mut [u8], s: 
             &mut line,
         );
         used = append(out, used, &line, moved.shown);
+        stage = log::stage_after(stage, event);
         at = on;
         let total = moved.sent;
         sent = total;
@@ -213,7 +221,7 @@ fn next_piece(log: &[u8], ids: &mut [u32], lens: &mut [u16], out: &mut [u8], s: 
 
 // The first field: the board is made, or the listing is one line.
 fn first_piece(log: &[u8], ids: &mut [u32], lens: &mut [u16], out: &mut [u8], s: State) -> Piece
-    requires { ⌜ (s .begun ≡ false) × (pieceCode (length (now log)) s (now ids) (now lens) ≡ 0) ⌝ }
+    requires { ⌜ (pastL (s .stage) ≡ false) × (pieceCode (length (now log)) s (now ids) (now lens) ≡ 0) ⌝ }
     ensures { λ r. ⌜ PieceDone (now (log .entry)) s (now (ids .entry)) (now (lens .entry)) (now (out .entry)) r (now (ids .exit)) (now (lens .exit)) (now (out .exit)) ⌝ }
 {
     if out.len() < LINE_ROOM {
@@ -230,7 +238,7 @@ fn first_piece(log: &[u8], ids: &mut [u32], lens: &mut [u16], out: &mut [u8], s:
         let end = append(out, 0, &line, count);
         return last_piece(end, s);
     }
-    let Field::Whole(event, on) = log::field_at(log, 0, false) else {
+    let Field::Whole(event, on) = log::field_at(log, 0, Stage::BeforeL) else {
         let count = lines::put_broken(&mut line, 0);
         let end = append(out, 0, &line, count);
         return last_piece(end, s);
@@ -239,6 +247,7 @@ fn first_piece(log: &[u8], ids: &mut [u32], lens: &mut [u16], out: &mut [u8], s:
     let Event::Largest(largest) = event else {
         return last_piece(0, s);
     };
+    let stage = log::stage_after(Stage::BeforeL, event);
     let made = calls::make(ids, lens, largest);
     let board = made.board;
     Piece {
@@ -246,7 +255,7 @@ fn first_piece(log: &[u8], ids: &mut [u32], lens: &mut [u16], out: &mut [u8], s:
         used: 0,
         over: false,
         state: State {
-            begun: true,
+            stage: stage,
             at: on,
             sent: Bytes(0),
             board: board,
@@ -267,7 +276,8 @@ pub fn list_piece(log: &[u8], ids: &mut [u32], lens: &mut [u16], out: &mut [u8],
             state: s,
         };
     }
-    if s.begun {
+    let stage = s.stage;
+    if log::past_l(stage) {
         return next_piece(log, ids, lens, out, s);
     }
     first_piece(log, ids, lens, out, s)
@@ -278,7 +288,7 @@ pub fn begin() -> State
     ensures { λ r. ⌜ r ≡ beforeFirst ⌝ }
 {
     State {
-        begun: false,
+        stage: Stage::BeforeL,
         at: 0,
         sent: Bytes(0),
         board: blocks::blank(0),

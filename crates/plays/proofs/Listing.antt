@@ -18,17 +18,17 @@ listed p r = linesOf p (r .fields) (r .ends)
 -- a whole field gives its line, and the listing goes on from its end
 pub listing-whole : ListingWhole
 unfolding linesOf
-listing-whole p log at begun e next h = ap (listed p) (read-whole log at begun e next h)
+listing-whole p log at stage e next h = ap (listed p) (read-whole log at stage e next h)
 
 -- any other field ends it
 pub listing-broken : ListingBroken
 unfolding linesOf
-listing-broken p log at begun n t h = ap (listed p) (read-broken log at begun n t h)
+listing-broken p log at stage n t h = ap (listed p) (read-broken log at stage n t h)
 
 -- and so does the log's end
 pub listing-end : ListingEnd
 unfolding linesOf
-listing-end p log = ap (listed p) (read-end log)
+listing-end p log stage h = ap (listed p) (read-end log stage h)
 
 -- a log over 32,768 bytes gives the one line
 pub listing-long : ListingLong

@@ -1,5 +1,4 @@
 -- THE LISTING of a log (document 01, 'The log and the listing'): what each field does to the board, and the line that it gives.
-use mathlib.Core.Bool.{Bool}
 use mathlib.Core.List.{List, [], _∷_, _++_}
 use Prim.Native.Nat.{ℕ, _+_}
 use lib.ListN.{length}
@@ -8,6 +7,7 @@ use Rattle.rules.specs.Board.{Place, Board, fresh}
 use Rattle.rules.specs.Blocks.{opening}
 use Rattle.rules.specs.Calls.{Single, open!, rename!, close!, record!, serve!, step, Answer, gives, takes, sends, bursts, codeOf}
 use Rattle.rules.specs.Runs.{answer, bytesOf}
+use Rattle.log.specs.declared.Stage.{Stage}
 use Rattle.log.specs.declared.Event.{Event}
 use Rattle.log.specs.declared.Event.the-variants.{Largest, Open, Close, Rename, Arrive, Serve, Passed}
 use Rattle.log.specs.Rows.{End, whole, broken, long, WholeField, readFrom, readLog}
@@ -68,8 +68,8 @@ linesOf p [] e = lastLine p e
 linesOf p (f ∷ fs) e = fieldLine p (f .event) ++ linesOf (played p (f .event)) fs e
 
 -- the listing of what follows an offset
-abbrev pub listingFrom : Playing → List ℕ → ℕ → Bool → List ℕ
-listingFrom p log at begun = linesOf p (readFrom log at begun .fields) (readFrom log at begun .ends)
+abbrev pub listingFrom : Playing → List ℕ → ℕ → Stage → List ℕ
+listingFrom p log at stage = linesOf p (readFrom log at stage .fields) (readFrom log at stage .ends)
 
 -- THE LISTING
 unfoldable pub listingOf : List ℕ → List ℕ

@@ -1,12 +1,12 @@
 -- `fields::play_field` meets its contract. Each kind of field by its law. Assumes nothing.
 use native.Mathlib.Omega.{arith}
 use mathlib.Core.Path.{_≡_, subst, refl}
-use mathlib.Core.Bool.{true}
+use mathlib.Core.Bool.{false, true≢false}
 use Rattle.log.specs.declared.Event.{Event}
 use Rattle.taking.proofs.Answers.{record-needs}
 use Rattle.blocks.proofs.Answers.{close-needs}
-use Rattle.log.specs.Format.{inTurn}
-use Rattle.fields.proofs.Fields.{open-plays, close-plays, rename-plays, record-plays, passed-plays, no-second}
+use Rattle.log.specs.Format.{isL}
+use Rattle.fields.proofs.Fields.{open-plays, close-plays, rename-plays, record-plays, passed-plays}
 use borrow.Author.Needs.{needs}
 use Rattle.fields.proofs.play_field.Statement.{statement}
 use Rattle.fields.proofs.play_field.Tie as tie
@@ -90,7 +90,7 @@ returns-6 : tie.Need-returns-6
 returns-6 c = rw (c .enum-told2 .given .1) (passed-plays _ (c .before .before .before .before .pre .0) _ _ _ (omega arith) refl refl)
 
 returns-7 : tie.Need-returns-7
-returns-7 c = absurd (no-second _ (subst (λ (e : Event). inTurn e true ≡ true) (c .enum-told3 .given .1) (c .before .before .before .before .pre .1 .1)))
+returns-7 c = absurd (true≢false (subst (λ (e : Event). isL e ≡ false) (c .enum-told3 .given .1) (c .before .before .before .before .pre .1 .1)))
 
 pub play-field-spec : {M : Type 1} → statement M
 play-field-spec =

@@ -19,13 +19,13 @@ enum-told : tie.Need-enum-told
 enum-told c = search needs
 
 returns : tie.Need-returns
-returns c = field-cut (now (c .before .before .before .before .args .log)) (c .before .before .before .before .args .at) (c .before .before .before .before .args .begun) (sym (c .before .before .frame-at .ensures) ∙ c .enum-told .given .1)
+returns c = field-cut (now (c .before .before .before .before .args .log)) (c .before .before .before .before .args .at) (c .before .before .before .before .args .stage) (sym (c .before .before .frame-at .ensures) ∙ c .enum-told .given .1)
 
 right-length-requires : tie.Need-right-length-requires
 right-length-requires c κs = search needs
 
 returns-2 : tie.Need-returns-2
-returns-2 c = field-wrong (now (c .before .before .before .before .before .before .before .args .log)) (c .before .before .before .before .before .before .before .args .at) (c .before .before .before .tag .given .0 .0) (c .before .before .before .tag .given .0 .1 .0) (c .before .before .before .before .before .before .before .args .begun) (sym (c .before .before .before .before .before .frame-at .ensures) ∙ c .before .before .before .tag .given .1) (sym (c .before .right-length .ensures) ∙ not-true _ (c .if1 .taken))
+returns-2 c = field-wrong (now (c .before .before .before .before .before .before .before .args .log)) (c .before .before .before .before .before .before .before .args .at) (c .before .before .before .tag .given .0 .0) (c .before .before .before .tag .given .0 .1 .0) (c .before .before .before .before .before .before .before .args .stage) (sym (c .before .before .before .before .before .frame-at .ensures) ∙ c .before .before .before .tag .given .1) (sym (c .before .right-length .ensures) ∙ not-true _ (c .if1 .taken))
 
 add-value : tie.Need-add-value
 add-value c = omega (arith, frame-fits (now (c .before .before .before .before .before .before .before .args .log)) (c .before .before .before .before .before .before .before .args .at) (c .before .before .before .tag .given .0 .0) (c .before .before .before .tag .given .0 .1 .0) (sym (c .before .before .before .before .before .frame-at .ensures) ∙ c .before .before .before .tag .given .1))
@@ -40,10 +40,10 @@ in-turn-requires : tie.Need-in-turn-requires
 in-turn-requires c κs = search needs
 
 returns-3 : tie.Need-returns-3
-returns-3 c = rw (c .before .before .event-at .ensures) (field-whole (now (c .before .before .before .before .before .before .before .before .before .before .args .log)) (c .before .before .before .before .before .before .before .before .before .before .args .at) (c .before .before .before .before .before .before .tag .given .0 .0) (c .before .before .before .before .before .before .tag .given .0 .1 .0) (c .before .before .before .before .before .before .before .before .before .before .args .begun) (sym (c .before .before .before .before .before .before .before .before .frame-at .ensures) ∙ c .before .before .before .before .before .before .tag .given .1) (sym (c .before .before .before .before .right-length .ensures) ∙ not-false _ (c .before .before .before .if1 .left)) (ap (λ e. inTurn e (c .before .before .before .before .before .before .before .before .before .before .args .begun)) (sym (c .before .before .event-at .ensures)) ∙ sym (c .before .in-turn .ensures) ∙ c .if2 .taken))
+returns-3 c = rw (c .before .before .event-at .ensures) (field-whole (now (c .before .before .before .before .before .before .before .before .before .before .args .log)) (c .before .before .before .before .before .before .before .before .before .before .args .at) (c .before .before .before .before .before .before .tag .given .0 .0) (c .before .before .before .before .before .before .tag .given .0 .1 .0) (c .before .before .before .before .before .before .before .before .before .before .args .stage) (sym (c .before .before .before .before .before .before .before .before .frame-at .ensures) ∙ c .before .before .before .before .before .before .tag .given .1) (sym (c .before .before .before .before .right-length .ensures) ∙ not-false _ (c .before .before .before .if1 .left)) (ap (λ e. inTurn e (c .before .before .before .before .before .before .before .before .before .before .args .stage)) (sym (c .before .before .event-at .ensures)) ∙ sym (c .before .in-turn .ensures) ∙ c .if2 .taken))
 
 returns-4 : tie.Need-returns-4
-returns-4 c = field-early (now (c .before .before .before .before .before .before .before .before .before .before .args .log)) (c .before .before .before .before .before .before .before .before .before .before .args .at) (c .before .before .before .before .before .before .tag .given .0 .0) (c .before .before .before .before .before .before .tag .given .0 .1 .0) (c .before .before .before .before .before .before .before .before .before .before .args .begun) (sym (c .before .before .before .before .before .before .before .before .frame-at .ensures) ∙ c .before .before .before .before .before .before .tag .given .1) (sym (c .before .before .before .before .right-length .ensures) ∙ not-false _ (c .before .before .before .if1 .left)) (ap (λ e. inTurn e (c .before .before .before .before .before .before .before .before .before .before .args .begun)) (sym (c .before .before .event-at .ensures)) ∙ sym (c .before .in-turn .ensures) ∙ c .if2 .left)
+returns-4 c = field-early (now (c .before .before .before .before .before .before .before .before .before .before .args .log)) (c .before .before .before .before .before .before .before .before .before .before .args .at) (c .before .before .before .before .before .before .tag .given .0 .0) (c .before .before .before .before .before .before .tag .given .0 .1 .0) (c .before .before .before .before .before .before .before .before .before .before .args .stage) (sym (c .before .before .before .before .before .before .before .before .frame-at .ensures) ∙ c .before .before .before .before .before .before .tag .given .1) (sym (c .before .before .before .before .right-length .ensures) ∙ not-false _ (c .before .before .before .if1 .left)) (ap (λ e. inTurn e (c .before .before .before .before .before .before .before .before .before .before .args .stage)) (sym (c .before .before .event-at .ensures)) ∙ sym (c .before .in-turn .ensures) ∙ c .if2 .left)
 
 pub field-at-spec : {M : Type 1} → statement M
 field-at-spec =

@@ -17,8 +17,16 @@ same-length-2 c = search needs
 returns : tie.Need-returns
 returns c = refused-piece _ _ _ _ _ _ (c .before .unready .ensures .0) (c .if1 .taken)
 
+past-l-requires : tie.Need-past-l-requires
+past-l-requires c κs = search needs
+
 next-piece-requires : tie.Need-next-piece-requires
-next-piece-requires c κs = c .before .before .before .before .before .unready .ensures .1 (c .before .before .before .before .if1 .left) (c .before .before .before .if2 .taken)
+next-piece-requires c κs =
+    let at-if2 = c .before .before .before in
+    let at-past-l = at-if2 .before in
+    let at-if1 = at-past-l .before in
+    let at-unready = at-if1 .before in
+    at-unready .unready .ensures .1 (at-if1 .if1 .left) (sym (at-past-l .past-l .ensures) ∙ at-if2 .if2 .taken)
 
 same-length-3 : tie.Need-same-length-3
 same-length-3 c = search needs
@@ -30,10 +38,19 @@ same-length-5 : tie.Need-same-length-5
 same-length-5 c = search needs
 
 returns-2 : tie.Need-returns-2
-returns-2 c = done-piece _ _ _ _ _ _ _ _ _ (sym (c .before .before .before .before .before .before .before .before .before .before .before .before .unready .ensures .0) ∙ c .before .before .before .before .before .before .before .before .before .before .before .if1 .left) (c .before .before .before .before .before .before .next-piece .ensures)
+returns-2 c =
+    let at-next-piece = c .before .before .before .before .before .before in
+    let at-if1 = at-next-piece .before .before .before .before .before .before in
+    let at-unready = at-if1 .before in
+    done-piece _ _ _ _ _ _ _ _ _ (sym (at-unready .unready .ensures .0) ∙ at-if1 .if1 .left) (at-next-piece .next-piece .ensures)
 
 first-piece-requires : tie.Need-first-piece-requires
-first-piece-requires c κs = (c .before .before .before .if2 .left, sym (c .before .before .before .before .before .unready .ensures .0) ∙ c .before .before .before .before .if1 .left)
+first-piece-requires c κs =
+    let at-if2 = c .before .before .before in
+    let at-past-l = at-if2 .before in
+    let at-if1 = at-past-l .before in
+    let at-unready = at-if1 .before in
+    (sym (at-past-l .past-l .ensures) ∙ at-if2 .if2 .left, sym (at-unready .unready .ensures .0) ∙ at-if1 .if1 .left)
 
 same-length-6 : tie.Need-same-length-6
 same-length-6 c = search needs
@@ -45,7 +62,11 @@ same-length-8 : tie.Need-same-length-8
 same-length-8 c = search needs
 
 returns-3 : tie.Need-returns-3
-returns-3 c = done-piece _ _ _ _ _ _ _ _ _ (sym (c .before .before .before .before .before .before .before .before .before .before .before .before .unready .ensures .0) ∙ c .before .before .before .before .before .before .before .before .before .before .before .if1 .left) (c .before .before .before .before .before .before .first-piece .ensures)
+returns-3 c =
+    let at-first-piece = c .before .before .before .before .before .before in
+    let at-if1 = at-first-piece .before .before .before .before .before .before in
+    let at-unready = at-if1 .before in
+    done-piece _ _ _ _ _ _ _ _ _ (sym (at-unready .unready .ensures .0) ∙ at-if1 .if1 .left) (at-first-piece .first-piece .ensures)
 
 pub list-piece-spec : {M : Type 1} → statement M
 list-piece-spec =
@@ -55,6 +76,7 @@ list-piece-spec =
     same-length
     same-length-2
     returns
+    past-l-requires
     next-piece-requires
     same-length-3
     same-length-4

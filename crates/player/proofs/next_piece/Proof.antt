@@ -1,10 +1,10 @@
 -- `player::next_piece` meets its contract. What is written up to a field, and the listing from it on, is what was left at the beginning; the rest of the log gets shorter. Assumes nothing.
 use mathlib.Core.Path.{refl, sym, _∙_}
-use mathlib.Core.Bool.{true}
 use Prim.Native.Nat.{_-_}
 use native.Mathlib.Omega.{arith}
 use lib.ListN.{length}
 use Rattle.log.proofs.Fields.{whole-is, whole-next}
+use Rattle.log.proofs.Stages.{turn-later}
 use Rattle.board.specs.Memory.{numbersNow, boardNow}
 use Rattle.plays.specs.Listing.{listingFrom}
 use Rattle.fields.specs.Fields.{memory, reads}
@@ -14,20 +14,20 @@ use Rattle.player.proofs.next_piece.Statement.{statement}
 use Rattle.player.proofs.next_piece.Tie as tie
 
 abbrev Inv-loop : tie.InvT-loop
-Inv-loop log ids₀ lens₀ out₀ s b numbers₀ shares₀ starts₀ counts₀ deficits₀ ready₀ next₀ heads₀ tails₀ held₀ clock₀ active₀ pending₀ slot₀ left₀ at₀ sent₀ used₀ line₀ ids lens out numbers shares starts counts deficits ready next heads tails held clock active pending slot left at sent used line =
-    UnderWay log (listingFrom (reads (memory (s .board) ids₀ lens₀ (s .sent .0))) log (s .at) true) (s .at) out₀
+Inv-loop log ids₀ lens₀ out₀ s b numbers₀ shares₀ starts₀ counts₀ deficits₀ ready₀ next₀ heads₀ tails₀ held₀ clock₀ active₀ pending₀ slot₀ left₀ stage₀ at₀ sent₀ used₀ line₀ ids lens out numbers shares starts counts deficits ready next heads tails held clock active pending slot left stage at sent used line =
+    UnderWay log (listingFrom (reads (memory (s .board) ids₀ lens₀ (s .sent .0))) log (s .at) (s .stage)) (s .at) out₀
     (memory
     (boardNow numbers shares starts counts deficits ready next heads tails held (b .largest) (numbersNow clock active pending slot (left .0)))
-    ids lens (sent .0)) at used out
+    ids lens (sent .0)) stage at used out
 
 abbrev μ-loop : tie.MeasureT-loop
-μ-loop log ids₀ lens₀ out₀ s b numbers₀ shares₀ starts₀ counts₀ deficits₀ ready₀ next₀ heads₀ tails₀ held₀ clock₀ active₀ pending₀ slot₀ left₀ at₀ sent₀ used₀ line₀ ids lens out numbers shares starts counts deficits ready next heads tails held clock active pending slot left at sent used line =
+μ-loop log ids₀ lens₀ out₀ s b numbers₀ shares₀ starts₀ counts₀ deficits₀ ready₀ next₀ heads₀ tails₀ held₀ clock₀ active₀ pending₀ slot₀ left₀ stage₀ at₀ sent₀ used₀ line₀ ids lens out numbers shares starts counts deficits ready next heads tails held clock active pending slot left stage at sent used line =
     length log - at
 
 loop-holds : tie.Need-loop-holds Inv-loop μ-loop
 loop-holds c =
     let start = c .before .before .before .before .before .before .before .before .before .before .before .before .before .before .before .before .before in
-    under-first _ _ _ _ (start .pre .good) (start .pre .few)
+    under-first _ _ _ _ _ (start .pre .good) (start .pre .past) (start .pre .few)
 
 sub-if1 : tie.Need-sub-if1 Inv-loop μ-loop
 sub-if1 c = omega (arith, c .loop .inv .fits, c .loop .inv .same)
@@ -35,15 +35,13 @@ sub-if1 c = omega (arith, c .loop .inv .fits, c .loop .inv .same)
 same-length : tie.Need-same-length Inv-loop μ-loop
 same-length c =
     let at-loop = c .before in
-    let at-b = at-loop .before .before .before .before .before .before .before .before .before .before .before .before .before in
-    let start = at-b .before .before .before .before .before in
+    let start = at-loop .before .before .before .before .before .before .before .before .before .before .before .before .before .before .before .before .before .before in
     at-loop .loop .inv .good .ids-all ∙ sym (start .pre .good .ids-all)
 
 same-length-2 : tie.Need-same-length-2 Inv-loop μ-loop
 same-length-2 c =
     let at-loop = c .before in
-    let at-b = at-loop .before .before .before .before .before .before .before .before .before .before .before .before .before in
-    let start = at-b .before .before .before .before .before in
+    let start = at-loop .before .before .before .before .before .before .before .before .before .before .before .before .before .before .before .before .before .before in
     at-loop .loop .inv .good .lens-all ∙ sym (start .pre .good .lens-all)
 
 same-length-3 : tie.Need-same-length-3 Inv-loop μ-loop
@@ -52,9 +50,8 @@ same-length-3 c = c .before .loop .inv .same
 returns : tie.Need-returns Inv-loop μ-loop
 returns c =
     let at-loop = c .before in
-    let at-b = at-loop .before .before .before .before .before .before .before .before .before .before .before .before .before in
-    let start = at-b .before .before .before .before .before in
-    under-more _ _ _ _ _ _ _ _ (at-loop .loop .inv) _ _ _ (left-is _ _ _ _ (start .pre)) (start .pre .short) (read-is _ _ _ _ (start .pre)) (c .if1 .taken)
+    let start = at-loop .before .before .before .before .before .before .before .before .before .before .before .before .before .before .before .before .before .before in
+    under-more _ _ _ _ _ _ _ _ _ (at-loop .loop .inv) _ _ _ (left-is _ (start .pre .past) _ _ _) (start .pre .short) (read-is (start .args .s) (start .pre .past)) (c .if1 .taken)
 
 waiting-requires : tie.Need-waiting-requires Inv-loop μ-loop
 waiting-requires c κs = search needs
@@ -67,7 +64,7 @@ append-requires c κs =
     let at-put-end = c .before .before in
     let at-if1 = at-put-end .before .before .before .before .before in
     let at-loop = at-if1 .before in
-    (at-put-end .put-end .ensures .1, under-fits _ _ _ _ _ _ _ _ (at-loop .loop .inv) (at-if1 .if1 .left) _ (at-put-end .put-end .ensures .1))
+    (at-put-end .put-end .ensures .1, under-fits _ _ _ _ _ _ _ _ _ (at-loop .loop .inv) (at-if1 .if1 .left) _ (at-put-end .put-end .ensures .1))
 
 last-piece-requires : tie.Need-last-piece-requires Inv-loop μ-loop
 last-piece-requires c κs = search needs
@@ -75,15 +72,13 @@ last-piece-requires c κs = search needs
 same-length-4 : tie.Need-same-length-4 Inv-loop μ-loop
 same-length-4 c =
     let at-loop = c .before .before .before .before .before .before .before .before .before .before .before .before in
-    let at-b = at-loop .before .before .before .before .before .before .before .before .before .before .before .before .before in
-    let start = at-b .before .before .before .before .before in
+    let start = at-loop .before .before .before .before .before .before .before .before .before .before .before .before .before .before .before .before .before .before in
     at-loop .loop .inv .good .ids-all ∙ sym (start .pre .good .ids-all)
 
 same-length-5 : tie.Need-same-length-5 Inv-loop μ-loop
 same-length-5 c =
     let at-loop = c .before .before .before .before .before .before .before .before .before .before .before .before in
-    let at-b = at-loop .before .before .before .before .before .before .before .before .before .before .before .before .before in
-    let start = at-b .before .before .before .before .before in
+    let start = at-loop .before .before .before .before .before .before .before .before .before .before .before .before .before .before .before .before .before .before in
     at-loop .loop .inv .good .lens-all ∙ sym (start .pre .good .lens-all)
 
 same-length-6 : tie.Need-same-length-6 Inv-loop μ-loop
@@ -100,13 +95,12 @@ returns-2 c =
     let at-if2 = at-waiting .before .before .before in
     let at-if1 = at-if2 .before in
     let at-loop = at-if1 .before in
-    let at-b = at-loop .before .before .before .before .before .before .before .before .before .before .before .before .before in
-    let start = at-b .before .before .before .before .before in
+    let start = at-loop .before .before .before .before .before .before .before .before .before .before .before .before .before .before .before .before .before .before in
     let shown = at-put-end .put-end .ensures in
-    let room = under-room _ _ _ _ _ _ _ _ (at-loop .loop .inv) (at-if1 .if1 .left) in
-    let ends = end-listing _ (at-loop .loop .inv .good) _ _ _ _ (at-if2 .if2 .taken) refl (at-waiting .waiting .ensures) in
-    rw (c .last-piece .ensures) (under-last _ _ _ _ _ _ _ _ (at-loop .loop .inv) _ _ _ _ _ _ (shown .0) (shown .1) room (at-append .append .ensures) _ _ _
-    (left-is _ _ _ _ (start .pre)) _ _ ends)
+    let room = under-room _ _ _ _ _ _ _ _ _ (at-loop .loop .inv) (at-if1 .if1 .left) in
+    let ends = end-listing _ (at-loop .loop .inv .good) _ _ _ _ _ (at-loop .loop .inv .past) (at-if2 .if2 .taken) refl (at-waiting .waiting .ensures) in
+    rw (c .last-piece .ensures) (under-last _ _ _ _ _ _ _ _ _ (at-loop .loop .inv) _ _ _ _ _ _ (shown .0) (shown .1) room (at-append .append .ensures) _ _ _
+    (left-is _ (start .pre .past) _ _ _) _ _ ends)
 
 field-at-requires : tie.Need-field-at-requires Inv-loop μ-loop
 field-at-requires c κs = search needs
@@ -125,7 +119,7 @@ append-requires-2 c κs =
     let at-put-broken = c .before .before in
     let at-if1 = at-put-broken .before .before .before .before .before .before in
     let at-loop = at-if1 .before in
-    (at-put-broken .put-broken .ensures .1, under-fits _ _ _ _ _ _ _ _ (at-loop .loop .inv) (at-if1 .if1 .left) _ (at-put-broken .put-broken .ensures .1))
+    (at-put-broken .put-broken .ensures .1, under-fits _ _ _ _ _ _ _ _ _ (at-loop .loop .inv) (at-if1 .if1 .left) _ (at-put-broken .put-broken .ensures .1))
 
 last-piece-requires-2 : tie.Need-last-piece-requires-2 Inv-loop μ-loop
 last-piece-requires-2 c κs = search needs
@@ -133,15 +127,13 @@ last-piece-requires-2 c κs = search needs
 same-length-7 : tie.Need-same-length-7 Inv-loop μ-loop
 same-length-7 c =
     let at-loop = c .before .before .before .before .before .before .before .before .before .before .before .before .before in
-    let at-b = at-loop .before .before .before .before .before .before .before .before .before .before .before .before .before in
-    let start = at-b .before .before .before .before .before in
+    let start = at-loop .before .before .before .before .before .before .before .before .before .before .before .before .before .before .before .before .before .before in
     at-loop .loop .inv .good .ids-all ∙ sym (start .pre .good .ids-all)
 
 same-length-8 : tie.Need-same-length-8 Inv-loop μ-loop
 same-length-8 c =
     let at-loop = c .before .before .before .before .before .before .before .before .before .before .before .before .before in
-    let at-b = at-loop .before .before .before .before .before .before .before .before .before .before .before .before .before in
-    let start = at-b .before .before .before .before .before in
+    let start = at-loop .before .before .before .before .before .before .before .before .before .before .before .before .before .before .before .before .before .before in
     at-loop .loop .inv .good .lens-all ∙ sym (start .pre .good .lens-all)
 
 same-length-9 : tie.Need-same-length-9 Inv-loop μ-loop
@@ -159,54 +151,55 @@ returns-3 c =
     let at-if2 = at-field-at .before in
     let at-if1 = at-if2 .before in
     let at-loop = at-if1 .before in
-    let at-b = at-loop .before .before .before .before .before .before .before .before .before .before .before .before .before in
-    let start = at-b .before .before .before .before .before in
+    let start = at-loop .before .before .before .before .before .before .before .before .before .before .before .before .before .before .before .before .before .before in
     let shown = at-put-broken .put-broken .ensures in
-    let room = under-room _ _ _ _ _ _ _ _ (at-loop .loop .inv) (at-if1 .if1 .left) in
+    let room = under-room _ _ _ _ _ _ _ _ _ (at-loop .loop .inv) (at-if1 .if1 .left) in
     let read = sym (at-field-at .field-at .ensures) ∙ at-enum-told .enum-told .given .1 in
-    let breaks = broken-listing _ (at-loop .loop .inv .good) _ _ _ (at-if2 .if2 .left) read in
-    rw (c .last-piece2 .ensures) (under-last _ _ _ _ _ _ _ _ (at-loop .loop .inv) _ _ _ _ _ _ (shown .0) (shown .1) room (at-append2 .append2 .ensures) _ _ _
-    (left-is _ _ _ _ (start .pre)) _ _ breaks)
+    let breaks = broken-listing _ (at-loop .loop .inv .good) _ _ _ _ (at-if2 .if2 .left) read in
+    rw (c .last-piece2 .ensures) (under-last _ _ _ _ _ _ _ _ _ (at-loop .loop .inv) _ _ _ _ _ _ (shown .0) (shown .1) room (at-append2 .append2 .ensures) _ _ _
+    (left-is _ (start .pre .past) _ _ _) _ _ breaks)
 
 play-field-requires : tie.Need-play-field-requires Inv-loop μ-loop
 play-field-requires c κs =
     let at-event = c .before .before .before .before .before .before .before .before .before .before .before .before .before .before in
     let at-field-at = at-event .before .before in
     let at-loop = at-field-at .before .before .before in
-    let at-b = at-loop .before .before .before .before .before .before .before .before .before .before .before .before .before in
-    let start = at-b .before .before .before .before .before in
+    let start = at-loop .before .before .before .before .before .before .before .before .before .before .before .before .before .before .before .before .before .before in
     let f = sym (at-field-at .field-at .ensures) ∙ at-event .event .given .1 in
-    (at-loop .loop .inv .good, (under-small _ _ _ _ _ _ _ _ (at-loop .loop .inv) _ _ f (start .pre .short), whole-is _ _ _ _ _ f .turn))
+    (at-loop .loop .inv .good, (under-small _ _ _ _ _ _ _ _ _ (at-loop .loop .inv) _ _ f (start .pre .short), turn-later _ _ (at-loop .loop .inv .past) (whole-is _ _ _ _ _ f .turn)))
 
 append-requires-3 : tie.Need-append-requires-3 Inv-loop μ-loop
 append-requires-3 c κs =
     let at-play-field = c .before .before .before .before .before .before in
-    let at-event = at-play-field .before .before .before .before .before .before .before .before .before .before .before .before .before .before .before in
-    let at-if1 = at-event .before .before .before .before in
+    let at-if1 = at-play-field .before .before .before .before .before .before .before .before .before .before .before .before .before .before .before .before .before .before .before in
     let at-loop = at-if1 .before in
     let short = at-play-field .play-field .ensures .short in
-    (short, under-fits _ _ _ _ _ _ _ _ (at-loop .loop .inv) (at-if1 .if1 .left) _ short)
+    (short, under-fits _ _ _ _ _ _ _ _ _ (at-loop .loop .inv) (at-if1 .if1 .left) _ short)
+
+stage-after-requires : tie.Need-stage-after-requires Inv-loop μ-loop
+stage-after-requires c κs = search needs
 
 loop-less : tie.Need-loop-less Inv-loop μ-loop
 loop-less c =
-    let at-play-field = c .before .before .before .before .before .before .before .before .before .before .before in
-    let at-event = at-play-field .before .before .before .before .before .before .before .before .before .before .before .before .before .before .before in
+    let at-event = c .before .before .before .before .before .before .before .before .before .before .before .before .before .before .before .before .before .before .before .before .before .before .before .before .before .before .before in
     let at-field-at = at-event .before .before in
-    let f = whole-next _ _ _ _ _ (sym (at-field-at .field-at .ensures) ∙ at-event .event .given .1) in omega (arith, f .0, f .1)
+    let f = whole-next _ _ _ _ _ (sym (at-field-at .field-at .ensures) ∙ at-event .event .given .1) in
+    omega (arith, f .0, f .1)
 
 loop-again : tie.Need-loop-again Inv-loop μ-loop
 loop-again c =
-    let at-append3 = c .before .before .before .before in
+    let at-stage-after = c .before .before in
+    let at-append3 = at-stage-after .before .before .before in
     let at-play-field = at-append3 .before .before .before .before .before .before .before in
     let at-event = at-play-field .before .before .before .before .before .before .before .before .before .before .before .before .before .before .before in
     let at-field-at = at-event .before .before in
     let at-if1 = at-field-at .before .before in
     let at-loop = at-if1 .before in
     let played = at-play-field .play-field .ensures in
-    let room = under-room _ _ _ _ _ _ _ _ (at-loop .loop .inv) (at-if1 .if1 .left) in
+    let room = under-room _ _ _ _ _ _ _ _ _ (at-loop .loop .inv) (at-if1 .if1 .left) in
     let read = sym (at-field-at .field-at .ensures) ∙ at-event .event .given .1 in
-    under-next _ _ _ _ _ _ _ _ (at-loop .loop .inv) _ _ _ _ _ _ (played .line) (played .short) room (at-append3 .append3 .ensures) _ _ read _ played
-    (at-append3 .append3 .kept .0)
+    under-next _ _ _ _ _ _ _ _ _ (at-loop .loop .inv) _ _ _ _ _ _ (played .line) (played .short) room (at-append3 .append3 .ensures) _ _ read _ played
+    (at-append3 .append3 .kept .0) _ (at-stage-after .stage-after .ensures)
 
 pub next-piece-spec : {M : Type 1} → statement M
 next-piece-spec =
@@ -240,5 +233,6 @@ next-piece-spec =
     returns-3
     play-field-requires
     append-requires-3
+    stage-after-requires
     loop-less
     loop-again)

@@ -1,0 +1,19 @@
+-- `log::past_l` meets its contract. One arm for each stage. Assumes nothing.
+use borrow.Author.Needs.{needs}
+use Rattle.log.proofs.past_l.Statement.{statement}
+use Rattle.log.proofs.past_l.Tie as tie
+
+enum-told : tie.Need-enum-told
+enum-told c = search needs
+
+enum-told-2 : tie.Need-enum-told-2
+enum-told-2 c = search needs
+
+returns : tie.Need-returns
+returns c = rw (c .enum-told .given .1)
+
+returns-2 : tie.Need-returns-2
+returns-2 c = rw (c .enum-told2 .given .1)
+
+pub past-l-spec : {M : Type 1} → statement M
+past-l-spec = tie.close (tie.spec enum-told enum-told-2 returns returns-2)
