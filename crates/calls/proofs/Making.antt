@@ -25,11 +25,15 @@ both false t e = absurd (true≢false e)
 abbrev byTests : List ℕ → List ℕ → ℕ → Bool → Bool → Returned Reply
 byTests ids lens L t u = written (encode (fresh 0)) ids lens (makeBy t u L)
 
-pub made-starts : (ids lens : List ℕ) (L : ℕ) → made ids lens L .reply .code ≡ 0 → Starts (made ids lens L) L
+-- what is returned is where a run of the rules starts
+abbrev pub StartsBy : Returned Reply → ℕ → Type 0
+StartsBy r L = Starts (r .reply .board) (r .ids) (r .lens) L
+
+pub made-starts : (ids lens : List ℕ) (L : ℕ) → made ids lens L .reply .code ≡ 0 → StartsBy (made ids lens L) L
 unfolding made make
 made-starts ids lens L = go (wrongTables (length ids) (length lens)) (not (leb 64 L && leb L 2048)) refl refl
   where
-    go : (t u : Bool) → wrongTables (length ids) (length lens) ≡ t → not (leb 64 L && leb L 2048) ≡ u → byTests ids lens L t u .reply .code ≡ 0 → Starts (byTests ids lens L t u) L
+    go : (t u : Bool) → wrongTables (length ids) (length lens) ≡ t → not (leb 64 L && leb L 2048) ≡ u → byTests ids lens L t u .reply .code ≡ 0 → StartsBy (byTests ids lens L t u) L
     go true u e f z = absurd (omega arith)
     go false true e f z = absurd (omega arith)
     go false false e f z =

@@ -33,8 +33,7 @@ use Rattle.calls.specs.Contract.{servedBy, goodServe, BurstOutcome, burstNow, g
 use Rattle.chains.specs.Chains.{Holding, isRecord, replyTells, servedTells, burstTells, byReply, byServe, byBurst, Chain, stops, goes, Made, answersOf}
 use Rattle.chains.specs.Demands.{reads, KnownHolding, CallAgrees, IsRun, ChainIsRun, ChainOfRun}
 use Rattle.board.proofs.Next.{Follows, call-follows}
-use Rattle.board.proofs.Fresh.{Starts}
-use Rattle.calls.proofs.Making.{made-starts}
+use Rattle.calls.proofs.Making.{StartsBy, made-starts}
 use Rattle.calls.proofs.Calling
 use Rattle.calls.proofs.Calling.{called-known}
 use Rattle.calls.proofs.Promises
@@ -163,7 +162,7 @@ chain-from {s = s} {e = e} k (goes {m = m} {c = c} {a = a} {cs = cs} d rest) =
 pub chain-is-run : ChainIsRun
 chain-is-run L s e cs answers made! chain = record { good = t .0; board = t .1 ∙ ap (λ (b : Board.Board). runs b cs) fresh!; answer = t .2 ∙ ap (λ (b : Board.Board). answersOf b cs) fresh! }
   where
-    start : Starts (made (made! .ids) (made! .lens) L) L
+    start : StartsBy (made (made! .ids) (made! .lens) L) L
     start = made-starts (made! .ids) (made! .lens) L (ap (λ (w : Returned Reply). w .reply .code) (sym (made! .promise)) ∙ made! .done)
 
     held : (w : Returned Reply) → returned (made! .reply) (s .ids) (s .lens) ≡ w → KnownReturned w → KnownHolding s

@@ -7,12 +7,13 @@ use Prim.Native.Nat.{ℕ, _+_, _-_, _/_, _^_, _≤_, _<_}
 use native.Mathlib.Omega.{arith}
 use native.Mathlib.Decide.{ℕ-discrete}
 use lib.Dec.{ltb, leb, eqb}
-use lib.ListN.{length, take}
+use lib.ListN.{length, take, length-replicate}
 use borrow.Author.Tests.{ne-eqb, le-ltb, ltb-true}
-use Rattle.base.proofs.Numbers.{false-lt}
+use Rattle.base.proofs.Numbers.{false-lt, true-le}
+use Rattle.base.proofs.Tests.{and-left, and-right}
 use Rattle.rules.specs.Board
 use Rattle.rules.specs.Board.{Place, fresh}
-use Rattle.rules.specs.Calls.{wrongTables, make}
+use Rattle.rules.specs.Calls.{wrongTables}
 use Rattle.board.specs.declared.Board as struct
 use Rattle.board.specs.Reading.{encode, view, isSound}
 use types.Run.{OneOf}
@@ -31,16 +32,14 @@ use Rattle.log.proofs.Readings.{before-all}
 use Rattle.lines.specs.Text.{Written, Line}
 use Rattle.lines.specs.Listing.{endLine, brokenLine, longLine}
 use Rattle.lines.proofs.Texts.{none, then, from-front}
-use Rattle.arrays.specs.Lists.{totalOf}
+use Rattle.arrays.specs.Lists.{totalOf, zeroed}
 use Rattle.arrays.proofs.Totals.{total-map}
-use Rattle.board.specs.declared.Reply.{Reply}
 use Rattle.board.specs.Leaving.{Returned, returned, Known}
 use Rattle.spoilt.specs.Early.{earlyCode}
-use Rattle.calls.specs.Promises.{made}
 use Rattle.board.proofs.Tables.{right-tables, none-wrong}
 use Rattle.spoilt.proofs.Before.{sound-known, early-none}
-use Rattle.board.proofs.Fresh.{Starts}
-use Rattle.calls.proofs.Making.{made-starts}
+use Rattle.board.proofs.Fresh.{Starts, starts}
+use Rattle.blocks.specs.Blocks.{freshIn}
 use Rattle.plays.specs.Listing.{Playing, unmade, waiting, listingFrom, listingOf}
 use Rattle.plays.proofs.Listing.{listing-whole, listing-broken, listing-end, listing-long, listing-first}
 use Rattle.player.specs.declared.State.{State}
@@ -270,10 +269,6 @@ largest-range : (l : ℕ) → inTurn (Largest l) BeforeL ≡ true → (leb 64 l 
 unfolding inTurn
 largest-range l e = e
 
-made-code : (ids lens : List ℕ) (l : ℕ) → length ids ≡ 2048 → length lens ≡ 2048 → (leb 64 l && leb l 2048) ≡ true → made ids lens l .reply .code ≡ 0
-unfolding made make
-made-code ids lens l a d e = rw (none-wrong (length ids) (length lens) a d, e) refl
-
 module _ (log : List ℕ) (s : State) (ids lens out : List ℕ) (unread : pastL (s .stage) ≡ false) where
   left-whole : restOf log s ids lens ≡ listingOf log
   unfolding restOf
@@ -290,19 +285,23 @@ module _ (log : List ℕ) (s : State) (ids lens out : List ℕ) (unread : pastL 
   first-last before text line count used ids′ lens′ out′ l few room w e = ended-done log s ids lens out used (take count line) (left-whole ∙ sym e ∙ sym (l .text)) ids′ lens′ out′ (omega (arith, line-count l)) w
 
   -- the board is made
-  module _ (a : length ids ≡ 2048) (d : length lens ≡ 2048) (short : isLong (length log) ≡ false) (l next : ℕ) (f : fieldAt log 0 BeforeL ≡ Whole (Largest l) next) (r : Reply) (ids′ lens′ : List ℕ) (m : returned r ids′ lens′ ≡ made ids lens l) where
-    starts : Starts (made ids lens l) l
-    starts = made-starts ids lens l (made-code ids lens l a d (largest-range l (whole-is log 0 BeforeL (Largest l) next f .turn)))
+  module _ (a : length ids ≡ 2048) (d : length lens ≡ 2048) (short : isLong (length log) ≡ false) (l next : ℕ) (f : fieldAt log 0 BeforeL ≡ Whole (Largest l) next)
+      (b : struct.Board) (ids′ lens′ : List ℕ) (m : returned b ids′ lens′ ≡ freshIn ids lens l) where
+    in-range : leb 64 l && leb l 2048 ≡ true
+    in-range = largest-range l (whole-is log 0 BeforeL (Largest l) next f .turn)
 
-    made-good : Known (r .board) ids′ lens′
-    made-good = subst (λ (w : Returned Reply). Known (w .reply .board) (w .ids) (w .lens)) (sym m) (starts .good)
-
-    made-reads : view (r .board) ids′ lens′ ≡ fresh l
-    made-reads = ap (λ (w : Returned Reply). view (w .reply .board) (w .ids) (w .lens)) m ∙ starts .reads
+    made-starts : Starts b ids′ lens′ l
+    made-starts =
+        subst (λ (w : Returned struct.Board). Starts (w .reply) (w .ids) (w .lens) l) (sym m)
+        (starts l (zeroed ids) (zeroed lens)
+        (true-le 64 l (and-left (leb 64 l) (leb l 2048) in-range))
+        (true-le l 2048 (and-right (leb 64 l) (leb l 2048) in-range))
+        (length-replicate {A = ℕ} (length ids) 0 ∙ a)
+        (length-replicate {A = ℕ} (length lens) 0 ∙ d))
 
     module _ (stage : Stage) (on : stage ≡ stageAfter BeforeL (Largest l)) where
       abbrev after-first : State
-      after-first = record { stage = stage; at = next; sent = record { 0 = 0 }; board = r .board }
+      after-first = record { stage = stage; at = next; sent = record { 0 = 0 }; board = b }
 
       past : pastL stage ≡ true
       past = ap pastL on ∙ past-after (Largest l) BeforeL (whole-is log 0 BeforeL (Largest l) next f .turn)
@@ -314,11 +313,14 @@ module _ (log : List ℕ) (s : State) (ids lens out : List ℕ) (unread : pastL 
         fits = omega arith;
         joined =
             left-is after-first past log ids′ lens′
-            ∙ ap₂ (λ (b : Board.Board) (t : Stage). listingFrom (record { board = b; sent = 0 }) log next t) made-reads on
+            ∙ ap₂ (λ (b : Board.Board) (t : Stage). listingFrom (record { board = b; sent = 0 }) log next t) (made-starts .reads) on
             ∙ sym (listing-first log (omega (arith, false-lt 32769 (length log) short)) ∙ listing-whole unmade log 0 BeforeL (Largest l) next f)
             ∙ sym left-whole;
         rest = refl;
-        goesOn = λ e. sym (code-early (length log) after-first ids′ lens′ (made-good .ids-all) (made-good .lens-all) past short (le-ltb next (0 / 65536) (omega arith))) ∙ early-none (r .board) ids′ lens′ made-good;
+        goesOn = λ e.
+            let good = made-starts .good in
+            sym (code-early (length log) after-first ids′ lens′ (good .ids-all) (good .lens-all) past short (le-ltb next (0 / 65536) (omega arith)))
+            ∙ early-none b ids′ lens′ good;
         moves = λ e h.
             let w = whole-next log 0 BeforeL (Largest l) next f in
             let now = read-is after-first past in

@@ -39,7 +39,7 @@ pub struct Piece {
 }
 
 // The sum of some lanes' counts.
-fn sum_of(counts: &[u8]) -> u32
+fn sum_of(counts: &[u16]) -> u32
     requires { ⌜ length (now counts) ≤ 64 ⌝ }
     ensures { λ r. ⌜ r ≡ totalOf (now (counts .entry)) ⌝ }
 {
@@ -53,7 +53,7 @@ fn sum_of(counts: &[u8]) -> u32
 }
 
 // How many records wait.
-fn waiting(counts: &[u8; PLACES]) -> u32
+fn waiting(counts: &[u16; PLACES]) -> u32
     ensures { λ r. ⌜ r ≡ totalOf (now (counts .entry)) ⌝ }
 {
     sum_of(counts)
@@ -248,8 +248,7 @@ fn first_piece(log: &[u8], ids: &mut [u32], lens: &mut [u16], out: &mut [u8], s:
         return last_piece(0, s);
     };
     let stage = log::stage_after(Stage::BeforeL, event);
-    let made = calls::make(ids, lens, largest);
-    let board = made.board;
+    let board = blocks::make_in(ids, lens, largest);
     Piece {
         code: codes::DONE,
         used: 0,

@@ -97,8 +97,8 @@ returns-4 c =
 stage-after-requires : tie.Need-stage-after-requires
 stage-after-requires c κs = search needs
 
-make-requires : tie.Need-make-requires
-make-requires c κs = search needs
+make-in-requires : tie.Need-make-in-requires
+make-in-requires c κs = search needs
 
 same-length-3 : tie.Need-same-length-3
 same-length-3 c = search needs
@@ -108,7 +108,7 @@ same-length-4 c = search needs
 
 returns-5 : tie.Need-returns-5
 returns-5 c =
-    let at-make = c .before .before .before .before .before in
+    let at-make = c .before .before .before .before in
     let at-stage-after = at-make .before .before .before in
     let at-event2 = at-stage-after .before .before in
     let at-event = at-event2 .before .before .before in
@@ -119,7 +119,7 @@ returns-5 c =
     let tables = code-tables _ _ _ _ (start .pre .1) in
     let short = sym (at-is-long .is-long .ensures) ∙ at-if2 .if2 .left in
     let read = is-largest _ _ _ _ (sym (at-field-at .field-at .ensures) ∙ at-event .event .given .1) (at-event2 .event2 .given .1) in
-    first-made _ _ _ _ _ (start .pre .0) (tables .0) (tables .1) short _ _ read _ _ _ (at-make .make .ensures) _ (at-stage-after .stage-after .ensures)
+    first-made _ _ _ _ _ (start .pre .0) (tables .0) (tables .1) short _ _ read _ _ _ (at-make .make-in .ensures) _ (at-stage-after .stage-after .ensures)
 
 pub first-piece-spec : {M : Type 1} → statement M
 first-piece-spec =
@@ -144,7 +144,7 @@ first-piece-spec =
     last-piece-requires-3
     returns-4
     stage-after-requires
-    make-requires
+    make-in-requires
     same-length-3
     same-length-4
     returns-5)
