@@ -1,7 +1,7 @@
 // The calls, by the step that makes each.
 use crate::steps;
 use board::Board;
-use calls::Reply;
+use board::Reply;
 use numbers::TABLE_ENTRIES;
 use numbers::codes;
 

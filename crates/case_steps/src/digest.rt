@@ -59,8 +59,8 @@ fn places(b: Board) -> u64 {
     let numbers = words(&b.numbers, 0);
     let shares = words(&b.shares, numbers);
     let deficits = longs(&b.deficits, shares);
-    let starts = bytes(&b.starts, deficits);
-    let counts = bytes(&b.counts, starts);
+    let starts = shorts(&b.starts, deficits);
+    let counts = shorts(&b.counts, starts);
     let ready = longs(&b.ready, counts);
     bytes(&b.next, ready)
 }

@@ -9,6 +9,8 @@ ghost use Prim.Native.Nat.{_<_};
 
 const WORD: u64 = 4294967295;
 
+const SHORT: u64 = 65535;
+
 const BYTE: u64 = 255;
 
 // How many values a field has: one for each place or each class, or one. A step that sets no field has none.
@@ -42,6 +44,7 @@ pub fn most(step: u8) -> u64 {
         | steps::LARGEST
         | steps::ACTIVE
         | steps::PENDING => WORD,
+        steps::START | steps::COUNT => SHORT,
         _ => BYTE,
     }
 }
@@ -49,6 +52,10 @@ pub fn most(step: u8) -> u64 {
 // ---- What stands there
 
 fn of_word(v: u32) -> u64 {
+    v as u64
+}
+
+fn of_short(v: u16) -> u64 {
     v as u64
 }
 
@@ -63,8 +70,8 @@ fn at_place(step: u8, p: usize, b: Board) -> u64
         steps::NUMBER => of_word(b.numbers[p]),
         steps::SHARE => of_word(b.shares[p]),
         steps::DEFICIT => b.deficits[p],
-        steps::START => of_byte(b.starts[p]),
-        steps::COUNT => of_byte(b.counts[p]),
+        steps::START => of_short(b.starts[p]),
+        steps::COUNT => of_short(b.counts[p]),
         steps::READY => b.ready[p],
         _ => of_byte(b.next[p]),
     }
@@ -112,6 +119,10 @@ fn to_word(v: u64) -> u32 {
     (v % (WORD + 1)) as u32
 }
 
+fn to_short(v: u64) -> u16 {
+    (v % (SHORT + 1)) as u16
+}
+
 fn to_byte(v: u64) -> u8 {
     (v % (BYTE + 1)) as u8
 }
@@ -123,8 +134,8 @@ fn with_at_place(step: u8, p: usize, v: u64, mut b: Board) -> Board
         steps::NUMBER => b.numbers[p] = to_word(v),
         steps::SHARE => b.shares[p] = to_word(v),
         steps::DEFICIT => b.deficits[p] = v,
-        steps::START => b.starts[p] = to_byte(v),
-        steps::COUNT => b.counts[p] = to_byte(v),
+        steps::START => b.starts[p] = to_short(v),
+        steps::COUNT => b.counts[p] = to_short(v),
         steps::READY => b.ready[p] = v,
         _ => b.next[p] = to_byte(v),
     }
