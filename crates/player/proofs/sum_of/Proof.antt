@@ -8,13 +8,16 @@ use Rattle.player.proofs.sum_of.Statement.{statement}
 use Rattle.player.proofs.sum_of.Tie as tie
 
 abbrev Inv-loop : tie.InvT-loop
-Inv-loop counts sum₀ i₀ sum i = Summed 256 counts i sum
+Inv-loop counts sum₀ i₀ sum i = Summed 65536 counts i sum
 
 abbrev μ-loop : tie.MeasureT-loop
 μ-loop counts sum₀ i₀ sum i = length counts - i
 
 loop-holds : tie.Need-loop-holds Inv-loop μ-loop
 loop-holds c = summed-none _ _
+
+mul-sum : tie.Need-mul-sum Inv-loop μ-loop
+mul-sum c = search needs
 
 shared-slice-read-sum : tie.Need-shared-slice-read-sum Inv-loop μ-loop
 shared-slice-read-sum c = search needs
@@ -44,6 +47,7 @@ sum-of-spec =
     Inv-loop
     μ-loop
     loop-holds
+    mul-sum
     shared-slice-read-sum
     cast-sum
     add-sum
