@@ -85,8 +85,8 @@ fn play_serve(
     left: Parts,
     numbers: &[u32; PLACES],
     shares: &[u32; PLACES],
-    starts: &mut [u8; PLACES],
-    counts: &mut [u8; PLACES],
+    starts: &mut [u16; PLACES],
+    counts: &mut [u16; PLACES],
     deficits: &mut [u64; PLACES],
     ready: &mut [u64; PLACES],
     next: &mut [u8; PLACES],
@@ -146,8 +146,8 @@ fn play_field(
     left: Parts,
     numbers: &mut [u32; PLACES],
     shares: &mut [u32; PLACES],
-    starts: &mut [u8; PLACES],
-    counts: &mut [u8; PLACES],
+    starts: &mut [u16; PLACES],
+    counts: &mut [u16; PLACES],
     deficits: &mut [u64; PLACES],
     ready: &mut [u64; PLACES],
     next: &mut [u8; PLACES],
@@ -240,7 +240,7 @@ fn play_field(
 // ---- A piece of the listing
 
 // The sum of some lanes' counts.
-fn sum_of(counts: &[u8]) -> u32
+fn sum_of(counts: &[u16]) -> u32
     requires { ⌜ length (now counts) ≤ 64 ⌝ }
     ensures { λ r. ⌜ r ≡ totalOf (now (counts .entry)) ⌝ }
 {
@@ -254,7 +254,7 @@ fn sum_of(counts: &[u8]) -> u32
 }
 
 // How many records wait.
-fn waiting(counts: &[u8; PLACES]) -> u32
+fn waiting(counts: &[u16; PLACES]) -> u32
     ensures { λ r. ⌜ r ≡ totalOf (now (counts .entry)) ⌝ }
 {
     sum_of(counts)

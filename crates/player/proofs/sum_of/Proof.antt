@@ -12,13 +12,16 @@ use Rattle.player.proofs.sum_of.Statement.{statement}
 use Rattle.player.proofs.sum_of.Tie as tie
 
 abbrev Inv-loop : tie.InvT-loop
-Inv-loop counts sum₀ i₀ sum i = (i ≤ length counts) × ((sum ≡ below (λ j. getD counts j 0) i) × (sum ≤ i * 256))
+Inv-loop counts sum₀ i₀ sum i = (i ≤ length counts) × ((sum ≡ below (λ j. getD counts j 0) i) × (sum ≤ i * 65536))
 
 abbrev μ-loop : tie.MeasureT-loop
 μ-loop counts sum₀ i₀ sum i = length counts - i
 
 loop-holds : tie.Need-loop-holds Inv-loop μ-loop
 loop-holds c = (omega arith, (below-none _, omega arith))
+
+mul-sum : tie.Need-mul-sum Inv-loop μ-loop
+mul-sum c = search needs
 
 shared-slice-read-sum : tie.Need-shared-slice-read-sum Inv-loop μ-loop
 shared-slice-read-sum c = search needs
@@ -49,6 +52,7 @@ sum-of-spec =
     Inv-loop
     μ-loop
     loop-holds
+    mul-sum
     shared-slice-read-sum
     cast-sum
     add-sum
