@@ -47,11 +47,11 @@ fn bytes(shown: bool, word: &[u8], row: &[u8], from: u64) -> u64 {
     h
 }
 
-fn shorts(row: &[u16], from: u64) -> u64 {
+fn shorts(shown: bool, word: &[u8], row: &[u16], from: u64) -> u64 {
     let mut h = from;
     let mut i: usize = 0;
     while i < row.len() {
-        h = take(h, row[i] as u64);
+        h = entry(shown, word, i, row[i] as u64, h);
         i += 1;
     }
     h
@@ -81,8 +81,8 @@ fn places(shown: bool, b: Board) -> u64 {
     let numbers = words(shown, b"number", &b.numbers, 0);
     let shares = words(shown, b"share", &b.shares, numbers);
     let deficits = longs(shown, b"deficit", &b.deficits, shares);
-    let starts = bytes(shown, b"start", &b.starts, deficits);
-    let counts = bytes(shown, b"count", &b.counts, starts);
+    let starts = shorts(shown, b"start", &b.starts, deficits);
+    let counts = shorts(shown, b"count", &b.counts, starts);
     let ready = longs(shown, b"ready", &b.ready, counts);
     bytes(shown, b"next", &b.next, ready)
 }
@@ -112,7 +112,7 @@ pub fn lent_words(row: &[u32], h: u64) -> u64 {
 }
 
 fn lent_shorts(row: &[u16], h: u64) -> u64 {
-    shorts(row, take(h, row.len() as u64))
+    shorts(false, b"", row, take(h, row.len() as u64))
 }
 
 pub fn tables(ids: &[u32], lens: &[u16], h: u64) -> u64 {

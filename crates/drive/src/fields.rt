@@ -56,14 +56,20 @@ pub fn place_number(step: u8, whole: &mut bool, mut b: Board) -> Board {
     b
 }
 
-pub fn place_byte(step: u8, whole: &mut bool, mut b: Board) -> Board {
+pub fn place_short(step: u8, whole: &mut bool, mut b: Board) -> Board {
     let p = input::index(LAST_PLACE, &mut *whole);
-    let v = input::byte(whole);
+    let v = input::short(whole);
     match step {
         steps::START => b.starts[p] = v,
-        steps::COUNT => b.counts[p] = v,
-        _ => b.next[p] = v,
+        _ => b.counts[p] = v,
     }
+    b
+}
+
+pub fn place_byte(whole: &mut bool, mut b: Board) -> Board {
+    let p = input::index(LAST_PLACE, &mut *whole);
+    let v = input::byte(whole);
+    b.next[p] = v;
     b
 }
 

@@ -68,7 +68,8 @@ fn set(step: u8, whole: &mut bool, b: Board) -> Board {
         steps::LEFT => fields::left(whole, b),
         steps::NUMBER | steps::SHARE => fields::place_word(step, whole, b),
         steps::DEFICIT | steps::READY => fields::place_number(step, whole, b),
-        steps::START | steps::COUNT | steps::NEXT => fields::place_byte(step, whole, b),
+        steps::START | steps::COUNT => fields::place_short(step, whole, b),
+        steps::NEXT => fields::place_byte(whole, b),
         steps::HEAD | steps::TAIL => fields::class_byte(step, whole, b),
         steps::HELD => fields::held(whole, b),
         _ => {

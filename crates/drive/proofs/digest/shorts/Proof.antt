@@ -7,25 +7,25 @@ use Rattle.drive.proofs.digest.shorts.Statement.{statement}
 use Rattle.drive.proofs.digest.shorts.Tie as tie
 
 abbrev Inv-loop : tie.InvT-loop
-Inv-loop row from h₀ i₀ h i = i ≤ length row
+Inv-loop shown word row from h₀ i₀ h i = i ≤ length row
 
 abbrev μ-loop : tie.MeasureT-loop
-μ-loop row from h₀ i₀ h i = length row - i
+μ-loop shown word row from h₀ i₀ h i = length row - i
 
 loop-holds : tie.Need-loop-holds Inv-loop μ-loop
 loop-holds c = search needs
 
-mul-take : tie.Need-mul-take Inv-loop μ-loop
-mul-take c = search needs
+mul-entry : tie.Need-mul-entry Inv-loop μ-loop
+mul-entry c = search needs
 
-shared-slice-read-take : tie.Need-shared-slice-read-take Inv-loop μ-loop
-shared-slice-read-take c = search needs
+shared-slice-read-entry : tie.Need-shared-slice-read-entry Inv-loop μ-loop
+shared-slice-read-entry c = search needs
 
-cast-take : tie.Need-cast-take Inv-loop μ-loop
-cast-take c = omega (arith, c .before .before .before .shared-slice-known .given (c .before .before .loop .i))
+cast-entry : tie.Need-cast-entry Inv-loop μ-loop
+cast-entry c = omega (arith, c .shared-slice-known3 .given (c .before .before .loop .i))
 
-take-requires : tie.Need-take-requires Inv-loop μ-loop
-take-requires c κs = search needs
+entry-requires : tie.Need-entry-requires Inv-loop μ-loop
+entry-requires c κs = search needs
 
 add-i : tie.Need-add-i Inv-loop μ-loop
 add-i c = search needs
@@ -46,10 +46,10 @@ shorts-spec =
     Inv-loop
     μ-loop
     loop-holds
-    mul-take
-    shared-slice-read-take
-    cast-take
-    take-requires
+    mul-entry
+    shared-slice-read-entry
+    cast-entry
+    entry-requires
     add-i
     loop-less
     loop-again
