@@ -6,6 +6,7 @@ use second::numbers::{CLASSES, PLACES};
 
 type Words = [u32; PLACES];
 type Longs = [u64; PLACES];
+type Rings = [u16; PLACES];
 type Small = [u8; PLACES];
 type Links = [u8; CLASSES];
 
@@ -15,19 +16,19 @@ extern "C" {
     fn box_listing(log: *const u8, log_len: usize, piece: *mut u8, piece_len: usize, out: *mut u8, out_len: usize) -> usize;
     fn box_record(
         ids: *mut u32, ids_len: usize, lens: *mut u16, lens_len: usize, number: u32, id: u32, length: u16,
-        numbers: &mut Words, shares: &mut Words, starts: &mut Small, counts: &mut Small, deficits: &mut Longs, ready: &mut Longs, next: &mut Small,
+        numbers: &mut Words, shares: &mut Words, starts: &mut Rings, counts: &mut Rings, deficits: &mut Longs, ready: &mut Longs, next: &mut Small,
         heads: &mut Links, tails: &mut Links, held: &mut [u32; CLASSES],
         largest: &mut u32, clock: &mut u64, active: &mut u32, pending: &mut u32, slot: &mut u8, left: &mut u64,
     ) -> u8;
     fn box_serve(
         ids: *const u32, ids_len: usize, lens: *const u16, lens_len: usize, block: &mut u32, number: &mut u32, length: &mut u16, time: &mut u64,
-        numbers: &mut Words, shares: &mut Words, starts: &mut Small, counts: &mut Small, deficits: &mut Longs, ready: &mut Longs, next: &mut Small,
+        numbers: &mut Words, shares: &mut Words, starts: &mut Rings, counts: &mut Rings, deficits: &mut Longs, ready: &mut Longs, next: &mut Small,
         heads: &mut Links, tails: &mut Links, held: &mut [u32; CLASSES],
         largest: &mut u32, clock: &mut u64, active: &mut u32, pending: &mut u32, slot: &mut u8, left: &mut u64,
     ) -> u8;
     fn box_burst(
         ids: *const u32, ids_len: usize, lens: *const u16, lens_len: usize, bytes: u64, list: *mut u32, list_len: usize, count: &mut usize, sent: &mut u64,
-        numbers: &mut Words, shares: &mut Words, starts: &mut Small, counts: &mut Small, deficits: &mut Longs, ready: &mut Longs, next: &mut Small,
+        numbers: &mut Words, shares: &mut Words, starts: &mut Rings, counts: &mut Rings, deficits: &mut Longs, ready: &mut Longs, next: &mut Small,
         heads: &mut Links, tails: &mut Links, held: &mut [u32; CLASSES],
         largest: &mut u32, clock: &mut u64, active: &mut u32, pending: &mut u32, slot: &mut u8, left: &mut u64,
     ) -> u8;

@@ -10,8 +10,8 @@ pub struct Board {
     pub shares: [u32; PLACES],
     /// In parts.
     pub deficits: [u64; PLACES],
-    pub starts: [u8; PLACES],
-    pub counts: [u8; PLACES],
+    pub starts: [u16; PLACES],
+    pub counts: [u16; PLACES],
     pub ready: [u64; PLACES],
     /// The link to the place behind in the same class's order.
     pub next: [u8; PLACES],

@@ -74,8 +74,8 @@ fn write_block(block: &Block, place: usize, board: &mut Board, tables: &mut Tabl
     board.numbers[place] = block.number;
     board.shares[place] = block.share;
     board.deficits[place] = block.deficit.0;
-    board.starts[place] = block.start as u8;
-    board.counts[place] = block.lane.len() as u8;
+    board.starts[place] = block.start as u16;
+    board.counts[place] = block.lane.len() as u16;
     for (j, record) in block.lane.iter().enumerate() {
         let entry = lane_entry(place, block.start, j);
         tables.numbers[entry] = record.number;
