@@ -14,12 +14,13 @@ use Rattle.base.proofs.Numbers.{split, leb-yes, leb-no, false-lt, eqb-true}
 use Rattle.rules.specs.Board
 use Rattle.rules.specs.Board.{Record, Place, freePlace, at, waits, entry, firstEntry, out, spent}
 use Rattle.rules.specs.Choice.{Turn, refuse, whereIs, numberOutside, noneHas, someHas, lengthOutside, laneFull, tookAt, takeRecord, goOn}
-use Rattle.rules.specs.Blocks.{opening, opened, freeAt, shareOutside, allTaken, overFree, openBlock, renameBlock, closed, closeBlock}
+use Rattle.rules.specs.Blocks.{meant, opened, freeAt, shareOutside, allTaken, overFree, openBlock, renameBlock, closed, closeBlock}
 use Rattle.rules.specs.Calls.{Single, open!, rename!, close!, record!, step, one, told, writes, done! }
 use Rattle.rules.proofs.Cases.{or-right, in-range, some-in, where-has, free-found, CanClose, can-close}
 use Rattle.rules.proofs.Calls.{in-places, empty-out}
 use Rattle.rules.proofs.Shape.{named-num}
 use Rattle.rules.proofs.Tidy.{Tidy}
+use Rattle.operands.specs.declared.Opening.{Opening}
 use Rattle.board.specs.declared.Board as struct
 use Rattle.board.specs.Reading.{encode}
 use Rattle.board.proofs.Reading.{Fit}
@@ -167,7 +168,13 @@ module _ (m : Board.Board) (f : Fit m) (ids lens : List ℕ) (old new : ℕ) whe
       ∙ ap (λ (c : struct.Board). returned (replied 0 c) ids lens) (rename-is m (f .tidy) (whereIs m old) (inside m f (whereIs m old) (some-in m old e6)) new)
 
 -- ---- OPEN
-module _ (m : Board.Board) (f : Fit m) (ids lens : List ℕ) (n s : ℕ) where
+module _ (m : Board.Board) (f : Fit m) (ids lens : List ℕ) (o : Opening) where
+  abbrev n : ℕ
+  n = o .number
+
+  abbrev s : ℕ
+  s = o .share
+
   abbrev openedTo : AfterOpening → Returned Reply
   openedTo x = returned (replied (x .code) (withOpening (encode m) x)) ids lens
 
@@ -175,21 +182,21 @@ module _ (m : Board.Board) (f : Fit m) (ids lens : List ℕ) (n s : ℕ) where
   openedAt i = afterOpening 0 (set (encode m .numbers) i n) (set (encode m .shares) i s)
 
   abbrev by-open : Turn → Returned Reply
-  by-open = turned (encode m) ids lens m (open! (opening n s))
+  by-open = turned (encode m) ids lens m (open! (meant o))
 
-  opened-at : leb 64 (freeAt m) ≡ false → withOpening (encode m) (openedAt (freeAt m)) ≡ encode (goOn m (freeAt m) (opened (opening n s)))
+  opened-at : leb 64 (freeAt m) ≡ false → withOpening (encode m) (openedAt (freeAt m)) ≡ encode (goOn m (freeAt m) (opened (meant o)))
   opened-at e = go (f .tidy .shape .placeOk p .named)
     where
       p : ℕ
       p = freeAt m
 
-      go : (at m p ≡ freePlace) ⊎ ((1 ≤ at m p .number) × (1 ≤ at m p .share)) → withOpening (encode m) (openedAt p) ≡ encode (goOn m p (opened (opening n s)))
+      go : (at m p ≡ freePlace) ⊎ ((1 ≤ at m p .number) × (1 ≤ at m p .share)) → withOpening (encode m) (openedAt p) ≡ encode (goOn m p (opened (meant o)))
       go (inl q) =
           open-is m (f .tidy) p (inside m f p (false-lt 64 p e)) (ap (λ (y : Place). y .stand) q) (ap (λ (y : Place). length (y .lane)) q)
-          (ap (λ (y : Place). y .deficit) q) (opening n s) (ap (λ (y : Place). y .start) q)
+          (ap (λ (y : Place). y .deficit) q) (meant o) (ap (λ (y : Place). y .start) q)
       go (inr h) = absurd (omega (arith, free-found m (false-lt 64 (freeAt m) e)))
 
-  pub opened-is : openedTo (openedIn (encode m .numbers) (encode m .shares) (encode m .held) n s) ≡ written (encode m) ids lens (done! m (one (open! (opening n s))))
+  pub opened-is : openedTo (openedIn (encode m .numbers) (encode m .shares) (encode m .held) o) ≡ written (encode m) ids lens (done! m (one (open! (meant o))))
   unfolding openedIn step openBlock
   opened-is =
       agrees openedTo by-open m _ (numberOutside n || shareOutside s) 4 _ _ _ refl refl λ e4.

@@ -10,8 +10,9 @@ use Rattle.base.proofs.Sums.{below-mono}
 use Rattle.base.proofs.Numbers.{split}
 use Rattle.rules.specs.Board
 use Rattle.rules.specs.Board.{Place, freePlace, at}
-use Rattle.rules.specs.Blocks.{opening}
+use Rattle.rules.specs.Blocks.{meant}
 use Rattle.rules.specs.Calls.{Single, open!, rename!, close!, record!, one, done! }
+use Rattle.operands.specs.declared.Opening.{Opening}
 use Rattle.board.specs.declared.Board as struct
 use Rattle.board.specs.Reading.{tab, lastLink, encode, view}
 use Rattle.board.proofs.Lists.{getD-tab, getD-tab-out, last-in}
@@ -91,8 +92,8 @@ module _ (b : struct.Board) (ids lens : List ℕ) (k : Known b ids lens) where
   pub rename-known : (old new : ℕ) (x : Renaming) → x ≡ renamedIn (b .numbers) old new → returned (replied (x .code) (withRenaming b x)) ids lens ≡ ruled b ids lens (rename! old new)
   rename-known old new x e = rw e (by-spelling (rename! old new) (λ c. returned (replied (renamedIn (c .numbers) old new .code) (withRenaming c (renamedIn (c .numbers) old new))) ids lens) (renamed-is m f ids lens old new))
 
-  pub open-known : (n s : ℕ) (x : AfterOpening) → x ≡ openedIn (b .numbers) (b .shares) (b .held) n s → returned (replied (x .code) (withOpening b x)) ids lens ≡ ruled b ids lens (open! (opening n s))
-  open-known n s x e = rw e (by-spelling (open! (opening n s)) (λ c. let x = openedIn (c .numbers) (c .shares) (c .held) n s in returned (replied (x .code) (withOpening c x)) ids lens) (opened-is m f ids lens n s))
+  pub open-known : (o : Opening) (x : AfterOpening) → x ≡ openedIn (b .numbers) (b .shares) (b .held) o → returned (replied (x .code) (withOpening b x)) ids lens ≡ ruled b ids lens (open! (meant o))
+  open-known o x e = rw e (by-spelling (open! (meant o)) (λ c. let x = openedIn (c .numbers) (c .shares) (c .held) o in returned (replied (x .code) (withOpening c x)) ids lens) (opened-is m f ids lens o))
 
   pub close-known : (n : ℕ) (x : Closing) → x ≡ closedIn (b .active) (b .numbers) (b .shares) (b .starts) (b .counts) (b .held) n → returned (replied (x .code) (withClosing b x)) ids lens ≡ ruled b ids lens (close! n)
   close-known n x e = rw e (by-spelling (close! n) (λ c. let x = closedIn (c .active) (c .numbers) (c .shares) (c .starts) (c .counts) (c .held) n in returned (replied (x .code) (withClosing c x)) ids lens) (closed-is m f ids lens n))

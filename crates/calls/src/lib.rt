@@ -1,7 +1,7 @@
 // The calls of the box, on a board by value and the two lent tables.
 ghost use mathlib.Core.Path.{_≡_};
 ghost use lib.ListN.{length, replicate};
-ghost use Rattle.rules.specs.Blocks.{opening};
+ghost use Rattle.rules.specs.Blocks.{meant};
 ghost use Rattle.rules.specs.Calls.{open!, rename!, close!, record! };
 ghost use Rattle.engine.specs.Serving.{withEngine, withinNow, engineAfter};
 ghost use Rattle.calls.specs.Contract.{goodServe, burstNow, goodBurst, calledServe, calledBurst};
@@ -14,6 +14,7 @@ use numbers::LEAST_LARGEST;
 use numbers::PLACES;
 use numbers::TABLE_ENTRIES;
 use numbers::codes;
+use operands::Opening;
 use units::Bytes;
 
 // What a call gives back: its code, and the board.
@@ -112,17 +113,17 @@ fn rename_block(ids: &[u32], lens: &[u16], old: u32, new: u32, b: Board) -> Repl
     }
 }
 
-// A block opens with this number and share.
-fn open_block(ids: &[u32], lens: &[u16], block: u32, share: u32, b: Board) -> Reply
+// A block opens, with the number and the share that it is given.
+fn open_block(ids: &[u32], lens: &[u16], opening: Opening, b: Board) -> Reply
     requires { ⌜ Known b (now ids) (now lens) ⌝ }
     ensures { λ r. ⌜
         returned r (now (ids .exit)) (now (lens .exit))
-        ≡ ruled b (now (ids .entry)) (now (lens .entry)) (open! (opening block share)) ⌝ }
+        ≡ ruled b (now (ids .entry)) (now (lens .entry)) (open! (meant opening)) ⌝ }
 {
     let held = b.held;
     let mut numbers = b.numbers;
     let mut shares = b.shares;
-    let code = engine::open_in(block, share, &mut numbers, &mut shares, &held);
+    let code = engine::open_in(opening, &mut numbers, &mut shares, &held);
     let mut n = b;
     n.numbers = numbers;
     n.shares = shares;
@@ -365,11 +366,11 @@ pub fn early(ids: &[u32], lens: &[u16], b: Board) -> u8
     codes::SPOILT
 }
 
-// A block opens with this number and share.
-pub fn open(ids: &[u32], lens: &[u16], block: u32, share: u32, b: Board) -> Reply
+// A block opens, with the number and the share that it is given.
+pub fn open(ids: &[u32], lens: &[u16], opening: Opening, b: Board) -> Reply
     ensures { λ r. ⌜
         returned r (now (ids .exit)) (now (lens .exit))
-        ≡ called b (now (ids .entry)) (now (lens .entry)) (open! (opening block share)) ⌝ }
+        ≡ called b (now (ids .entry)) (now (lens .entry)) (open! (meant opening)) ⌝ }
 {
     let code = early(ids, lens, b);
     if code != codes::DONE {
@@ -378,7 +379,7 @@ pub fn open(ids: &[u32], lens: &[u16], block: u32, share: u32, b: Board) -> Repl
             board: b,
         };
     }
-    open_block(ids, lens, block, share, b)
+    open_block(ids, lens, opening, b)
 }
 
 // The block with the old number takes the new one.

@@ -8,6 +8,7 @@ use board::Board;
 use calls::Reply;
 use numbers::TABLE_ENTRIES;
 use numbers::codes;
+use operands::Opening;
 use units::Bytes;
 ghost use mathlib.Core.Path.{_≡_};
 ghost use lib.ListN.{length};
@@ -28,7 +29,11 @@ fn reply(step: u8, ids: &mut [u32], lens: &mut [u16], whole: &mut bool, b: Board
     }
     let second = input::word(&mut *whole);
     if step == steps::OPEN {
-        return calls::open(ids, lens, first, second, b);
+        let opening = Opening {
+            number: first,
+            share: second,
+        };
+        return calls::open(ids, lens, opening, b);
     }
     if step == steps::RENAME {
         return calls::rename(ids, lens, first, second, b);

@@ -9,6 +9,7 @@ use Rattle.base.specs.Sums.{below}
 use Rattle.units.specs.Classes.{classOf}
 use Rattle.board.specs.declared.Board.{Board}
 use Rattle.board.specs.With.{with-numbers, with-shares, with-starts, with-held}
+use Rattle.operands.specs.declared.Opening.{Opening}
 use Rattle.engine.specs.Steps.{foundIn}
 
 -- ---- RENAME
@@ -48,8 +49,10 @@ pub record AfterOpening : Type 0 where
 abbrev pub afterOpening : ℕ → List ℕ → List ℕ → AfterOpening
 afterOpening code numbers shares = record { code = code; numbers = numbers; shares = shares }
 
-unfoldable pub openedIn : List ℕ → List ℕ → List ℕ → ℕ → ℕ → AfterOpening
-openedIn numbers shares held n s =
+unfoldable pub openedIn : List ℕ → List ℕ → List ℕ → Opening → AfterOpening
+openedIn numbers shares held o =
+    let n = o .number in
+    let s = o .share in
     let p = foundIn numbers 0 in
     cond (eqb n 0 || (eqb s 0 || ltb 65536 s)) (afterOpening 4 numbers shares)
     (cond (not (eqb (foundIn numbers n) 64)) (afterOpening 5 numbers shares)

@@ -23,6 +23,7 @@ use numbers::NO_PLACE;
 use numbers::PLACES;
 use numbers::WHOLE_LINE;
 use numbers::codes;
+use operands::Opening;
 use units::Bytes;
 use units::Parts;
 
@@ -206,14 +207,15 @@ fn total(shares: &[u32]) -> u64
 
 // A block opens at the lowest free place; the answer is the code.
 pub fn open_in(
-    block: u32,
-    share: u32,
+    opening: Opening,
     numbers: &mut [u32; PLACES],
     shares: &mut [u32; PLACES],
     held: &[u32; CLASSES],
 ) -> u8
-    ensures { λ r. ⌜ afterOpening r (now (numbers .exit)) (now (shares .exit)) ≡ openedIn (now (numbers .entry)) (now (shares .entry)) (now (held .entry)) block share ⌝ }
+    ensures { λ r. ⌜ afterOpening r (now (numbers .exit)) (now (shares .exit)) ≡ openedIn (now (numbers .entry)) (now (shares .entry)) (now (held .entry)) opening ⌝ }
 {
+    let block = opening.number;
+    let share = opening.share;
     if outside(block, share, GREATEST_SHARE) {
         return codes::OUT_OF_RANGE;
     }

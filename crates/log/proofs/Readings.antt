@@ -150,7 +150,7 @@ not-long s at begun (f ∷ fs) e r h = not-long s (f .next) true fs e (r .1 .1) 
 turn-later : (e : Event) → inTurn e true ≡ true → isL e ≡ false
 unfolding inTurn
 turn-later (Largest l) h = differ (sym h)
-turn-later (Open a b) h = refl
+turn-later (Open o) h = refl
 turn-later (Close a) h = refl
 turn-later (Rename a b) h = refl
 turn-later (Arrive a b n) h = refl
@@ -160,7 +160,7 @@ turn-later Passed h = refl
 pub turn-first : (e : Event) → inTurn e false ≡ true → (l : ℕ) × ((e ≡ Largest l) × ((64 ≤ l) × (l ≤ 2048)))
 unfolding inTurn
 turn-first (Largest l) h = (l, (refl, (leb-true 64 l (and-left _ (leb l 2048) h), leb-true l 2048 (and-right (leb 64 l) _ h))))
-turn-first (Open a b) h = differ (sym h)
+turn-first (Open o) h = differ (sym h)
 turn-first (Close a) h = differ (sym h)
 turn-first (Rename a b) h = differ (sym h)
 turn-first (Arrive a b n) h = differ (sym h)

@@ -164,9 +164,9 @@ fn play_field(
     let mut shown: usize = 0;
     let mut set = active;
     match event {
-        Event::Open(block, share) => {
-            let code = engine::open_in(block, share, numbers, shares, held);
-            shown = lines::put_open(line, block, code);
+        Event::Open(opening) => {
+            let code = engine::open_in(opening, numbers, shares, held);
+            shown = lines::put_open(line, opening.number, code);
         }
         Event::Close(block) => {
             let code = engine::close_in(block, active, counts, numbers, shares, starts, held);

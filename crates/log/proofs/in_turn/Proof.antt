@@ -22,7 +22,7 @@ later = 1 ∷ 2 ∷ 3 ∷ 4 ∷ 5 ∷ 6 ∷ []
 other : (event : Event) (begun : Bool) → OneOf later (tagOf the-type event) → begun ≡ inTurn event begun
 unfolding inTurn
 other (Largest l) begun k = absurd (miss later 0 tt k)
-other (Open a b) begun k = refl
+other (Open o) begun k = refl
 other (Close a) begun k = refl
 other (Rename a b) begun k = refl
 other (Arrive a b n) begun k = refl
