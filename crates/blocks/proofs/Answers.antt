@@ -17,10 +17,11 @@ use Rattle.rules.specs.Board
 use Rattle.rules.specs.Board.{Place, freePlace, at, waits, out, spent}
 use Rattle.rules.specs.Spoilt.{isQueued}
 use Rattle.rules.specs.Choice.{Turn, whereIs, numberOutside, noneHas, someHas, goOn}
-use Rattle.rules.specs.Blocks.{opening, opened, freeAt, shareOutside, allTaken, overFree, openBlock, renameBlock, closed, closeBlock}
+use Rattle.rules.specs.Blocks.{meant, opened, freeAt, shareOutside, allTaken, overFree, openBlock, renameBlock, closed, closeBlock}
 use Rattle.rules.specs.Calls.{open!, rename!, close!, step, one, done! }
 use Rattle.rules.proofs.Cases.{or-right, in-range, some-in, free-found, CanClose, can-close}
 use Rattle.rules.proofs.Calls.{in-places, empty-out}
+use Rattle.operands.specs.declared.Opening.{Opening}
 use Rattle.board.specs.declared.Board as struct
 use Rattle.board.specs.declared.Reply.{Reply}
 use Rattle.board.specs.Reading.{encode, tab, view}
@@ -74,7 +75,13 @@ module _ (m : Board.Board) (f : Fit m) (ids lens : List ℕ) (old new : ℕ) whe
       ∙ ap (λ (c : struct.Board). returned (replied 0 c) ids lens) (rename-is m (f .tidy) (whereIs m old) (inside m f (whereIs m old) (some-in m old e6)) new)
 
 -- ---- OPEN
-module _ (m : Board.Board) (f : Fit m) (ids lens : List ℕ) (n s : ℕ) where
+module _ (m : Board.Board) (f : Fit m) (ids lens : List ℕ) (o : Opening) where
+  abbrev n : ℕ
+  n = o .number
+
+  abbrev s : ℕ
+  s = o .share
+
   abbrev openedTo : AfterOpening → Returned Reply
   openedTo x = returned (replied (x .code) (withOpening (encode m) x)) ids lens
 
@@ -82,21 +89,21 @@ module _ (m : Board.Board) (f : Fit m) (ids lens : List ℕ) (n s : ℕ) where
   openedAt i = afterOpening 0 (set (encode m .numbers) i n) (set (encode m .shares) i s)
 
   abbrev by-open : Turn → Returned Reply
-  by-open = turned (encode m) ids lens m (open! (opening n s))
+  by-open = turned (encode m) ids lens m (open! (meant o))
 
-  opened-at : leb 64 (freeAt m) ≡ false → withOpening (encode m) (openedAt (freeAt m)) ≡ encode (goOn m (freeAt m) (opened (opening n s)))
+  opened-at : leb 64 (freeAt m) ≡ false → withOpening (encode m) (openedAt (freeAt m)) ≡ encode (goOn m (freeAt m) (opened (meant o)))
   opened-at e = go (f .tidy .shape .placeOk p .named)
     where
       p : ℕ
       p = freeAt m
 
-      go : (at m p ≡ freePlace) ⊎ ((1 ≤ at m p .number) × (1 ≤ at m p .share)) → withOpening (encode m) (openedAt p) ≡ encode (goOn m p (opened (opening n s)))
+      go : (at m p ≡ freePlace) ⊎ ((1 ≤ at m p .number) × (1 ≤ at m p .share)) → withOpening (encode m) (openedAt p) ≡ encode (goOn m p (opened (meant o)))
       go (inl q) =
           open-is m (f .tidy) p (inside m f p (false-lt 64 p e)) (ap (λ (y : Place). y .stand) q) (ap (λ (y : Place). length (y .lane)) q)
-          (ap (λ (y : Place). y .deficit) q) (opening n s) (ap (λ (y : Place). y .start) q)
+          (ap (λ (y : Place). y .deficit) q) (meant o) (ap (λ (y : Place). y .start) q)
       go (inr h) = absurd (omega (arith, free-found m (false-lt 64 (freeAt m) e)))
 
-  pub opened-is : openedTo (openedIn (encode m .numbers) (encode m .shares) (encode m .held) n s) ≡ written (encode m) ids lens (done! m (one (open! (opening n s))))
+  pub opened-is : openedTo (openedIn (encode m .numbers) (encode m .shares) (encode m .held) o) ≡ written (encode m) ids lens (done! m (one (open! (meant o))))
   unfolding openedIn step openBlock
   opened-is =
       agrees openedTo by-open m _ (numberOutside n || shareOutside s) 4 _ _ _ refl refl λ e4.
@@ -154,8 +161,8 @@ module _ (b : struct.Board) (ids lens : List ℕ) (k : Known b ids lens) where
   pub rename-known : (old new : ℕ) (x : Renaming) → x ≡ renamedIn (b .numbers) old new → returned (replied (x .code) (withRenaming b x)) ids lens ≡ ruled b ids lens (rename! old new)
   rename-known old new x e = rw e (by-spelling b ids lens k (rename! old new) (λ c. returned (replied (renamedIn (c .numbers) old new .code) (withRenaming c (renamedIn (c .numbers) old new))) ids lens) (renamed-is m f ids lens old new))
 
-  pub open-known : (n s : ℕ) (x : AfterOpening) → x ≡ openedIn (b .numbers) (b .shares) (b .held) n s → returned (replied (x .code) (withOpening b x)) ids lens ≡ ruled b ids lens (open! (opening n s))
-  open-known n s x e = rw e (by-spelling b ids lens k (open! (opening n s)) (λ c. let x = openedIn (c .numbers) (c .shares) (c .held) n s in returned (replied (x .code) (withOpening c x)) ids lens) (opened-is m f ids lens n s))
+  pub open-known : (o : Opening) (x : AfterOpening) → x ≡ openedIn (b .numbers) (b .shares) (b .held) o → returned (replied (x .code) (withOpening b x)) ids lens ≡ ruled b ids lens (open! (meant o))
+  open-known o x e = rw e (by-spelling b ids lens k (open! (meant o)) (λ c. let x = openedIn (c .numbers) (c .shares) (c .held) o in returned (replied (x .code) (withOpening c x)) ids lens) (opened-is m f ids lens o))
 
   pub close-known : (n : ℕ) (x : Closing) → x ≡ closedIn (b .active) (b .numbers) (b .shares) (b .starts) (b .counts) (b .held) n → returned (replied (x .code) (withClosing b x)) ids lens ≡ ruled b ids lens (close! n)
   close-known n x e = rw e (by-spelling b ids lens k (close! n) (λ c. let x = closedIn (c .active) (c .numbers) (c .shares) (c .starts) (c .counts) (c .held) n in returned (replied (x .code) (withClosing c x)) ids lens) (closed-is m f ids lens n))

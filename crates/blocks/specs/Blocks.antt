@@ -9,6 +9,7 @@ use Rattle.arrays.specs.Lists.{totalOf, zeroed}
 use Rattle.rules.specs.Board.{fresh}
 use Rattle.units.specs.Classes.{classOf}
 use Rattle.board.specs.declared.Board.{Board}
+use Rattle.operands.specs.declared.Opening.{Opening}
 use Rattle.board.specs.Reading.{encode}
 use Rattle.board.specs.Memory.{withBlocks}
 use Rattle.board.specs.Leaving.{Returned, returned}
@@ -49,8 +50,10 @@ pub record AfterOpening : Type 0 where
 abbrev pub afterOpening : ℕ → List ℕ → List ℕ → AfterOpening
 afterOpening code numbers shares = record { code = code; numbers = numbers; shares = shares }
 
-unfoldable pub openedIn : List ℕ → List ℕ → List ℕ → ℕ → ℕ → AfterOpening
-openedIn numbers shares held n s =
+unfoldable pub openedIn : List ℕ → List ℕ → List ℕ → Opening → AfterOpening
+openedIn numbers shares held o =
+    let n = o .number in
+    let s = o .share in
     let p = foundIn numbers 0 in
     cond (eqb n 0 || (eqb s 0 || ltb 65536 s)) (afterOpening 4 numbers shares)
     (cond (not (eqb (foundIn numbers n) 64)) (afterOpening 5 numbers shares)

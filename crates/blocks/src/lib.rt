@@ -15,6 +15,7 @@ use numbers::NO_PLACE;
 use numbers::PLACES;
 use numbers::WHOLE_LINE;
 use numbers::codes;
+use operands::Opening;
 use units::Parts;
 
 // ---- making
@@ -86,14 +87,15 @@ pub fn rename_in(old: u32, new: u32, numbers: &mut [u32; PLACES]) -> u8
 
 // A block opens at the lowest free place; the answer is the code.
 pub fn open_in(
-    block: u32,
-    share: u32,
+    opening: Opening,
     numbers: &mut [u32; PLACES],
     shares: &mut [u32; PLACES],
     held: &[u32; CLASSES],
 ) -> u8
-    ensures { λ r. ⌜ afterOpening r (now (numbers .exit)) (now (shares .exit)) ≡ openedIn (now (numbers .entry)) (now (shares .entry)) (now (held .entry)) block share ⌝ }
+    ensures { λ r. ⌜ afterOpening r (now (numbers .exit)) (now (shares .exit)) ≡ openedIn (now (numbers .entry)) (now (shares .entry)) (now (held .entry)) opening ⌝ }
 {
+    let block = opening.number;
+    let share = opening.share;
     if finding::outside(block, share, GREATEST_SHARE) {
         return codes::OUT_OF_RANGE;
     }

@@ -1,6 +1,6 @@
 // The calls of the box, on a board by value and the two lent tables.
 ghost use mathlib.Core.Path.{_≡_};
-ghost use Rattle.rules.specs.Blocks.{opening};
+ghost use Rattle.rules.specs.Blocks.{meant};
 ghost use Rattle.rules.specs.Calls.{open!, rename!, close!, record! };
 ghost use Rattle.board.specs.Memory.{withEngine};
 ghost use Rattle.serving.specs.Serving.{withinNow, engineAfter};
@@ -16,6 +16,7 @@ use numbers::LEAST_LARGEST;
 use numbers::PLACES;
 use numbers::TABLE_ENTRIES;
 use numbers::codes;
+use operands::Opening;
 use serving::Step;
 use units::Bytes;
 
@@ -109,17 +110,17 @@ fn rename_block(ids: &[u32], lens: &[u16], old: u32, new: u32, b: Board) -> Repl
     }
 }
 
-// A block opens with this number and share.
-fn open_block(ids: &[u32], lens: &[u16], block: u32, share: u32, b: Board) -> Reply
+// A block opens, with the number and the share that it is given.
+fn open_block(ids: &[u32], lens: &[u16], opening: Opening, b: Board) -> Reply
     requires { ⌜ Known b (now ids) (now lens) ⌝ }
     ensures { λ r. ⌜
         returned r (now (ids .exit)) (now (lens .exit))
-        ≡ ruled b (now (ids .entry)) (now (lens .entry)) (open! (opening block share)) ⌝ }
+        ≡ ruled b (now (ids .entry)) (now (lens .entry)) (open! (meant opening)) ⌝ }
 {
     let held = b.held;
     let mut numbers = b.numbers;
     let mut shares = b.shares;
-    let code = blocks::open_in(block, share, &mut numbers, &mut shares, &held);
+    let code = blocks::open_in(opening, &mut numbers, &mut shares, &held);
     let mut n = b;
     n.numbers = numbers;
     n.shares = shares;
@@ -344,11 +345,11 @@ fn burst_board(bytes: Bytes, list: &mut [u32], ids: &[u32], lens: &[u16], b: Boa
 
 // ---- The public calls
 
-// A block opens with this number and share.
-pub fn open(ids: &[u32], lens: &[u16], block: u32, share: u32, b: Board) -> Reply
+// A block opens, with the number and the share that it is given.
+pub fn open(ids: &[u32], lens: &[u16], opening: Opening, b: Board) -> Reply
     ensures { λ r. ⌜
         returned r (now (ids .exit)) (now (lens .exit))
-        ≡ called b (now (ids .entry)) (now (lens .entry)) (open! (opening block share)) ⌝ }
+        ≡ called b (now (ids .entry)) (now (lens .entry)) (open! (meant opening)) ⌝ }
 {
     let code = spoilt::early(ids, lens, b);
     if code != codes::DONE {
@@ -357,7 +358,7 @@ pub fn open(ids: &[u32], lens: &[u16], block: u32, share: u32, b: Board) -> Repl
             board: b,
         };
     }
-    open_block(ids, lens, block, share, b)
+    open_block(ids, lens, opening, b)
 }
 
 // The block with the old number takes the new one.

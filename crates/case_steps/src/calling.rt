@@ -4,6 +4,7 @@ use board::Board;
 use board::Reply;
 use numbers::TABLE_ENTRIES;
 use numbers::codes;
+use operands::Opening;
 
 // The calls that answer with a code alone. An operand that a call has not is not used.
 pub fn reply(
@@ -19,7 +20,11 @@ pub fn reply(
         return calls::make(ids, lens, first);
     }
     if step == steps::OPEN {
-        return calls::open(ids, lens, first, second, b);
+        let opening = Opening {
+            number: first,
+            share: second,
+        };
+        return calls::open(ids, lens, opening, b);
     }
     if step == steps::RENAME {
         return calls::rename(ids, lens, first, second, b);

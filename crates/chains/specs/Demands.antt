@@ -188,7 +188,8 @@ pub record Opened (L : ℕ) (given : Opening) (last : Option ℕ) (o : Holding) 
   pub latest : lastSlot none said ≡ last
   pub opens : Did before (one (open! given)) (gives 0) o
 
--- e is what a chain left that tells this story of a block whose opening was given this; its last send, if any, has that clock
+-- e is what a chain left that tells this story of a block whose opening was given this; its last send, if any, has that
+-- clock
 pub record Life (L : ℕ) (given : Opening) (st : Story) (last : Option ℕ) (e : Holding) : Type 0 where
   pub first : Option ℕ
   pub opening : Holding
@@ -276,7 +277,8 @@ PassageLives = (L : ℕ) (c : Chained L) (w : Parting) (p : Passage L c w)
 -- stands in its lane. A closed block has none left.
 
 abbrev pub Conserved : Type 0
-Conserved = (L : ℕ) (given : Opening) (st : Story) (last : Option ℕ) (e : Holding) → Life L given st last e → Accounted st (reads e)
+Conserved = (L : ℕ) (given : Opening) (st : Story) (last : Option ℕ) (e : Holding)
+    → Life L given st last e → Accounted st (reads e)
 
 -- No other record is sent: the one that is answered stood at the front of the lane of the open block that is named.
 abbrev pub SendsFront : Type 0
@@ -325,7 +327,8 @@ ServesSend = (L : ℕ) (given : Opening) (st : Story) (last : Option ℕ) (f g :
 
 -- A burst that leaves a record waiting was not stopped for want of records: it is answered 11, or 14 with a full list, or 13.
 abbrev pub BurstSends : Type 0
-BurstSends = (L : ℕ) (given : Opening) (st : Story) (last : Option ℕ) (s f g : Holding) (cs : List Call) (told : List Answer) (bytes : ℕ) (list : List ℕ) (r : Calls.Bursted)
+BurstSends = (L : ℕ) (given : Opening) (st : Story) (last : Option ℕ) (s f g : Holding)
+    (cs : List Call) (told : List Answer) (bytes : ℕ) (list : List ℕ) (r : Calls.Bursted)
     → Made L s → Chain s cs told f → Did f (burst! bytes list) (bursts r) g
     → Life L given st last g → st .closed ≡ false → st .taken ≢ st .sent
     → (r .code ≡ 11) ⊎ (((r .code ≡ 14) × (r .count ≡ length list)) ⊎ (r .code ≡ 13))

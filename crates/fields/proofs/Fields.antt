@@ -12,11 +12,12 @@ use Rattle.units.specs.Credit.{charged}
 use Rattle.rules.specs.Board
 use Rattle.rules.specs.Board.{Record, at, charge}
 use Rattle.rules.specs.Choice.{refused, sent, Turn, send, serve}
-use Rattle.rules.specs.Blocks.{opening}
+use Rattle.rules.specs.Blocks.{meant}
 use Rattle.rules.specs.Calls.{Single, open!, rename!, close!, record!, serve!, step, told, codeOf}
 use Rattle.rules.specs.Runs.{isServe, answer, bytesOf}
 use Rattle.rules.proofs.Cases.{call-cases}
 use Rattle.rules.proofs.Tidy.{Tidy}
+use Rattle.operands.specs.declared.Opening.{Opening}
 use Rattle.board.specs.declared.Board as struct
 use Rattle.board.specs.Reading.{encode, view}
 use Rattle.board.proofs.Reading.{view-encode}
@@ -91,9 +92,12 @@ module _ (s : Memory) (k : KnownMemory s) (before : List ℕ) (count : ℕ) (lin
       same : s .sent ≡ s .sent + bytesOf (answer m x)
       same = rw (none-sent m (fit-view (s .board) (s .ids) (s .lens) (k .sound) .tidy) x quiet) (sym (add-zero (s .sent)))
 
-  pub open-plays : (block share : ℕ) (x : AfterOpening) → x ≡ openedIn (s .board .numbers) (s .board .shares) (s .board .held) block share → Line before (openLine block (x .code)) count line
-      → FieldPlayed s (Open block share) (memory (withOpening (s .board) x) (s .ids) (s .lens) (s .sent)) before count line
-  open-plays block share x e l = by-call (open! (opening block share)) refl (x .code) (withOpening (s .board) x) (s .ids) (s .lens) (open-known (s .board) (s .ids) (s .lens) k block share x e) (Open block share) refl (openLine block) refl l
+  pub open-plays : (o : Opening) (x : AfterOpening) → x ≡ openedIn (s .board .numbers) (s .board .shares) (s .board .held) o
+      → Line before (openLine (o .number) (x .code)) count line
+      → FieldPlayed s (Open o) (memory (withOpening (s .board) x) (s .ids) (s .lens) (s .sent)) before count line
+  open-plays o x e l =
+      by-call (open! (meant o)) refl (x .code) (withOpening (s .board) x) (s .ids) (s .lens)
+      (open-known (s .board) (s .ids) (s .lens) k o x e) (Open o) refl (openLine (o .number)) refl l
 
   pub close-plays : (block : ℕ) (x : Closing) → x ≡ closedIn (s .board .active) (s .board .numbers) (s .board .shares) (s .board .starts) (s .board .counts) (s .board .held) block → Line before (closeLine block (x .code)) count line
       → FieldPlayed s (Close block) (memory (withClosing (s .board) x) (s .ids) (s .lens) (s .sent)) before count line

@@ -185,9 +185,9 @@ pub fn play_field(
     let mut shown: usize = 0;
     let mut set = active;
     match event {
-        Event::Open(block, share) => {
-            let code = blocks::open_in(block, share, numbers, shares, held);
-            shown = lines::put_open(line, block, code);
+        Event::Open(opening) => {
+            let code = blocks::open_in(opening, numbers, shares, held);
+            shown = lines::put_open(line, opening.number, code);
         }
         Event::Close(block) => {
             let code = blocks::close_in(block, active, counts, numbers, shares, starts, held);

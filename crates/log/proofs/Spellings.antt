@@ -73,7 +73,7 @@ value-length (o ∷ os) = length-append (bytesOf (o .width) (o .number)) (valueO
 event-back : (s : List ℕ) (at : ℕ) (e : Event) → isPassed e ≡ false → Holds s at (operandsOf e) → eventOf s (tagOf e) at ≡ e
 unfolding eventOf
 event-back s at (Largest l) p h = rw (h .0)
-event-back s at (Open a b) p h = rw (h .0, h .1 .0)
+event-back s at (Open o) p h = rw (h .0, h .1 .0)
 event-back s at (Close a) p h = rw (h .0)
 event-back s at (Rename a b) p h = rw (h .0, h .1 .0)
 event-back s at (Arrive a b n) p h = let q : at + 8 ≡ at + 4 + 4 = omega arith in rw (q, h .0, h .1 .0, h .1 .1 .0)
@@ -83,7 +83,7 @@ event-back s at Passed p h = differ p
 event-right : (e : Event) → isPassed e ≡ false → (rightLength (tagOf e) (widthOf (operandsOf e)) ≡ true) × (widthOf (operandsOf e) ≤ 10)
 unfolding rightLength lengthOf
 event-right (Largest l) p = (refl, lit≤ tt)
-event-right (Open a b) p = (refl, lit≤ tt)
+event-right (Open o) p = (refl, lit≤ tt)
 event-right (Close a) p = (refl, lit≤ tt)
 event-right (Rename a b) p = (refl, lit≤ tt)
 event-right (Arrive a b n) p = (refl, lit≤ tt)
@@ -92,7 +92,7 @@ event-right Passed p = differ p
 
 is-passed : (e : Event) → isPassed e ≡ true → e ≡ Passed
 is-passed (Largest l) p = differ (sym p)
-is-passed (Open a b) p = differ (sym p)
+is-passed (Open o) p = differ (sym p)
 is-passed (Close a) p = differ (sym p)
 is-passed (Rename a b) p = differ (sym p)
 is-passed (Arrive a b n) p = differ (sym p)

@@ -23,7 +23,7 @@ later = 1 ∷ 2 ∷ 3 ∷ 4 ∷ 5 ∷ 6 ∷ []
 
 pub no-l-by-place : (e : Event) → OneOf later (tagOf the-type e) → isL e ≡ false
 no-l-by-place (Largest l) k = absurd (miss later 0 tt k)
-no-l-by-place (Open a b) k = refl
+no-l-by-place (Open o) k = refl
 no-l-by-place (Close a) k = refl
 no-l-by-place (Rename a b) k = refl
 no-l-by-place (Arrive a b n) k = refl
@@ -34,7 +34,7 @@ no-l-by-place Passed k = refl
 pub turn-other : (e : Event) (stage : Stage) → isL e ≡ false → pastL stage ≡ inTurn e stage
 unfolding inTurn
 turn-other (Largest l) stage k = differ k
-turn-other (Open a b) stage k = refl
+turn-other (Open o) stage k = refl
 turn-other (Close a) stage k = refl
 turn-other (Rename a b) stage k = refl
 turn-other (Arrive a b n) stage k = refl
@@ -45,7 +45,7 @@ turn-other Passed stage k = refl
 pub turn-later : (e : Event) (stage : Stage) → pastL stage ≡ true → inTurn e stage ≡ true → isL e ≡ false
 unfolding inTurn
 turn-later (Largest l) stage p h = differ (sym (and-left (not (pastL stage)) _ h) ∙ ap not p)
-turn-later (Open a b) stage p h = refl
+turn-later (Open o) stage p h = refl
 turn-later (Close a) stage p h = refl
 turn-later (Rename a b) stage p h = refl
 turn-later (Arrive a b n) stage p h = refl
@@ -57,7 +57,7 @@ pub turn-first : (e : Event) → inTurn e BeforeL ≡ true → (l : ℕ) × ((e 
 unfolding inTurn
 turn-first (Largest l) h =
     (l, (refl, (leb-true 64 l (and-left _ (leb l 2048) h), leb-true l 2048 (and-right (leb 64 l) _ h))))
-turn-first (Open a b) h = differ (sym h)
+turn-first (Open o) h = differ (sym h)
 turn-first (Close a) h = differ (sym h)
 turn-first (Rename a b) h = differ (sym h)
 turn-first (Arrive a b n) h = differ (sym h)
@@ -67,7 +67,7 @@ turn-first Passed h = differ (sym h)
 pub past-after : PastAfter
 unfolding inTurn stageAfter
 past-after (Largest l) stage h = refl
-past-after (Open a b) stage h = h
+past-after (Open o) stage h = h
 past-after (Close a) stage h = h
 past-after (Rename a b) stage h = h
 past-after (Arrive a b n) stage h = h

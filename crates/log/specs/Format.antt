@@ -52,7 +52,7 @@ rightLength tag n = leb 128 tag || (leb 1 tag && (leb tag 6 && eqb n (lengthOf t
 unfoldable pub eventOf : List ℕ → ℕ → ℕ → Event
 eventOf s tag at =
     cond (eqb tag 6) (Largest (numberAt s at 2))
-    (cond (eqb tag 1) (Open (numberAt s at 4) (numberAt s (at + 4) 4))
+    (cond (eqb tag 1) (Open (record { number = numberAt s at 4; share = numberAt s (at + 4) 4 }))
     (cond (eqb tag 2) (Close (numberAt s at 4))
     (cond (eqb tag 3) (Rename (numberAt s at 4) (numberAt s (at + 4) 4))
     (cond (eqb tag 4) (Arrive (numberAt s at 4) (numberAt s (at + 4) 4) (numberAt s (at + 8) 2))
@@ -62,7 +62,7 @@ eventOf s tag at =
 -- The tag of each event; of those passed over, which are 128 to 255, the first.
 abbrev pub tagOf : Event → ℕ
 tagOf (Largest l) = 6
-tagOf (Open block share) = 1
+tagOf (Open o) = 1
 tagOf (Close block) = 2
 tagOf (Rename old new) = 3
 tagOf (Arrive block number length) = 4
@@ -87,7 +87,7 @@ stageAfter stage e = cond (isL e) AfterL stage
 -- L comes first and once, 64 to 2,048; all else comes after it.
 unfoldable pub inTurn : Event → Stage → Bool
 inTurn (Largest l) stage = not (pastL stage) && (leb 64 l && leb l 2048)
-inTurn (Open block share) stage = pastL stage
+inTurn (Open o) stage = pastL stage
 inTurn (Close block) stage = pastL stage
 inTurn (Rename old new) stage = pastL stage
 inTurn (Arrive block number length) stage = pastL stage

@@ -27,7 +27,7 @@ _in-bytes_ x w = record { width = w; number = x }
 -- The numbers of each event, in the order of the value's bytes.
 abbrev pub operandsOf : Event → List Operand
 operandsOf (Largest l) = l in-bytes 2 ∷ []
-operandsOf (Open block share) = block in-bytes 4 ∷ share in-bytes 4 ∷ []
+operandsOf (Open o) = o .number in-bytes 4 ∷ o .share in-bytes 4 ∷ []
 operandsOf (Close block) = block in-bytes 4 ∷ []
 operandsOf (Rename old new) = old in-bytes 4 ∷ new in-bytes 4 ∷ []
 operandsOf (Arrive block number length) = block in-bytes 4 ∷ number in-bytes 4 ∷ length in-bytes 2 ∷ []

@@ -27,8 +27,8 @@ workedLog =
 abbrev pub workedFields : List WholeField
 workedFields =
     record { offset = 0; event = Largest 100; next = 5 } ∷
-    record { offset = 5; event = Open 11 32768; next = 16 } ∷
-    record { offset = 16; event = Open 12 24576; next = 27 } ∷
+    record { offset = 5; event = Open (record { number = 11; share = 32768 }); next = 16 } ∷
+    record { offset = 16; event = Open (record { number = 12; share = 24576 }); next = 27 } ∷
     record { offset = 27; event = Arrive 11 1 100; next = 40 } ∷
     record { offset = 40; event = Arrive 11 2 60; next = 53 } ∷
     record { offset = 53; event = Arrive 12 3 100; next = 66 } ∷

@@ -9,15 +9,16 @@ mod tags;
 use numbers::GREATEST_LARGEST;
 use numbers::LEAST_LARGEST;
 use numbers::LONGEST_LOG;
+use operands::Opening;
 
 // The bytes of a field before its value: the tag and the length.
 const HEADER: usize = 3;
 
-// What a whole field says, its numbers in the order of the log: L; block and share; block; old and new; block, number and length.
+// What a whole field says, its numbers in the order of the log: L; an opening's; block; old and new; block, number and length.
 // Passed is a field that is passed over.
 pub enum Event {
     Largest(u32),
-    Open(u32, u32),
+    Open(Opening),
     Close(u32),
     Rename(u32, u32),
     Arrive(u32, u32, u16),
@@ -130,7 +131,10 @@ fn event_at(log: &[u8], tag: u8, at: usize) -> Event
 {
     match tag {
         tags::LARGEST => Event::Largest(number(log, at, 2)),
-        tags::OPEN => Event::Open(number(log, at, 4), number(log, at + 4, 4)),
+        tags::OPEN => Event::Open(Opening {
+            number: number(log, at, 4),
+            share: number(log, at + 4, 4),
+        }),
         tags::CLOSE => Event::Close(number(log, at, 4)),
         tags::RENAME => Event::Rename(number(log, at, 4), number(log, at + 4, 4)),
         tags::RECORD => Event::Arrive(

@@ -4,7 +4,7 @@ use Prim.Native.Nat.{ℕ, _+_}
 use lib.ListN.{length}
 use Rattle.base.specs.Sums.{sum}
 use Rattle.rules.specs.Board.{Place, Board, fresh}
-use Rattle.rules.specs.Blocks.{opening}
+use Rattle.rules.specs.Blocks.{meant}
 use Rattle.rules.specs.Calls.{Single, open!, rename!, close!, record!, serve!, step, Answer, gives, takes, sends, bursts, codeOf}
 use Rattle.rules.specs.Runs.{answer, bytesOf}
 use Rattle.log.specs.declared.Stage.{Stage}
@@ -29,7 +29,7 @@ after p x = record { board = step (p .board) x .next; sent = p .sent + bytesOf (
 -- Tag 6 makes the board; tags 1 to 5 are calls; tags 128 to 255 are passed over.
 abbrev pub played : Playing → Event → Playing
 played p (Largest l) = record { board = fresh l; sent = 0 }
-played p (Open block share) = after p (open! (opening block share))
+played p (Open o) = after p (open! (meant o))
 played p (Close block) = after p (close! block)
 played p (Rename old new) = after p (rename! old new)
 played p (Arrive block number bytes) = after p (record! block (record { number = number; bytes = bytes }))
@@ -46,7 +46,7 @@ servedLine (bursts r) = refusedLine (r .code)
 -- The line that a field gives; L and what is passed over give none.
 abbrev pub fieldLine : Playing → Event → List ℕ
 fieldLine p (Largest l) = []
-fieldLine p (Open block share) = openLine block (codeOf (answer (p .board) (open! (opening block share))))
+fieldLine p (Open o) = openLine (o .number) (codeOf (answer (p .board) (open! (meant o))))
 fieldLine p (Close block) = closeLine block (codeOf (answer (p .board) (close! block)))
 fieldLine p (Rename old new) = nameLine old new (codeOf (answer (p .board) (rename! old new)))
 fieldLine p (Arrive block number bytes) = inLine number (codeOf (answer (p .board) (record! block (record { number = number; bytes = bytes }))))

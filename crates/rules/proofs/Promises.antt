@@ -13,7 +13,7 @@ use Rattle.rules.specs.Burst.{burst}
 use Rattle.rules.specs.Spoilt.{spoilt, unspoilt}
 use Rattle.rules.specs.Calls.{Single, step, Call, one, burst!, told, codeOf, done!, serve! }
 use Rattle.rules.specs.Runs.{play, singles, leaves, runs, row, bytesIn, servesIn, slotBytes, classAt}
-use Rattle.rules.specs.Promises.{OfRun, RunIsRow, RefusalKeeps, BurstRefusalKeeps, RefusedMaking, StaysUnspoilt, NeverSpoilt, Conserved, ByteBound, SentInTime, ServesSend, SlotOnce, NeverTwice, BurstIsServes, DeficitsSmall, SlotsSmall, JumpIsStart, HeldAreClosings, ServeRefusals, bound}
+use Rattle.rules.specs.Promises.{OfRun, RunIsRow, RefusalKeeps, BurstRefusalKeeps, RefusedMaking, StaysUnspoilt, NeverSpoilt, Conserved, ByteBound, SentInTime, ServesSend, SlotOnce, NeverTwice, BurstIsServes, DeficitsSmall, SlotsSmall, JumpIsStart, HeldAreClosings, ServeRefusals, SendsTell, bound}
 use Rattle.rules.proofs.Turns.{Good, most}
 use Rattle.rules.proofs.Run.{good-fresh, good-play}
 use Rattle.rules.proofs.Tidy.{Tidy}
@@ -28,6 +28,7 @@ use Rattle.rules.proofs.Stories.{conserved}
 use Rattle.rules.proofs.Bounds.{bytes-bound, serves-bound}
 use Rattle.rules.proofs.Intervals.{slots-once, slots-twice}
 use Rattle.rules.proofs.Waiting.{serve-sends, serve-refusals}
+use Rattle.rules.proofs.Sendings.{sends-tell}
 use Rattle.rules.proofs.SlotBytes.{slot-bytes}
 use Rattle.rules.proofs.Holds.{held-row, held-fresh}
 use Rattle.units.specs.Credit.{largestCharge}
@@ -159,3 +160,8 @@ held-are-closings L i xs k = held-row (fresh L) [] xs (tidy-fresh L (i .low) (i 
 
 pub serve-refusals-exact : ServeRefusals
 serve-refusals-exact b h e = serve-refusals b (unspoilt-tidy b h (unspoilt-not b e))
+
+-- ---- what a send tells
+
+pub sends-tell-all : SendsTell
+sends-tell-all b h e = sends-tell b (unspoilt-tidy b h (unspoilt-not b e))

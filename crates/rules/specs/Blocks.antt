@@ -5,6 +5,7 @@ use Prim.Native.Nat.{ℕ, _+_}
 use lib.Dec.{leb, ltb, eqb}
 use lib.ListN.{set}
 use Rattle.base.specs.Tests.{least}
+use Rattle.operands.specs.declared.Opening as struct
 use Rattle.rules.specs.Board.{Place, freePlace, out, Board, at, waits, blockClass, freeShare}
 use Rattle.rules.specs.Choice.{done, Turn, Check, check, guarded, whereIs, numberOutside, noneHas, someHas, upd}
 use Rattle.rules.specs.Choice.{goOn, isNone, leastReady}
@@ -16,6 +17,10 @@ pub record Opening : Type 0 where
 
 abbrev pub opening : (number share : ℕ) → Opening
 opening number share = record { number = number; share = share }
+
+-- the opening that the code's struct means
+abbrev pub meant : struct.Opening → Opening
+meant o = record { number = o .number; share = o .share }
 
 -- Open takes the lowest free place and the share, with deficit 0, start 0 and an empty lane.
 abbrev pub opened : Opening → Place

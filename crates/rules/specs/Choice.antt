@@ -12,14 +12,15 @@ use Rattle.rules.specs.Board.{Record, noRecord, charge, Stand, out, queu
 
 -- ---- What a call does: what comes of it, and the next board
 
--- a record that was taken: its place, the entry of both tables that it stands in, and how many records stood before it in its lane
+-- a record that was taken: its place, the entry of both tables that it stands in, and how many records stood before it
+-- in its lane
 pub record Taken : Type 0 where
   pub place : ℕ
   pub entry : ℕ
   pub before : ℕ
 
--- a record that was sent from the front of a lane: its place, the entry of both tables that it stood in, and the record;
--- the clock at which its slot began, and whether the slot began with it; and the parts that were lost
+-- a record that was sent from the front of a lane: its place, the entry of both tables that it stood in, and the record
+-- itself; the clock at which its slot began, and whether the slot began with it; and the parts that were lost
 pub record Sending : Type 0 where
   pub place : ℕ
   pub entry : ℕ
@@ -128,8 +129,9 @@ takenIn b p r = cond (leb (length (at b p .lane)) 0) (joining b p (joins (b .clo
 -- the record is taken at place p
 abbrev pub tookAt : Board → (p : ℕ) → Record → Turn
 tookAt b p r =
-    let before = length (at b p .lane) in
-    record { out = taken (record { place = p; entry = entry p (at b p) before; before = before }); next = takenIn b p r }
+    let x = at b p in
+    let before = length (x .lane) in
+    record { out = taken (record { place = p; entry = entry p x before; before = before }); next = takenIn b p r }
 
 abbrev pub lengthOutside : Board → (bytes : ℕ) → Bool
 lengthOutside b bytes = eqb bytes 0 || ltb (b .largest) bytes

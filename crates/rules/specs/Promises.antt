@@ -1,7 +1,7 @@
 -- THE PROMISES: demands 1 to 3, each a named proposition over every run and any class.
 -- Their proofs stand in proofs/, and proofs/Promises.antt gathers one theorem for each.
 use mathlib.Core.Path.{_≡_}
-use mathlib.Core.Bool.{true, false}
+use mathlib.Core.Bool.{true, false, cond}
 use mathlib.Core.Logic.{_⊎_, _≢_}
 use mathlib.Core.Option.{none, some}
 use mathlib.Core.List.{List, [], _∷_, _++_, map}
@@ -10,9 +10,9 @@ use lib.ListN.{length, replicate}
 use Rattle.base.specs.Sums.{sum}
 use Rattle.base.specs.Tests.{least}
 use Rattle.units.specs.Classes.{Start, nextStart}
-use Rattle.units.specs.Credit.{charged, largestCharge}
-use Rattle.rules.specs.Board.{tableLength, Record, Board, at, Seventeen, someWait, active, pending, fresh}
-use Rattle.rules.specs.Choice.{openAt, find, leastReady}
+use Rattle.units.specs.Credit.{charged, largestCharge, creditOf}
+use Rattle.rules.specs.Board.{tableLength, Record, charge, Place, Board, at, entry, front, Seventeen, someWait, active, pending, fresh}
+use Rattle.rules.specs.Choice.{Sending, sent, openAt, find, isNone, leastReady, leftOf, serve}
 use Rattle.rules.specs.Blocks.{Opening}
 use Rattle.rules.specs.Burst.{Burst, burst}
 use Rattle.rules.specs.Spoilt.{spoilt}
@@ -81,7 +81,7 @@ pub record Accounted (s : Runs.Story) (b : Board) : Type 0 where
 abbrev pub Conserved : Type 0
 Conserved = (L : ℕ) (b : Board) → OfRun L b → (o : Opening) (after : List Single)
     → codeOf (Runs.answer b (open! o)) ≡ 0
-    → Accounted (Runs.story (Runs.begins (o .number)) (step b (open! o) .next) after) (Runs.play (step b (open! o) .next) after)
+    → let next = step b (open! o) .next in Accounted (Runs.story (Runs.begins (o .number)) next after) (Runs.play next after)
 
 -- ---- Demand 3
 
@@ -179,3 +179,23 @@ pub record ServeCodes (b : Board) : Type 0 where
 
 abbrev pub ServeRefusals : Type 0
 ServeRefusals = (b : Board) → Seventeen b → spoilt b ≡ false → ServeCodes b
+
+-- ---- What a send tells, on every board that is not spoilt
+
+-- the parts that a place has in hand: its deficit, or what is left of its slot
+abbrev pub inHand : Place → ℕ
+inHand x = x .deficit + leftOf (x .stand)
+
+-- It was the front record of its place, in the entry where that stood. Its slot began with it exactly where no slot was
+-- open before. Parts are lost only as the lane empties: what the place has after it, what was lost and what the record was
+-- charged are what the place had before it, with the credit of the slot that began.
+pub record SendTells (b next : Board) (s : Sending) : Type 0 where
+  pub front : s .front ≡ front (at b (s .place))
+  pub entry : s .entry ≡ entry (s .place) (at b (s .place)) 0
+  pub began : s .began ≡ isNone (b .slot)
+  pub lost : 1 ≤ length (at next (s .place) .lane) → s .lost ≡ 0
+  pub parts : inHand (at next (s .place)) + s .lost + charge (s .front) * 65536
+      ≡ inHand (at b (s .place)) + cond (s .began) (creditOf (b .largest) (at b (s .place) .share)) 0
+
+abbrev pub SendsTell : Type 0
+SendsTell = (b : Board) → Seventeen b → spoilt b ≡ false → (s : Sending) → serve b .out ≡ sent s → SendTells b (serve b .next) s

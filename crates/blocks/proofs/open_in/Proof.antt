@@ -36,6 +36,9 @@ sum-requires-2 c κs = search needs
 add-if4 : tie.Need-add-if4
 add-if4 c = search needs
 
+cast-if4 : tie.Need-cast-if4
+cast-if4 c = search needs
+
 add-if4-2 : tie.Need-add-if4-2
 add-if4-2 c = search needs
 
@@ -72,6 +75,7 @@ open-in-spec =
     sum-requires
     sum-requires-2
     add-if4
+    cast-if4
     add-if4-2
     returns-4
     mul-numbers
