@@ -1,16 +1,44 @@
-// The calls of the box, and the answer line of each.
+// The steps that make a call: each reads its operands and writes the answer line.
 use crate::input;
 use crate::output;
 use crate::show;
 use board::Board;
-use case_steps::calling;
-use case_steps::digest;
+use case_steps::answers;
+use case_steps::answers::Answer;
+use case_steps::answers::NUMBERS;
 use case_steps::steps;
 use case_steps::tables;
-use numbers::codes;
-use units::Bytes;
 ghost use mathlib.Core.Path.{_≡_};
 ghost use lib.ListN.{length};
+
+fn numbers(count: usize, told: &[u64; NUMBERS]) {
+    let mut i: usize = 0;
+    while i < NUMBERS {
+        if i < count {
+            output::number(told[i]);
+        }
+        i += 1;
+    }
+}
+
+// The rest of the line, behind its word; the board goes on.
+fn answered(a: Answer) -> Board {
+    numbers(a.count, &a.numbers);
+    output::text(b" #");
+    output::decimal(a.digest);
+    output::text(b"\n");
+    a.board
+}
+
+fn word(step: u8) {
+    match step {
+        steps::MAKE => output::text(b"make"),
+        steps::OPEN => output::text(b"open"),
+        steps::RENAME => output::text(b"rename"),
+        steps::CLOSE => output::text(b"close"),
+        _ => output::text(b"record"),
+    }
+}
 
 fn second_word(step: u8, whole: &mut bool) -> u32 {
     if step == steps::MAKE || step == steps::CLOSE {
@@ -26,56 +54,21 @@ fn third_short(step: u8, whole: &mut bool) -> u16 {
     0
 }
 
-fn word(step: u8) {
-    match step {
-        steps::MAKE => output::text(b"make"),
-        steps::OPEN => output::text(b"open"),
-        steps::RENAME => output::text(b"rename"),
-        steps::CLOSE => output::text(b"close"),
-        _ => output::text(b"record"),
-    }
-}
-
-// The calls that answer with a code alone. One whose step is not whole is made on 0 and not answered.
+// The calls that answer with a code alone.
 pub fn coded(step: u8, ids: &mut [u32], lens: &mut [u16], whole: &mut bool, b: Board) -> Board {
     let first = input::word(&mut *whole);
     let second = second_word(step, &mut *whole);
     let third = third_short(step, &mut *whole);
-    let r = calling::reply(step, &mut *ids, &mut *lens, first, second, third, b);
-    let next = r.board;
-    if *whole {
-        word(step);
-        output::number(r.code as u64);
-        output::digest(digest::left_by_call(ids, lens, next));
+    if !*whole {
+        return b;
     }
-    next
+    word(step);
+    answered(answers::coded(step, ids, lens, first, second, third, b))
 }
 
 pub fn serve(ids: &[u32], lens: &[u16], b: Board) -> Board {
-    let served = calls::serve(ids, lens, b);
-    let next = served.board;
     output::text(b"serve");
-    output::number(served.code as u64);
-    if served.code == codes::DONE {
-        output::number(served.block as u64);
-        output::number(served.number as u64);
-        output::number(served.length as u64);
-        output::number(served.clock);
-    }
-    output::digest(digest::left_by_call(ids, lens, next));
-    next
-}
-
-fn burst_into(ids: &[u32], lens: &[u16], bytes: u64, list: &mut [u32], b: Board) -> Board {
-    let done = calls::burst(ids, lens, Bytes(bytes), &mut *list, b);
-    let next = done.board;
-    let total = done.bytes;
-    output::text(b"burst");
-    output::number(done.count as u64);
-    output::number(total.0);
-    output::number(done.code as u64);
-    output::digest(digest::left_by_burst(ids, lens, list, next));
-    next
+    answered(answers::serve(ids, lens, b))
 }
 
 // The list of a burst before the call.
@@ -92,17 +85,17 @@ pub fn burst(ids: &[u32], lens: &[u16], whole: &mut bool, b: Board) -> Board {
         return b;
     }
     let mut list = unwritten();
-    burst_into(ids, lens, bytes, &mut list[..room], b)
+    output::text(b"burst");
+    answered(answers::burst(ids, lens, bytes, &mut list[..room], b))
 }
 
-pub fn spoilt(ids: &[u32], lens: &[u16], b: Board) {
+pub fn spoilt(ids: &[u32], lens: &[u16], b: Board) -> Board {
     output::text(b"spoilt");
-    output::number(calling::spoilt(ids, lens, b));
-    output::digest(digest::left_by_call(ids, lens, b));
+    answered(answers::spoilt(ids, lens, b))
 }
 
-pub fn show(ids: &[u32], lens: &[u16], b: Board) {
+pub fn show(ids: &[u32], lens: &[u16], b: Board) -> Board {
     show::all(ids, lens, b);
     output::text(b"show");
-    output::digest(digest::left_by_call(ids, lens, b));
+    answered(answers::show(ids, lens, b))
 }

@@ -14,10 +14,3 @@ pub fn number(n: u64) {
     text(b" ");
     decimal(n);
 }
-
-// The end of every answer to a call.
-pub fn digest(h: u64) {
-    text(b" #");
-    decimal(h);
-    text(b"\n");
-}

@@ -75,14 +75,8 @@ fn on_lent(step: u8, ids: &mut [u32], lens: &mut [u16], whole: &mut bool, b: Boa
         ),
         steps::SERVE => answers::serve(ids, lens, b),
         steps::BURST => answers::burst(ids, lens, whole, b),
-        steps::SPOILT => {
-            answers::spoilt(ids, lens, b);
-            b
-        }
-        steps::SHOW => {
-            answers::show(ids, lens, b);
-            b
-        }
+        steps::SPOILT => answers::spoilt(ids, lens, b),
+        steps::SHOW => answers::show(ids, lens, b),
         _ => set::field(step, whole, b),
     }
 }

@@ -17,14 +17,23 @@ returns c = search needs
 unwritten-requires : tie.Need-unwritten-requires
 unwritten-requires c κs = search needs
 
+slice-aggregate-text : tie.Need-slice-aggregate-text
+slice-aggregate-text c = search needs
+
+text-requires : tie.Need-text-requires
+text-requires c κs = search needs
+
 array-borrow-prefix-list : tie.Need-array-borrow-prefix-list
 array-borrow-prefix-list c = search needs
 
-slice-aggregate-burst-into : tie.Need-slice-aggregate-burst-into
-slice-aggregate-burst-into c = sym (length-take-le _ _ (search needs))
+slice-aggregate-burst : tie.Need-slice-aggregate-burst
+slice-aggregate-burst c = sym (length-take-le _ _ (search needs))
 
-burst-into-requires : tie.Need-burst-into-requires
-burst-into-requires c κs = search needs
+burst-requires : tie.Need-burst-requires
+burst-requires c κs = search needs
+
+answered-requires : tie.Need-answered-requires
+answered-requires c κs = search needs
 
 returns-2 : tie.Need-returns-2
 returns-2 c = search needs
@@ -37,7 +46,10 @@ burst-spec =
     index-requires
     returns
     unwritten-requires
+    slice-aggregate-text
+    text-requires
     array-borrow-prefix-list
-    slice-aggregate-burst-into
-    burst-into-requires
+    slice-aggregate-burst
+    burst-requires
+    answered-requires
     returns-2)
