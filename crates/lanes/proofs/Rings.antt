@@ -35,7 +35,8 @@ ring-own first depth start j n l h e =
 
 pub ring-moved : RingMoved
 unfolding ringEntry ringOn
-ring-moved first depth start j = ap (λ (n : ℕ). first + n) (mod-add-mod (start + 1) depth j ∙ ap (λ (n : ℕ). n % depth) on)
+ring-moved first depth start j =
+    ap (λ (n : ℕ). first + n) (mod-add-mod (start + 1) depth j ∙ ap (λ (n : ℕ). n % depth) on)
   where
     on : start + 1 + j ≡ start + suc j
     on = omega arith

@@ -2,7 +2,7 @@
 -- know how deep a lane is and where it lies; rings are of any depth.
 use Prim.Native.Nat.{ℕ, _+_, _*_, _%_}
 
--- ---- A ring: its first entry, its depth, and its start, which is where the front record is, counted from the first entry
+-- ---- A ring: its first entry, its depth, and its start, where the front record is, counted from the first entry
 
 -- the entry of the j-th record from the front, counting from 0
 unfoldable pub ringEntry : (first depth start j : ℕ) → ℕ

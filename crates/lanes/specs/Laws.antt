@@ -23,7 +23,8 @@ RingOwn = (first depth start j n : ℕ) → j < n → n < depth
 
 -- With the start moved on by one, the record behind the front is the front.
 abbrev pub RingMoved : Type 0
-RingMoved = (first depth start j : ℕ) → ringEntry first depth (ringOn depth start) j ≡ ringEntry first depth start (suc j)
+RingMoved = (first depth start j : ℕ)
+    → ringEntry first depth (ringOn depth start) j ≡ ringEntry first depth start (suc j)
 
 -- Rings whose runs don't overlap share no entry.
 abbrev pub RingsApart : Type 0

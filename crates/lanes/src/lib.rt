@@ -1,31 +1,17 @@
-// Lanes: the run of entries that each place has in the two tables, used as a ring. No other crate knows how deep a lane is.
+// Lanes: the run of entries that each place has in the two tables, used as a ring. No other crate knows its depth.
 ghost use mathlib.Core.Path.{_≡_};
-ghost use Prim.Native.Nat.{_%_, _<_, _≤_};
+ghost use Prim.Native.Nat.{_<_, _≤_};
 ghost use Rattle.lanes.specs.Lanes.{ringEntry, ringOn, laneDepth, laneFirst, laneEntry, laneOn};
 
 // Lane depth: the most records that wait in one lane.
 const DEPTH: u16 = 32;
 
-// A number mod the depth. On a board that is not spoilt a ring comes round once at most, and that takes no division.
-fn round(depth: usize, at: usize) -> usize
-    requires { ⌜ 1 ≤ depth ⌝ }
-    ensures { λ r. ⌜ r ≡ at % depth ⌝ }
-{
-    if at < depth {
-        return at;
-    }
-    if at - depth < depth {
-        return at - depth;
-    }
-    at % depth
-}
-
-// The entry of the j-th record from the front of a ring.
+// The entry of the j-th record from the front of a ring. Its depth is a constant where it is called: no division is left.
 fn ring_entry(first: u16, depth: u16, start: u16, j: u16) -> usize
     requires { ⌜ 1 ≤ depth ⌝ }
     ensures { λ r. ⌜ r ≡ ringEntry first depth start j ⌝ }
 {
-    first as usize + round(depth as usize, start as usize + j as usize)
+    first as usize + (start as usize + j as usize) % depth as usize
 }
 
 // The start of a ring after a send.
@@ -33,7 +19,7 @@ fn ring_on(depth: u16, start: u16) -> u16
     requires { ⌜ 1 ≤ depth ⌝ }
     ensures { λ r. ⌜ r ≡ ringOn depth start ⌝ }
 {
-    round(depth as usize, start as usize + 1) as u16
+    ((start as usize + 1) % depth as usize) as u16
 }
 
 // The first entry of a place's lane.

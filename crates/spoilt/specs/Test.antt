@@ -42,7 +42,8 @@ slotOpen largest clock left count len = not (eqb count 0) && (leb (chargeOf len)
 unfoldable pub slotInRange : List ℕ → ℕ → ℕ → ℕ → ℕ → List ℕ → List ℕ → Bool
 slotInRange lens largest clock slot left starts counts =
     let p = slot - 1 in
-    cond (eqb slot 0) (eqb left 0) (leb slot 64 && slotOpen largest clock left (getD counts p 0) (getD lens (laneEntry p (getD starts p 0) 0) 0))
+    let front = getD lens (laneEntry p (getD starts p 0) 0) 0 in
+    cond (eqb slot 0) (eqb left 0) (leb slot 64 && slotOpen largest clock left (getD counts p 0) front)
 
 -- ---- THE TEST
 

@@ -1,5 +1,5 @@
-use mathlib.Core.Path.{ap}
-use Prim.Native.Nat.{ℕ, _+_}
+use mathlib.Core.Path.{refl}
+use Prim.Native.Nat.{_+_}
 use native.Mathlib.Nat.{mod-lt}
 use native.Mathlib.Omega.{arith}
 use borrow.Author.Needs.{needs}
@@ -8,20 +8,20 @@ use Rattle.lanes.proofs.ring_entry.Statement.{statement}
 use Rattle.lanes.proofs.ring_entry.Tie as tie
 use Rattle.lanes.proofs.ring_entry.Reads as reads
 use Rattle.lanes.proofs.ring_entry.Lts as lts
-use Rattle.lanes.proofs.round.Reads as round-reads
-
-add-round : tie.Need-add-round
-add-round c = search needs
-
-round-requires : tie.Need-round-requires
-round-requires c κs = search needs
 
 add-result : tie.Need-add-result
-add-result c = record { fits = omega (arith, c .round .ensures, mod-lt (c .before .args .start + c .before .args .j) {m = c .before .args .depth} (c .before .pre)) }
+add-result c = search needs
+
+rem-result : tie.Need-rem-result
+rem-result c = search needs
+
+add-result-2 : tie.Need-add-result-2
+add-result-2 c =
+    record { fits = omega (arith, mod-lt (c .args .start + c .args .j) {m = c .args .depth} (c .pre)) }
 
 returns : tie.Need-returns
 unfolding ringEntry
-returns c = ap (λ (n : ℕ). c .before .args .first + n) (c .round .ensures)
+returns c = refl
 
 pub ring-entry-spec : {M : Type 1} → statement M
-ring-entry-spec = tie.close (tie.spec add-round round-requires add-result returns)
+ring-entry-spec = tie.close (tie.spec add-result rem-result add-result-2 returns)
