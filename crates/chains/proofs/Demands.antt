@@ -319,53 +319,37 @@ told-front : (L share : ℕ) (st : Story) (f g : Holding) (x : Single) (a : Answ
 told-front L share st f g x a t c z = fronted L share st (reads f) x a (t .is) (at-tidy L f (t .here)) (t .lives) (t .next) c z
 
 -- The byte bound, its time and the slot promises at a call of a chain, over any single calls after it: Passages has them at every moment.
-pub byte-bound-from : (L share : ℕ) (st : Story) (last : Option ℕ) (f g e : Holding) (x : Single) (a : Answer) (xs : List Single) (said : List Answer)
-    → Life L share st last f → Did f (one x) a g → Chain g (map one xs) said e → StaysInFront st x a xs said
-    → bytesIn said ≤ bound L (classOf share)
-byte-bound-from L share st last f g e x a xs said l d r s! =
-    subst (λ (k : ℕ). bytesIn said ≤ bound L k) (w .class)
-    (subst (λ (n : ℕ). n ≤ bound L (classAt (step (reads f) x .next) (st .number))) (sym count)
-    (Promises.byte-bound L (reads f) (t .here .run) (st .number) x xs (w .comes) unsent))
-  where
-    t : Told L share st f x a g
-    t = told-at L share st last f g x a l (s! .still) d
+module _ (L share : ℕ) (st : Story) (last : Option ℕ) (f g e : Holding) (x : Single) (a : Answer) (xs : List Single) (said : List Answer)
+    (l : Life L share st last f) (d : Did f (one x) a g) (r : Chain g (map one xs) said e) (s! : StaysInFront st x a xs said) where
+  t : Told L share st f x a g
+  t = told-at L share st last f g x a l (s! .still) d
 
-    w : Fronted L share (reads f) (st .number) x
-    w = told-front L share st f g x a t (s! .still) (s! .comes)
+  w : Fronted L share (reads f) (st .number) x
+  w = told-front L share st f g x a t (s! .still) (s! .comes)
 
-    s : Along (reads g) xs said e
-    s = along xs (t .there .good) r
+  s : Along (reads g) xs said e
+  s = along xs (t .there .good) r
 
-    unsent : Runs.Unsent (st .number) (step (reads f) x .next) xs
-    unsent =
-        subst (λ (b : Board.Board). Runs.Unsent (st .number) b xs) (t .after)
-        (unsent-said (st .number) (reads g) xs (subst (Unsent (st .number) xs) (s .answers) (s! .unsent)))
+  unsent : Runs.Unsent (st .number) (step (reads f) x .next) xs
+  unsent =
+      subst (λ (b : Board.Board). Runs.Unsent (st .number) b xs) (t .after)
+      (unsent-said (st .number) (reads g) xs (subst (Unsent (st .number) xs) (s .answers) (s! .unsent)))
 
-    count : bytesIn said ≡ Runs.bytesIn (step (reads f) x .next) xs
-    count = ap bytesIn (s .answers) ∙ bytes-said (reads g) xs ∙ ap (λ (b : Board.Board). Runs.bytesIn b xs) (t .after)
+  pub byte-bound-from : bytesIn said ≤ bound L (classOf share)
+  byte-bound-from =
+      subst (λ (k : ℕ). bytesIn said ≤ bound L k) (w .class)
+      (subst (λ (n : ℕ). n ≤ bound L (classAt (step (reads f) x .next) (st .number))) (sym count)
+      (Promises.byte-bound L (reads f) (t .here .run) (st .number) x xs (w .comes) unsent))
+    where
+      count : bytesIn said ≡ Runs.bytesIn (step (reads f) x .next) xs
+      count = ap bytesIn (s .answers) ∙ bytes-said (reads g) xs ∙ ap (λ (b : Board.Board). Runs.bytesIn b xs) (t .after)
 
-pub sent-in-time-from : (L share : ℕ) (st : Story) (last : Option ℕ) (f g e : Holding) (x : Single) (a : Answer) (xs : List Single) (said : List Answer)
-    → Life L share st last f → Did f (one x) a g → Chain g (map one xs) said e → StaysInFront st x a xs said → NotSpent said
-    → Runs.servesIn xs ≤ bound L (classOf share)
-sent-in-time-from L share st last f g e x a xs said l d r s! v =
-    subst (λ (k : ℕ). Runs.servesIn xs ≤ bound L k) (w .class) (Promises.sent-in-time L (reads f) (t .here .run) (st .number) x xs (w .comes) unsent spent)
-  where
-    t : Told L share st f x a g
-    t = told-at L share st last f g x a l (s! .still) d
-
-    w : Fronted L share (reads f) (st .number) x
-    w = told-front L share st f g x a t (s! .still) (s! .comes)
-
-    s : Along (reads g) xs said e
-    s = along xs (t .there .good) r
-
-    unsent : Runs.Unsent (st .number) (step (reads f) x .next) xs
-    unsent =
-        subst (λ (b : Board.Board). Runs.Unsent (st .number) b xs) (t .after)
-        (unsent-said (st .number) (reads g) xs (subst (Unsent (st .number) xs) (s .answers) (s! .unsent)))
-
-    spent : Runs.NotSpent (step (reads f) x .next) xs
-    spent = subst (λ (b : Board.Board). Runs.NotSpent b xs) (t .after) (spent-said (reads g) xs (subst NotSpent (s .answers) v))
+  pub sent-in-time-from : NotSpent said → Runs.servesIn xs ≤ bound L (classOf share)
+  sent-in-time-from v =
+      subst (λ (k : ℕ). Runs.servesIn xs ≤ bound L k) (w .class) (Promises.sent-in-time L (reads f) (t .here .run) (st .number) x xs (w .comes) unsent spent)
+    where
+      spent : Runs.NotSpent (step (reads f) x .next) xs
+      spent = subst (λ (b : Board.Board). Runs.NotSpent b xs) (t .after) (spent-said (reads g) xs (subst NotSpent (s .answers) v))
 
 -- a place whose lane holds a record waits
 some-wait : (l : List Place) (p : ℕ) → 1 ≤ length (getD l p freePlace .lane) → someWait l ≡ true
