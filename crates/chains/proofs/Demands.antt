@@ -6,15 +6,13 @@ use mathlib.Core.Option.{Option, none}
 use mathlib.Core.List.{List, [], _∷_, _++_, map, append-nil}
 use Prim.Native.Nat.{ℕ, zero, suc, _+_, _*_, _-_, _^_, _≤_, _<_}
 use native.Mathlib.Omega.{arith}
-use lib.ListN.{length, getD, set, replicate, length-append, length-replicate}
-use lib.Seq.{getD-set-same}
+use lib.ListN.{length, getD, replicate, length-append, length-replicate}
 use Rattle.base.proofs.Numbers.{eqb-yes, leb-yes}
 use Rattle.units.specs.Classes.{Start, classOf}
 use Rattle.units.specs.Credit.{largestCharge}
 use Rattle.rules.specs.Board
 use Rattle.rules.specs.Board.{Place, freePlace, at, waits, someWait, fresh, Has}
-use Rattle.rules.specs.Choice.{Out, refused, done, taken, sent, Turn, goOn, send}
-use Rattle.rules.specs.Blocks.{opened, freeAt}
+use Rattle.rules.specs.Choice.{Out, refused, done, taken, sent, send}
 use Rattle.rules.specs.Burst.{Burst, burst}
 use Rattle.rules.specs.Calls.{Single, open!, rename!, close!, record!, serve!, step, Call, one, burst!, Sent, Answer, gives, takes, sends, bursts, told, codeOf, make}
 use Rattle.rules.specs.Runs
@@ -24,7 +22,8 @@ use Rattle.rules.specs.Promises.{OfRun, Accounted, bound}
 use Rattle.rules.proofs.Tidy.{Tidy}
 use Rattle.rules.proofs.TidyCalls.{tidy-step}
 use Rattle.rules.proofs.Conserve.{sentOne, flow-step}
-use Rattle.rules.proofs.Cases.{Refusal, refusal-not0, CanOpen, call-cases}
+use Rattle.rules.proofs.Cases.{call-cases}
+use Rattle.rules.proofs.Stories.{opened-by}
 use Rattle.rules.proofs.Names.{follows, has-find, has-lane, has-share}
 use Rattle.rules.proofs.Promises
 use Rattle.board.specs.declared.Board as struct
@@ -83,30 +82,6 @@ unfolding Runs.story play
 seat-story share st b p [] g s = s
 seat-story share st b p (x ∷ xs) g s = seat-story share (tells (st .closed) st x (answer b x)) (step b x .next) p xs (tidy-step b x g) (seat-step share st b p x g s)
 
--- an opening that is done gives it one
-abbrev OpenedBy : Board.Board → Single → Turn → Type 0
-OpenedBy b (open! n s) t = codeOf (told b (t .out)) ≡ 0 → (p : ℕ) × Seat s (begins n) (t .next) p
-OpenedBy b (rename! old new) t = Unit {0}
-OpenedBy b (close! n) t = Unit {0}
-OpenedBy b (record! n r) t = Unit {0}
-OpenedBy b serve! t = Unit {0}
-
-opened-by : (b : Board.Board) → Tidy b → (x : Single) → OpenedBy b x (step b x)
-opened-by b g = call-cases b g (OpenedBy b) (record { refused = no-open; opens = opens; renames = λ p old new c. tt; closes = λ p n c. tt; takes = λ p n r c. tt; goesOn = λ p c. tt; begins = λ r t p c e. tt })
-  where
-    no-open : (x : Single) (code : ℕ) → Refusal code → OpenedBy b x (record { out = refused code; next = b })
-    no-open (open! n s) code r = λ e. absurd (true≢false (sym (eqb-yes code 0 e) ∙ refusal-not0 code r))
-    no-open (rename! old new) code r = tt
-    no-open (close! n) code r = tt
-    no-open (record! n x) code r = tt
-    no-open serve! code r = tt
-
-    opens : (n s : ℕ) → CanOpen b n s → OpenedBy b (open! n s) (record { out = done; next = goOn b (freeAt b) (opened n s) })
-    opens n s c e = (freeAt b, λ _. (record { inside = c .inside; bought = rw (ap (λ (x : Place). x .share) here) (c .share); named = ap (λ (x : Place). x .number) here }, ap (λ (x : Place). x .share) here))
-      where
-        here : getD (set (b .places) (freeAt b) (opened n s)) (freeAt b) freePlace ≡ opened n s
-        here = getD-set-same (b .places) (freeAt b) (opened n s) freePlace (omega (arith, c .inside, g .shape .all64))
-
 -- what is known of a block on the board b after its story
 record Lives (share : ℕ) (st : Story) (b : Board.Board) : Type 0 where
   accounted : Accounted st b
@@ -126,7 +101,7 @@ opening-lives : (L share : ℕ) (st : Story) (b : Board.Board) → Opening L sha
 opening-lives L share st b o = rw (o .is, o .tale) (record {
   accounted = Promises.conserved-all L (o .from) (o .run) (o .n) share (o .xs) (o .opens);
   seat = λ c. let w = opened-by (o .from) (o .tidy) (open! (o .n) share) (o .opens) in
-      (w .0, seat-story share (begins (o .n)) (step (o .from) (open! (o .n) share) .next) (w .0) (o .xs) (tidy-step (o .from) (open! (o .n) share) (o .tidy)) (w .1));
+      (w .0, seat-story share (begins (o .n)) (step (o .from) (open! (o .n) share) .next) (w .0) (o .xs) (tidy-step (o .from) (open! (o .n) share) (o .tidy)) (λ _. (w .1, ap (λ (x : Place). x .share) (w .2))));
 })
 
 -- one call more
