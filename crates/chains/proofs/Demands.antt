@@ -6,15 +6,14 @@ use mathlib.Core.Option.{Option, none}
 use mathlib.Core.List.{List, [], _∷_, _++_, map, append-nil}
 use Prim.Native.Nat.{ℕ, zero, suc, _+_, _*_, _-_, _^_, _≤_, _<_}
 use native.Mathlib.Omega.{arith}
-use lib.ListN.{length, getD, set, replicate, length-append, length-replicate}
-use lib.Seq.{getD-set-same}
+use lib.ListN.{length, getD, replicate, length-append, length-replicate}
 use Rattle.base.proofs.Numbers.{eqb-yes, leb-yes}
 use Rattle.units.specs.Classes.{Start, classOf}
 use Rattle.units.specs.Credit.{largestCharge}
 use Rattle.rules.specs.Board
 use Rattle.rules.specs.Board.{Place, freePlace, at, waits, someWait, fresh, Has}
-use Rattle.rules.specs.Choice.{Out, refused, done, taken, Sending, sent, Turn, goOn, send}
-use Rattle.rules.specs.Blocks.{Opening, opened, freeAt}
+use Rattle.rules.specs.Choice.{Out, refused, done, taken, Sending, sent, send}
+use Rattle.rules.specs.Blocks.{Opening}
 use Rattle.rules.specs.Burst.{Burst, burst}
 use Rattle.rules.specs.Calls.{Single, open!, rename!, close!, record!, serve!, step, Call, one, burst!, Sent, Answer, gives, takes, sends, bursts, told, codeOf, make}
 use Rattle.rules.specs.Runs
@@ -24,7 +23,8 @@ use Rattle.rules.specs.Promises.{OfRun, Accounted, bound}
 use Rattle.rules.proofs.Tidy.{Tidy}
 use Rattle.rules.proofs.TidyCalls.{tidy-step}
 use Rattle.rules.proofs.Conserve.{sentOne, flow-step}
-use Rattle.rules.proofs.Cases.{Refusal, refusal-not0, CanOpen, call-cases}
+use Rattle.rules.proofs.Cases.{call-cases}
+use Rattle.rules.proofs.Stories.{opened-by}
 use Rattle.rules.proofs.Names.{follows, has-find, has-lane, has-share}
 use Rattle.rules.proofs.Promises
 use Rattle.board.specs.declared.Board as struct
@@ -84,30 +84,6 @@ unfolding Runs.story play
 seat-story share st b p [] g s = s
 seat-story share st b p (x ∷ xs) g s = seat-story share (tells (st .closed) st x (answer b x)) (step b x .next) p xs (tidy-step b x g) (seat-step share st b p x g s)
 
--- an opening that is done gives it one
-abbrev OpenedBy : Board.Board → Single → Turn → Type 0
-OpenedBy b (open! o) t = codeOf (told b (t .out)) ≡ 0 → (p : ℕ) × Seat (o .share) (begins (o .number)) (t .next) p
-OpenedBy b (rename! old new) t = Unit {0}
-OpenedBy b (close! n) t = Unit {0}
-OpenedBy b (record! n r) t = Unit {0}
-OpenedBy b serve! t = Unit {0}
-
-opened-by : (b : Board.Board) → Tidy b → (x : Single) → OpenedBy b x (step b x)
-opened-by b g = call-cases b g (OpenedBy b) (record { refused = no-open; opens = opens; renames = λ p old new c. tt; closes = λ p n c. tt; takes = λ p n r c. tt; goesOn = λ p c. tt; begins = λ r t p c e. tt })
-  where
-    no-open : (x : Single) (code : ℕ) → Refusal code → OpenedBy b x (record { out = refused code; next = b })
-    no-open (open! o) code r = λ e. absurd (true≢false (sym (eqb-yes code 0 e) ∙ refusal-not0 code r))
-    no-open (rename! old new) code r = tt
-    no-open (close! n) code r = tt
-    no-open (record! n x) code r = tt
-    no-open serve! code r = tt
-
-    opens : (o : Opening) → CanOpen b o → OpenedBy b (open! o) (record { out = done; next = goOn b (freeAt b) (opened o) })
-    opens o c e = (freeAt b, λ _. (record { inside = c .inside; bought = rw (ap (λ (x : Place). x .share) here) (c .share); named = ap (λ (x : Place). x .number) here }, ap (λ (x : Place). x .share) here))
-      where
-        here : getD (set (b .places) (freeAt b) (opened o)) (freeAt b) freePlace ≡ opened o
-        here = getD-set-same (b .places) (freeAt b) (opened o) freePlace (omega (arith, c .inside, g .shape .all64))
-
 -- what is known of a block on the board b after its story
 record Lives (given : Opening) (st : Story) (b : Board.Board) : Type 0 where
   accounted : Accounted st b
@@ -126,7 +102,7 @@ opening-lives : (L : ℕ) (given : Opening) (st : Story) (b : Board.Board) → F
 opening-lives L given st b o = rw (o .is, o .tale) (record {
   accounted = Promises.conserved-all L (o .from) (o .run) given (o .xs) (o .opens);
   seat = λ c. let w = opened-by (o .from) (o .tidy) (open! given) (o .opens) in
-      (w .0, seat-story (given .share) (begins (given .number)) (step (o .from) (open! given) .next) (w .0) (o .xs) (tidy-step (o .from) (open! given) (o .tidy)) (w .1));
+      (w .0, seat-story (given .share) (begins (given .number)) (step (o .from) (open! given) .next) (w .0) (o .xs) (tidy-step (o .from) (open! given) (o .tidy)) (λ _. (w .1, ap (λ (x : Place). x .share) (w .2))));
 })
 
 -- one call more
@@ -320,53 +296,37 @@ told-front : (L : ℕ) (given : Opening) (st : Story) (f g : Holding) (x : Singl
 told-front L given st f g x a t c z = fronted L given st (reads f) x a (t .is) (at-tidy L f (t .here)) (t .lives) (t .next) c z
 
 -- The byte bound, its time and the slot promises at a call of a chain, over any single calls after it: Passages has them at every moment.
-pub byte-bound-from : (L : ℕ) (given : Opening) (st : Story) (last : Option ℕ) (f g e : Holding) (x : Single) (a : Answer) (xs : List Single) (said : List Answer)
-    → Life L given st last f → Did f (one x) a g → Chain g (map one xs) said e → StaysInFront st x a xs said
-    → bytesIn said ≤ bound L (classOf (given .share))
-byte-bound-from L given st last f g e x a xs said l d r s! =
-    subst (λ (k : ℕ). bytesIn said ≤ bound L k) (w .class)
-    (subst (λ (n : ℕ). n ≤ bound L (classAt (step (reads f) x .next) (st .number))) (sym count)
-    (Promises.byte-bound L (reads f) (t .here .run) (st .number) x xs (w .comes) unsent))
-  where
-    t : Told L given st f x a g
-    t = told-at L given st last f g x a l (s! .still) d
+module _ (L : ℕ) (given : Opening) (st : Story) (last : Option ℕ) (f g e : Holding) (x : Single) (a : Answer) (xs : List Single) (said : List Answer)
+    (l : Life L given st last f) (d : Did f (one x) a g) (r : Chain g (map one xs) said e) (s! : StaysInFront st x a xs said) where
+  t : Told L given st f x a g
+  t = told-at L given st last f g x a l (s! .still) d
 
-    w : Fronted L given (reads f) (st .number) x
-    w = told-front L given st f g x a t (s! .still) (s! .comes)
+  w : Fronted L given (reads f) (st .number) x
+  w = told-front L given st f g x a t (s! .still) (s! .comes)
 
-    s : Along (reads g) xs said e
-    s = along xs (t .there .good) r
+  s : Along (reads g) xs said e
+  s = along xs (t .there .good) r
 
-    unsent : Runs.Unsent (st .number) (step (reads f) x .next) xs
-    unsent =
-        subst (λ (b : Board.Board). Runs.Unsent (st .number) b xs) (t .after)
-        (unsent-said (st .number) (reads g) xs (subst (Unsent (st .number) xs) (s .answers) (s! .unsent)))
+  unsent : Runs.Unsent (st .number) (step (reads f) x .next) xs
+  unsent =
+      subst (λ (b : Board.Board). Runs.Unsent (st .number) b xs) (t .after)
+      (unsent-said (st .number) (reads g) xs (subst (Unsent (st .number) xs) (s .answers) (s! .unsent)))
 
-    count : bytesIn said ≡ Runs.bytesIn (step (reads f) x .next) xs
-    count = ap bytesIn (s .answers) ∙ bytes-said (reads g) xs ∙ ap (λ (b : Board.Board). Runs.bytesIn b xs) (t .after)
+  pub byte-bound-from : bytesIn said ≤ bound L (classOf (given .share))
+  byte-bound-from =
+      subst (λ (k : ℕ). bytesIn said ≤ bound L k) (w .class)
+      (subst (λ (n : ℕ). n ≤ bound L (classAt (step (reads f) x .next) (st .number))) (sym count)
+      (Promises.byte-bound L (reads f) (t .here .run) (st .number) x xs (w .comes) unsent))
+    where
+      count : bytesIn said ≡ Runs.bytesIn (step (reads f) x .next) xs
+      count = ap bytesIn (s .answers) ∙ bytes-said (reads g) xs ∙ ap (λ (b : Board.Board). Runs.bytesIn b xs) (t .after)
 
-pub sent-in-time-from : (L : ℕ) (given : Opening) (st : Story) (last : Option ℕ) (f g e : Holding) (x : Single) (a : Answer) (xs : List Single) (said : List Answer)
-    → Life L given st last f → Did f (one x) a g → Chain g (map one xs) said e → StaysInFront st x a xs said → NotSpent said
-    → Runs.servesIn xs ≤ bound L (classOf (given .share))
-sent-in-time-from L given st last f g e x a xs said l d r s! v =
-    subst (λ (k : ℕ). Runs.servesIn xs ≤ bound L k) (w .class) (Promises.sent-in-time L (reads f) (t .here .run) (st .number) x xs (w .comes) unsent spent)
-  where
-    t : Told L given st f x a g
-    t = told-at L given st last f g x a l (s! .still) d
-
-    w : Fronted L given (reads f) (st .number) x
-    w = told-front L given st f g x a t (s! .still) (s! .comes)
-
-    s : Along (reads g) xs said e
-    s = along xs (t .there .good) r
-
-    unsent : Runs.Unsent (st .number) (step (reads f) x .next) xs
-    unsent =
-        subst (λ (b : Board.Board). Runs.Unsent (st .number) b xs) (t .after)
-        (unsent-said (st .number) (reads g) xs (subst (Unsent (st .number) xs) (s .answers) (s! .unsent)))
-
-    spent : Runs.NotSpent (step (reads f) x .next) xs
-    spent = subst (λ (b : Board.Board). Runs.NotSpent b xs) (t .after) (spent-said (reads g) xs (subst NotSpent (s .answers) v))
+  pub sent-in-time-from : NotSpent said → Runs.servesIn xs ≤ bound L (classOf (given .share))
+  sent-in-time-from v =
+      subst (λ (k : ℕ). Runs.servesIn xs ≤ bound L k) (w .class) (Promises.sent-in-time L (reads f) (t .here .run) (st .number) x xs (w .comes) unsent spent)
+    where
+      spent : Runs.NotSpent (step (reads f) x .next) xs
+      spent = subst (λ (b : Board.Board). Runs.NotSpent b xs) (t .after) (spent-said (reads g) xs (subst NotSpent (s .answers) v))
 
 -- a place whose lane holds a record waits
 some-wait : (l : List Place) (p : ℕ) → 1 ≤ length (getD l p freePlace .lane) → someWait l ≡ true

@@ -12,7 +12,7 @@ use lib.ListN.{length, getD, set, List·getD-eq-default}
 use lib.Seq.{getD-set-same, getD-set-other}
 use native.Mathlib.Decide.{ℕ-discrete}
 use Rattle.base.proofs.Numbers.{split, leb-yes, leb-no}
-use Rattle.base.specs.Sums.{sum, below}
+use Rattle.base.specs.Sums.{oneIf, sum, below}
 use Rattle.base.proofs.Sums.{sum-le, sum-add, sum-mul, sum-zero, sum-at, sum-set, sum-trade, below-le, below-zero, below-add, below-mono}
 use Rattle.units.specs.Classes.{Start, nextStart, classOf}
 use Rattle.units.proofs.Starts.{next-gt, next-least, next-mono, next-align, next-at, next-suc, start-add}
@@ -29,10 +29,6 @@ free = record { share = 0; ord = false; ready = 0 }
 
 abbrev pub class : Seat → ℕ
 class s = classOf (s .share)
-
-abbrev pub oneIf : Bool → ℕ
-oneIf true = 1
-oneIf false = 0
 
 -- 1 if the block is pending at c and its class is at most k
 unfoldable pub pend : ℕ → ℕ → Seat → ℕ

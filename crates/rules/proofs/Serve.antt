@@ -6,11 +6,10 @@ use mathlib.Core.Option.{Option, none, some}
 use mathlib.Core.List.{List}
 use Prim.Native.Nat.{ℕ, _+_, _-_, _^_, _≤_, _<_, max}
 use native.Mathlib.Omega.{arith}
-use native.Mathlib.Decide.{ℕ-discrete}
 use lib.Dec.{eqb}
 use lib.ListN.{length, getD, set}
 use lib.Seq.{getD-set-same, getD-set-other}
-use Rattle.base.proofs.Numbers.{split, leb-no, eqb-yes, eqb-no}
+use Rattle.base.proofs.Numbers.{split, leb-no, eqb-yes}
 use Rattle.base.specs.Tests.{least}
 use Rattle.units.specs.Classes.{nextStart, classOf}
 use Rattle.units.proofs.Starts.{next-gt, next-is, next-start, start-add, start-gap}
@@ -23,7 +22,7 @@ use Rattle.rules.proofs.Potential.{ahead, ahead-begin, ahead-jump}
 use Rattle.rules.proofs.Orders.{pl, ready}
 use Rattle.rules.proofs.Shape.{Chosen, choose, LeastIs, queued-in}
 use Rattle.rules.proofs.Good.{seatOf, Fine, fine-begin, fine-jump, seat-ok}
-use Rattle.rules.proofs.Slot.{serving-ok}
+use Rattle.rules.proofs.Slot.{one-serves, serving-ok}
 use Rattle.rules.proofs.Cases.{least-of, serve-turns}
 use Rattle.rules.proofs.Turns.{Good, busy, slotLeft, most, still, Keeps, keeps-refuse, Sends, sends, keeps-sent, keeps-send, queued-waits, Timely, dueOf}
 use Rattle.rules.proofs.Turns.{hand, handBy, due-queued, givenIn, front-pos}
@@ -78,11 +77,7 @@ module _ (b : Board) (r : ℕ) (free : b .slot ≡ none) (least : LeastIs (b .pl
       h = queued-in (b .places) p (chosen .isQ)
 
       one : (q : ℕ) → isServing (pl (set (b .places) p (started (b .largest) (at b p))) q .stand) ≡ eqb q p
-      one q = go (ℕ-discrete q p)
-        where
-          go : Dec (q ≡ p) → isServing (pl (set (b .places) p (started (b .largest) (at b p))) q .stand) ≡ eqb q p
-          go (yes e) = rw (e, getD-set-same (b .places) p (started (b .largest) (at b p)) freePlace h) (sym (eqb-yes p p refl))
-          go (no e) = rw (getD-set-other (b .places) p q (started (b .largest) (at b p)) freePlace e, eqb-no q p e) (g .one q ∙ ap (isAt q) free)
+      one = one-serves (b .places) p (started (b .largest) (at b p)) h refl (λ q e. g .one q ∙ ap (isAt q) free)
 
   same1 : (q : ℕ) → q ≢ p → at (begin b t) q ≡ at b q
   unfolding t k p begin

@@ -38,6 +38,15 @@ serving-in l p e = go (split (length l) p)
     go (inr h) = h
     go (inl h) = absurd (true≢false (sym e ∙ ap (λ (x : Place). isServing (x .stand)) (List·getD-eq-default l freePlace h)))
 
+-- the place p has the slot, and no other
+pub one-serves : (l : List Place) (p : ℕ) (x : Place) → p < length l → isServing (x .stand) ≡ true
+    → ((q : ℕ) → q ≢ p → isServing (pl l q .stand) ≡ false) → (q : ℕ) → isServing (pl (set l p x) q .stand) ≡ eqb q p
+one-serves l p x h e others q = go (ℕ-discrete q p)
+  where
+    go : Dec (q ≡ p) → isServing (pl (set l p x) q .stand) ≡ eqb q p
+    go (yes f) = rw (f, getD-set-same l p x freePlace h) (e ∙ sym (eqb-yes p p refl))
+    go (no f) = rw (getD-set-other l p q x freePlace f, eqb-no q p f) (others q f)
+
 pub serving-not-queued : (s : Stand) → isServing s ≡ true → isQueued s ≡ false
 serving-not-queued out e = refl
 serving-not-queued (queued r) e = sym e

@@ -69,14 +69,14 @@ told-story s b p [] g t = t
 told-story s b p (x ∷ xs) g t = told-story (tells (s .closed) s x (answer b x)) (step b x .next) p xs (tidy-step b x g) (told-step s b p x g t)
 
 -- an opening that is done gives the block a place with an empty lane
-abbrev OpenedBy : Board → Single → Turn → Type 0
-OpenedBy b (open! o) t = codeOf (told b (t .out)) ≡ 0 → (p : ℕ) × (Has (t .next) p (o .number)) × (at (t .next) p .lane ≡ [])
+abbrev pub OpenedBy : Board → Single → Turn → Type 0
+OpenedBy b (open! o) t = codeOf (told b (t .out)) ≡ 0 → (p : ℕ) × (Has (t .next) p (o .number)) × (at (t .next) p ≡ opened o)
 OpenedBy b (rename! old new) t = Unit {0}
 OpenedBy b (close! n) t = Unit {0}
 OpenedBy b (record! n r) t = Unit {0}
 OpenedBy b serve! t = Unit {0}
 
-opened-by : (b : Board) → Tidy b → (x : Single) → OpenedBy b x (step b x)
+pub opened-by : (b : Board) → Tidy b → (x : Single) → OpenedBy b x (step b x)
 opened-by b g = call-cases b g (OpenedBy b) (record { refused = no-open; opens = opens; renames = λ p old new c. tt; closes = λ p n c. tt; takes = λ p n r c. tt; goesOn = λ p c. tt; begins = λ r t p c e. tt })
   where
     no-open : (x : Single) (code : ℕ) → Refusal code → OpenedBy b x (record { out = refused code; next = b })
@@ -87,7 +87,7 @@ opened-by b g = call-cases b g (OpenedBy b) (record { refused = no-open; opens =
     no-open serve! code r = tt
 
     opens : (o : Opening) → CanOpen b o → OpenedBy b (open! o) (record { out = done; next = goOn b (freeAt b) (opened o) })
-    opens o c e = (freeAt b, record { inside = c .inside; bought = rw (ap (λ (x : Place). x .share) here) (c .share); named = ap (λ (x : Place). x .number) here }, ap (λ (x : Place). x .lane) here)
+    opens o c e = (freeAt b, record { inside = c .inside; bought = rw (ap (λ (x : Place). x .share) here) (c .share); named = ap (λ (x : Place). x .number) here }, here)
       where
         here : getD (set (b .places) (freeAt b) (opened o)) (freeAt b) freePlace ≡ opened o
         here = getD-set-same (b .places) (freeAt b) (opened o) freePlace (omega (arith, c .inside, g .shape .all64))
@@ -102,11 +102,11 @@ conserved b g o after e = go (opened-by b g (open! o) e)
     gb : Tidy nb
     gb = tidy-step b (open! o) g
 
-    go : (p : ℕ) × (Has nb p (o .number)) × (at nb p .lane ≡ []) → Accounted (story (begins (o .number)) nb after) (play nb after)
+    go : (p : ℕ) × (Has nb p (o .number)) × (at nb p ≡ opened o) → Accounted (story (begins (o .number)) nb after) (play nb after)
     go (p, h, l) = record { whenClosed = t .whenClosed; whenOpen = λ c. ((p, has-find (play nb after) p _ ge (t .whenOpen c .0)), t .whenOpen c .1 ∙ ap (λ (u : List Record). story (begins (o .number)) nb after .sent ++ u) (sym (has-lane (play nb after) p _ ge (t .whenOpen c .0)))) }
       where
         t : Told (story (begins (o .number)) nb after) (play nb after) p
-        t = told-story (begins (o .number)) nb p after gb (record { whenClosed = λ f. absurd (false≢true f); whenOpen = λ _. (h, sym l) })
+        t = told-story (begins (o .number)) nb p after gb (record { whenClosed = λ f. absurd (false≢true f); whenOpen = λ _. (h, sym (ap (λ (x : Place). x .lane) l)) })
 
         ge : Tidy (play nb after)
         ge = tidy-play nb after gb

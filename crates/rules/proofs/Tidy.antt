@@ -6,19 +6,17 @@ use mathlib.Core.Option.{Option, none, some}
 use mathlib.Core.List.{List, [], _∷_, _++_}
 use Prim.Native.Nat.{ℕ, suc, _+_, _*_, _-_, _^_, _≤_, _<_, max}
 use native.Mathlib.Omega.{arith}
-use native.Mathlib.Decide.{ℕ-discrete}
 use lib.Dec.{leb, ltb, eqb}
 use lib.ListN.{length, getD, set, drop}
-use lib.Seq.{getD-set-same, getD-set-other}
-use Rattle.base.proofs.Numbers.{true-le, false-lt, eqb-yes, eqb-no}
+use Rattle.base.proofs.Numbers.{true-le, false-lt, eqb-no}
 use Rattle.rules.specs.Spoilt.{isQueued, isServing, readyNum, isAt}
-use Rattle.rules.specs.Board.{noRecord, onward, charge, Place, freePlace, blockClass, front, Board, at}
-use Rattle.rules.specs.Choice.{upd, leftOf, release, settle, started, emptied, short, going, ended, goOn, sendFrom, begin, lowest}
+use Rattle.rules.specs.Board.{noRecord, onward, charge, Place, blockClass, front, Board, at}
+use Rattle.rules.specs.Choice.{upd, leftOf, release, settle, started, emptied, short, going, ended, goOn, sendFrom, send, begin, lowest}
 use Rattle.rules.specs.Blocks.{quiet}
 use Rattle.rules.proofs.Orders.{pl}
 use Rattle.rules.proofs.Shape.{Shape, PlaceOk, names-kept, shape-same, shape-join, shape-clock, shape-begin, settle-le, release-le, Chosen, choose}
 use Rattle.rules.proofs.Shape.{LeastIs, queued-in}
-use Rattle.rules.proofs.Slot.{serving-not-queued, serving-ready}
+use Rattle.rules.proofs.Slot.{one-serves, serving-not-queued, serving-ready}
 use Rattle.rules.proofs.Turns.{busy, lit}
 use Rattle.rules.proofs.Slot
 
@@ -51,11 +49,7 @@ module _ (L c : ℕ) (l : List Place) (o : ℕ → List ℕ) (H : ℕ → ℕ) (
   tidy-goOn x e sh = record { shape = sh; one = one; calm = λ q. absurd (false≢true q); time = g .time }
     where
       one : (q : ℕ) → isServing (pl (set l p x) q .stand) ≡ eqb q p
-      one q = go (ℕ-discrete q p)
-        where
-          go : Dec (q ≡ p) → isServing (pl (set l p x) q .stand) ≡ eqb q p
-          go (yes f) = rw (f, getD-set-same l p x freePlace inL) (e ∙ sym (eqb-yes p p refl))
-          go (no f) = rw (getD-set-other l p q x freePlace f) (g .one q)
+      one = one-serves l p x inL e (λ q f. g .one q ∙ eqb-no q p f)
 
   same : (x : Place) → x .number ≡ pl l p .number → x .share ≡ pl l p .share → isQueued (x .stand) ≡ false → readyNum (x .stand) ≡ 0 → PlaceOk L x → Shape L c (set l p x) o H
   same x n s q r new = shape-same p x inL s (q ∙ sym (serving-not-queued (pl l p .stand) isS)) (r ∙ sym (serving-ready (pl l p .stand) isS)) (names-kept l p x inL n s (g .shape .names)) new (g .shape)
@@ -114,11 +108,7 @@ module _ (b : Board) (r : ℕ) (free : b .slot ≡ none) (least : LeastIs (b .pl
       h = queued-in (b .places) p (chosen .isQ)
 
       one : (q : ℕ) → isServing (pl (set (b .places) p (started (b .largest) (at b p))) q .stand) ≡ eqb q p
-      one q = go (ℕ-discrete q p)
-        where
-          go : Dec (q ≡ p) → isServing (pl (set (b .places) p (started (b .largest) (at b p))) q .stand) ≡ eqb q p
-          go (yes e) = rw (e, getD-set-same (b .places) p (started (b .largest) (at b p)) freePlace h) (sym (eqb-yes p p refl))
-          go (no e) = rw (getD-set-other (b .places) p q (started (b .largest) (at b p)) freePlace e, eqb-no q p e) (g .one q ∙ ap (isAt q) free)
+      one = one-serves (b .places) p (started (b .largest) (at b p)) h refl (λ q e. g .one q ∙ ap (isAt q) free)
 
   pub tidy-sent : Tidy (sendFrom (begin b t) p)
   unfolding begin

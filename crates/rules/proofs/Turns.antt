@@ -23,7 +23,7 @@ use Rattle.rules.proofs.Line.{Seat}
 use Rattle.rules.proofs.Potential.{ahead, ahead-tick, ahead-join}
 use Rattle.rules.proofs.Orders.{pl, ready}
 use Rattle.rules.proofs.Shape.{names-kept, PlaceOk, StandOk, all-front, Fit, fit-charge}
-use Rattle.rules.proofs.Slot.{serving-not-queued}
+use Rattle.rules.proofs.Slot.{one-serves, serving-not-queued}
 use Rattle.rules.proofs.Good.{seatOf, Fine, fine-same, fine-join, fine-tick}
 use Rattle.rules.proofs.Slot
 
@@ -387,11 +387,7 @@ module _ (L c : ℕ) (l : List Place) (o : ℕ → List ℕ) (H : ℕ → ℕ) (
         mine = getD-set-same l p (going (pl l p)) freePlace inL
 
         one : (q : ℕ) → isServing (pl (set l p (going (pl l p))) q .stand) ≡ eqb q p
-        one q = go (ℕ-discrete q p)
-          where
-            go : Dec (q ≡ p) → isServing (pl (set l p (going (pl l p))) q .stand) ≡ eqb q p
-            go (yes f) = rw (f, getD-set-same l p (going (pl l p)) freePlace inL) (sym (eqb-yes p p refl))
-            go (no f) = rw (others-set (going (pl l p)) q f) (g .one q)
+        one = one-serves l p (going (pl l p)) inL refl (λ q f. g .one q ∙ eqb-no q p f)
 
   -- the lane is empty: the slot ends
   emptied-ok : PlaceOk L (emptied (pl l p))
