@@ -32,7 +32,7 @@ pub record Going (log piece₀ out₀ piece out ids lens : List ℕ) (s : State)
   pub lens-all : length lens ≡ 2048
   pub roomy : 64 ≤ length piece
   pub as-long : length piece ≡ length piece₀
-  pub code : pieceCode (length log) s ids lens ≡ 0
+  pub code : pieceCode log s ids lens ≡ 0
   pub within : readTo s ≤ length log
   pub so-far : SoFar log out₀ s ids lens end out
 
@@ -51,7 +51,7 @@ module _ (log before : List ℕ) (s : State) (ids lens : List ℕ) (end : ℕ) (
       subst-line : {x y : List ℕ} → x ≡ y → Line before x end out → Line before y end out
       subst-line e l = record { counts = l .counts ∙ ap length e; text = l .text ∙ e; rest = l .rest }
 
-  module _ (piece : List ℕ) (r : Piece) (ids′ lens′ piece′ : List ℕ) (p : PieceOf log s ids lens piece r ids′ lens′ piece′) (z : pieceCode (length log) s ids lens ≡ 0) where
+  module _ (piece : List ℕ) (r : Piece) (ids′ lens′ piece′ : List ℕ) (p : PieceOf log s ids lens piece r ids′ lens′ piece′) (z : pieceCode log s ids lens ≡ 0) where
     d : PieceDone log s ids lens piece r ids′ lens′ piece′
     d = p .done (p .code ∙ z)
 

@@ -7,9 +7,11 @@ ghost use lib.ListN.{length, getD};
 ghost use Rattle.log.specs.Format.{isL};
 ghost use Rattle.log.specs.declared.Event.the-variants.{Serve};
 ghost use Rattle.lines.specs.Text.{Line};
+ghost use Rattle.plays.specs.Listing.{lastOf};
 ghost use Rattle.board.specs.Memory.{numbersNow, boardNow};
 ghost use Rattle.fields.specs.Fields.{memory, KnownMemory, FieldPlayed, shownLine};
 use lines::LINE_ROOM;
+use log::End;
 use log::Event;
 use numbers::CLASSES;
 use numbers::PLACES;
@@ -255,5 +257,23 @@ pub fn play_field(
         pending: pending,
         slot: slot,
         left: left,
+    }
+}
+
+// The last line of a listing: `end` with these numbers, `broken N` or `long`.
+pub fn show_end(
+    end: End,
+    clock: u64,
+    sent: Bytes,
+    waiting: u32,
+    line: &mut [u8; LINE_ROOM],
+) -> usize
+    ensures { λ r. ⌜
+        Line (now (line .entry)) (lastOf clock (sent .0) waiting end) r (now (line .exit)) × (r ≤ 64) ⌝ }
+{
+    match end {
+        End::Whole => lines::put_end(line, clock, sent.0, waiting),
+        End::Broken(offset) => lines::put_broken(line, offset as u64),
+        End::Long => lines::put_long(line),
     }
 }

@@ -1,6 +1,7 @@
 pub mod Numbers
 pub mod Fields
 pub mod Stages
+pub mod Ends
 pub mod Readings
 pub mod Spellings
 pub mod Worked

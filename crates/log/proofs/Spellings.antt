@@ -15,13 +15,17 @@ use Rattle.log.specs.declared.Stage.{Stage}
 use Rattle.log.specs.declared.Stage.the-variants.{BeforeL}
 use Rattle.log.specs.declared.Event.{Event}
 use Rattle.log.specs.declared.Event.the-variants.{Largest, Open, Close, Rename, Arrive, Serve, Passed}
-use Rattle.log.specs.Format.{numberAt, tagAt, lengthAt, tagOf, isPassed, lengthOf, rightLength, eventOf, pastL, stageAfter, isLong}
-use Rattle.log.specs.Rows.{End, whole, broken, long, WholeField, only, atEnd, readFrom, readLog, Reads}
+use Rattle.log.specs.Format.{numberAt, tagAt, lengthAt, tagOf, isPassed, lengthOf, rightLength, eventOf, stageAfter}
+use Rattle.log.specs.declared.End.{End}
+use Rattle.log.specs.declared.End.the-variants.{Whole as whole}
+use Rattle.log.specs.declared.Next.the-variants.{Ends}
+use Rattle.log.specs.Rows.{WholeField, nextAt, readLog, Reads}
 use Rattle.log.specs.Spelling.{bytesOf, Operand, operandsOf, valueOf, widthOf, Fit, fieldOf, valueAt, SaysIf}
 use Rattle.log.specs.Spelling.{Says, AllBytes, Spelt, logOf, AllSay, AllInTurn, withOffsets}
 use Rattle.log.specs.Laws.{FieldBack, FieldOnly, LogBack, LogOnly}
 use Rattle.log.proofs.Fields.{differ, FrameIs, made-whole, whole-is, framed-fits, fits-framed}
 use Rattle.log.proofs.Numbers.{number-lt}
+use Rattle.log.proofs.Ends.{next-whole, next-end, goes-only, ends-only}
 use Rattle.log.proofs.Readings.{has-reading, one-reading}
 
 -- ---- numbers in bytes
@@ -155,25 +159,24 @@ field-back e tag value pre rest stage h t =
 
 -- ---- a log that was written is read back, and ends whole
 
-row-back : (xs : List Spelt) (pre : List ℕ) (stage : Stage) → AllSay xs → AllInTurn stage xs
+row-back : (xs : List Spelt) (pre : List ℕ) (stage : Stage) → length (pre ++ logOf xs) ≤ 32768 → AllSay xs → AllInTurn stage xs
     → Reads (pre ++ logOf xs) (length pre) stage (withOffsets (length pre) xs) whole
-unfolding atEnd
-row-back [] pre stage h t =
-    and-both (pastL stage) _ t (eq-eqb (length pre) (length (pre ++ [])) (omega (arith, length-append pre [])))
-row-back (x ∷ xs) pre stage h t =
+row-back [] pre stage l h t =
+    let here : length pre ≡ length (pre ++ []) = omega (arith, length-append pre []) in
+    ap (λ (i : ℕ). nextAt (pre ++ []) i stage) here ∙ next-end (pre ++ []) stage l t
+row-back (x ∷ xs) pre stage l h t =
     let field = fieldOf (x .tag) (x .value) in
     let on : length (pre ++ field) ≡ length pre + length field = length-append pre field in
+    let same : (pre ++ field) ++ logOf xs ≡ pre ++ (field ++ logOf xs) = append-assoc pre field (logOf xs) in
     let then = stageAfter stage (x .event) in
     let later : Reads ((pre ++ field) ++ logOf xs) (length (pre ++ field)) then (withOffsets (length (pre ++ field)) xs) whole =
-    row-back xs (pre ++ field) then (h .1) (t .1) in
-    (refl, (field-back (x .event) (x .tag) (x .value) pre (logOf xs) stage (h .0) (t .0), rw (← append-assoc, ← on) later))
+    row-back xs (pre ++ field) then (omega (arith, l, ap length same)) (h .1) (t .1) in
+    let read = field-back (x .event) (x .tag) (x .value) pre (logOf xs) stage (h .0) (t .0) in
+    (refl, (next-whole _ (length pre) stage (x .event) _ l read, rw (← append-assoc, ← on) later))
 
 pub log-back : LogBack
-unfolding isLong
-log-back xs h t l = sym (one-reading (logOf xs) (record { fields = withOffsets 0 xs; ends = whole }) (record {
-  over = λ o. absurd (omega (arith, ltb-true 32768 (length (logOf xs)) o));
-  row = λ o. row-back xs [] BeforeL h t;
-}))
+log-back xs h t l =
+    sym (one-reading (logOf xs) (record { fields = withOffsets 0 xs; ends = whole }) (row-back xs [] BeforeL l h t))
 
 -- ---- what is read was written
 
@@ -262,19 +265,15 @@ field-only s at stage e next b h =
 -- and a log that ends whole is one that was written
 row-only : (s : List ℕ) (at : ℕ) (stage : Stage) (fs : List WholeField) (e : End) → AllBytes s → Reads s at stage fs e → e ≡ whole
     → (xs : List Spelt) × (AllSay xs × (AllInTurn stage xs × (drop at s ≡ logOf xs)))
-unfolding atEnd
-row-only s at stage [] whole b r q = ([], (tt, (and-left (pastL stage) _ r, ap (λ (n : ℕ). drop n s) (eqb-true at (length s) (and-right (pastL stage) _ r)) ∙ drop-length s)))
-row-only s at stage [] (broken n) b r q = absurd (let z : _≡_ {A = ℕ} 0 1 = cc in omega arith)
-row-only s at stage [] long b r q = absurd r
+row-only s at stage [] e b r q =
+    let w = ends-only s at stage (r ∙ ap Ends q) in
+    ([], (tt, (w .0, ap (λ (n : ℕ). drop n s) (w .1) ∙ drop-length s)))
 row-only s at stage (f ∷ fs) e b r q =
-    let o = field-only s at stage (f .event) (f .next) b (r .1 .0) in
+    let o = field-only s at stage (f .event) (f .next) b (goes-only s at stage (f .event) (f .next) (r .1 .0) .0) in
     let w = row-only s (f .next) (stageAfter stage (f .event)) fs e b (r .1 .1) q in
-    (record { event = f .event; tag = tagAt s at; value = valueAt s at } ∷ w .0, ((o .0 .0, w .1 .0), ((o .0 .1, w .1 .1 .0), o .1 ∙ ap (λ (d : List ℕ). fieldOf (tagAt s at) (valueAt s at) ++ d) (w .1 .1 .1))))
+    let x : Spelt = record { event = f .event; tag = tagAt s at; value = valueAt s at } in
+    let bytes = ap (λ (d : List ℕ). fieldOf (tagAt s at) (valueAt s at) ++ d) (w .1 .1 .1) in
+    (x ∷ w .0, ((o .0 .0, w .1 .0), ((o .0 .1, w .1 .1 .0), o .1 ∙ bytes)))
 
 pub log-only : LogOnly
-unfolding readLog
-log-only s b h = go (isLong (length s)) refl h
-  where
-    go : (t : Bool) → isLong (length s) ≡ t → cond t (only long) (readFrom s 0 BeforeL) .ends ≡ whole → (xs : List Spelt) × (AllSay xs × (AllInTurn BeforeL xs × (s ≡ logOf xs)))
-    go true p h = absurd (let z : _≡_ {A = ℕ} 0 1 = cc in omega arith)
-    go false p h = row-only s 0 BeforeL (readLog s .fields) (readLog s .ends) b (has-reading s .row p) (rw p h)
+log-only s b h = row-only s 0 BeforeL (readLog s .fields) (readLog s .ends) b (has-reading s) h

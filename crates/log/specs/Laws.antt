@@ -1,6 +1,6 @@
 -- WHAT IS PROVED of the reader: it takes exactly what is written, and every byte sequence has exactly one reading.
 use mathlib.Core.Path.{_≡_}
-use mathlib.Core.Bool.{true, false, cond}
+use mathlib.Core.Bool.{true, false}
 use mathlib.Core.List.{List, [], _++_}
 use Prim.Native.Nat.{ℕ, _+_, _-_, _≤_, _<_}
 use lib.ListN.{length, drop}
@@ -8,8 +8,11 @@ use Rattle.log.specs.declared.Stage.{Stage}
 use Rattle.log.specs.declared.Stage.the-variants.{BeforeL}
 use Rattle.log.specs.declared.Event.{Event}
 use Rattle.log.specs.declared.Field.the-variants.{Whole, Broken}
-use Rattle.log.specs.Format.{tagAt, pastL, stageAfter, inTurn, fieldAt}
-use Rattle.log.specs.Rows.{whole, broken, long, Reading, only, andThen, atEnd, follow}
+use Rattle.log.specs.declared.End.{End}
+use Rattle.log.specs.declared.End.the-variants.{Whole as whole, Broken as broken, Long as long}
+use Rattle.log.specs.declared.Next.the-variants.{GoesOn, Ends}
+use Rattle.log.specs.Format.{tagAt, pastL, stageAfter, inTurn, fieldAt, isLong}
+use Rattle.log.specs.Rows.{Reading, only, andThen, atEnd, nextAt, endsLong, follow}
 use Rattle.log.specs.Rows.{readUpTo, readFrom, readLog, IsReading, RowOf}
 use Rattle.log.specs.Spelling.{fieldOf, valueAt, Says, AllBytes, Spelt, logOf, AllSay, AllInTurn, withOffsets}
 
@@ -29,6 +32,43 @@ FieldOnly = (s : List ℕ) (at : ℕ) (stage : Stage) (e : Event) (next : ℕ) �
     → (Says e (tagAt s at) (valueAt s at) × (inTurn e stage ≡ true))
     × (drop at s ≡ fieldOf (tagAt s at) (valueAt s at) ++ drop next s)
 
+-- After a whole field L has been read.
+abbrev pub PastAfter : Type 0
+PastAfter = (e : Event) (stage : Stage) → inTurn e stage ≡ true → pastL (stageAfter stage e) ≡ true
+
+-- ---- The end of a log
+
+-- A log over 32,768 bytes is long, wherever it is asked, and no other is.
+abbrev pub NextLong : Type 0
+NextLong = (s : List ℕ) (at : ℕ) (stage : Stage) → 32768 < length s → nextAt s at stage ≡ Ends long
+
+abbrev pub LongExactly : Type 0
+LongExactly = (s : List ℕ) (at : ℕ) (stage : Stage) → endsLong (nextAt s at stage) ≡ isLong (length s)
+
+-- Any other goes on with a whole field, and ends where there is none: whole after L at its last byte, else broken.
+abbrev pub NextWhole : Type 0
+NextWhole = (s : List ℕ) (at : ℕ) (stage : Stage) (e : Event) (next : ℕ) → length s ≤ 32768
+    → fieldAt s at stage ≡ Whole e next → nextAt s at stage ≡ GoesOn e next
+
+abbrev pub NextEnd : Type 0
+NextEnd = (s : List ℕ) (stage : Stage) → length s ≤ 32768 → pastL stage ≡ true → nextAt s (length s) stage ≡ Ends whole
+
+abbrev pub NextBroken : Type 0
+NextBroken = (s : List ℕ) (at : ℕ) (stage : Stage) (n : ℕ) → length s ≤ 32768 → atEnd s at stage ≡ false
+    → fieldAt s at stage ≡ Broken n → nextAt s at stage ≡ Ends (broken at)
+
+-- And only so. A log that goes on is not long, so that its offsets are bounded.
+abbrev pub GoesOnly : Type 0
+GoesOnly = (s : List ℕ) (at : ℕ) (stage : Stage) (e : Event) (next : ℕ) → nextAt s at stage ≡ GoesOn e next
+    → (fieldAt s at stage ≡ Whole e next) × (next ≤ 32768)
+
+abbrev pub EndsOnly : Type 0
+EndsOnly = (s : List ℕ) (at : ℕ) (stage : Stage) → nextAt s at stage ≡ Ends whole → (pastL stage ≡ true) × (at ≡ length s)
+
+abbrev pub BreaksOnly : Type 0
+BreaksOnly = (s : List ℕ) (at : ℕ) (stage : Stage) (n : ℕ) → nextAt s at stage ≡ Ends (broken n)
+    → (atEnd s at stage ≡ false) × (fieldAt s at stage ≡ Broken n)
+
 -- ---- The whole log
 
 -- Every byte sequence has a reading, and no other.
@@ -43,27 +83,16 @@ abbrev pub Enough : Type 0
 Enough = (n m : ℕ) (s : List ℕ) (at : ℕ) (stage : Stage) → length s - at < n → length s - at < m
     → readUpTo n s at stage ≡ readUpTo m s at stage
 
--- The reading from an offset is the whole field there, followed by the reading from its end; any other field ends it,
--- and so does the log's end.
+-- The reading from an offset is the whole field there, followed by the reading from its end; or the log ends there.
 abbrev pub ReadStep : Type 0
-ReadStep = (s : List ℕ) (at : ℕ) (stage : Stage)
-    → readFrom s at stage
-    ≡ cond (atEnd s at stage) (only whole) (follow (readFrom s) at stage (fieldAt s at stage))
+ReadStep = (s : List ℕ) (at : ℕ) (stage : Stage) → readFrom s at stage ≡ follow (readFrom s) at stage (nextAt s at stage)
 
 abbrev pub ReadWhole : Type 0
-ReadWhole = (s : List ℕ) (at : ℕ) (stage : Stage) (e : Event) (next : ℕ) → fieldAt s at stage ≡ Whole e next
+ReadWhole = (s : List ℕ) (at : ℕ) (stage : Stage) (e : Event) (next : ℕ) → nextAt s at stage ≡ GoesOn e next
     → readFrom s at stage ≡ andThen (record { offset = at; event = e; next = next }) (readFrom s next (stageAfter stage e))
 
-abbrev pub ReadBroken : Type 0
-ReadBroken = (s : List ℕ) (at : ℕ) (stage : Stage) (n : ℕ) → atEnd s at stage ≡ false → fieldAt s at stage ≡ Broken n
-    → readFrom s at stage ≡ only (broken n)
-
-abbrev pub ReadEnd : Type 0
-ReadEnd = (s : List ℕ) (stage : Stage) → pastL stage ≡ true → readFrom s (length s) stage ≡ only whole
-
--- After a whole field L has been read.
-abbrev pub PastAfter : Type 0
-PastAfter = (e : Event) (stage : Stage) → inTurn e stage ≡ true → pastL (stageAfter stage e) ≡ true
+abbrev pub ReadEnds : Type 0
+ReadEnds = (s : List ℕ) (at : ℕ) (stage : Stage) (e : End) → nextAt s at stage ≡ Ends e → readFrom s at stage ≡ only e
 
 -- A log does not end before its last byte, nor before L.
 abbrev pub Ahead : Type 0

@@ -11,13 +11,11 @@ use Rattle.log.specs.declared.Stage.{Stage}
 use Rattle.log.specs.declared.Stage.the-variants.{BeforeL}
 use Rattle.log.specs.declared.Field.{Field}
 use Rattle.log.specs.declared.Field.the-variants.{Whole, Broken}
+use Rattle.log.specs.declared.End.{End}
+use Rattle.log.specs.declared.End.the-variants.{Whole as whole, Broken as broken, Long as long}
+use Rattle.log.specs.declared.Next.{Next}
+use Rattle.log.specs.declared.Next.the-variants.{GoesOn, Ends}
 use Rattle.log.specs.Format.{isL, pastL, stageAfter, fieldAt, isLong}
-
--- A log ends whole, or at a broken field's offset, or it is long.
-pub data End : Type 0 where
-  whole : End
-  broken : ℕ → End
-  long : End
 
 -- A whole field: the offset of its first byte, what it says, and the offset after it.
 pub record WholeField : Type 0 where
@@ -39,38 +37,54 @@ andThen f r = record { fields = f ∷ r .fields; ends = r .ends }
 unfoldable pub atEnd : List ℕ → ℕ → Stage → Bool
 atEnd s at stage = pastL stage && eqb at (length s)
 
--- A whole field is followed by the reading from its end, in the stage after it. Any other field ends the reading.
-abbrev pub follow : (ℕ → Stage → Reading) → ℕ → Stage → Field → Reading
-follow rest at stage (Whole e next) =
+-- A field that is not whole ends the log.
+abbrev pub nextOf : Field → Next
+nextOf (Whole e next) = GoesOn e next
+nextOf (Broken n) = Ends (broken n)
+
+-- THE END OF A LOG: whether it ends at an offset, in a stage, and how; or else the field there. A log over 32,768 bytes is
+-- long wherever this is asked. No other definition asks for a log's end or its length.
+unfoldable pub nextAt : List ℕ → ℕ → Stage → Next
+nextAt s at stage =
+    cond (isLong (length s)) (Ends long)
+    (cond (atEnd s at stage) (Ends whole)
+    (nextOf (fieldAt s at stage)))
+
+-- That is the end of a long log.
+abbrev pub endsLong : Next → Bool
+endsLong (GoesOn e next) = false
+endsLong (Ends whole) = false
+endsLong (Ends (broken n)) = false
+endsLong (Ends long) = true
+
+-- A whole field is followed by the reading from its end, in the stage after it.
+abbrev pub follow : (ℕ → Stage → Reading) → ℕ → Stage → Next → Reading
+follow rest at stage (GoesOn e next) =
     andThen (record { offset = at; event = e; next = next }) (rest next (stageAfter stage e))
-follow rest at stage (Broken n) = only (broken n)
+follow rest at stage (Ends e) = only e
 
 -- The reading from an offset on, of at most n fields and the end.
 unfoldable pub readUpTo : ℕ → List ℕ → ℕ → Stage → Reading
 readUpTo zero s at stage = only (broken at)
-readUpTo (suc n) s at stage =
-    cond (atEnd s at stage) (only whole) (follow (readUpTo n s) at stage (fieldAt s at stage))
+readUpTo (suc n) s at stage = follow (readUpTo n s) at stage (nextAt s at stage)
 
 -- A log has fewer fields than bytes.
 unfoldable pub readFrom : List ℕ → ℕ → Stage → Reading
 readFrom s at stage = readUpTo (suc (length s)) s at stage
 
 unfoldable pub readLog : List ℕ → Reading
-readLog s = cond (isLong (length s)) (only long) (readFrom s 0 BeforeL)
+readLog s = readFrom s 0 BeforeL
 
 -- The same without a count, as what holds of a reading: these fields with this end are the log's from an offset on.
 abbrev pub Reads : List ℕ → ℕ → Stage → List WholeField → End → Type 0
-Reads s at stage [] whole = atEnd s at stage ≡ true
-Reads s at stage [] (broken n) = (atEnd s at stage ≡ false) × (fieldAt s at stage ≡ Broken n)
-Reads s at stage [] long = ⊥
+Reads s at stage [] e = nextAt s at stage ≡ Ends e
 Reads s at stage (f ∷ fs) e =
     (f .offset ≡ at)
-    × ((fieldAt s at stage ≡ Whole (f .event) (f .next))
+    × ((nextAt s at stage ≡ GoesOn (f .event) (f .next))
     × Reads s (f .next) (stageAfter stage (f .event)) fs e)
 
-pub record IsReading (s : List ℕ) (r : Reading) : Type 0 where
-  pub over : isLong (length s) ≡ true → r ≡ only long
-  pub row : isLong (length s) ≡ false → Reads s 0 BeforeL (r .fields) (r .ends)
+abbrev pub IsReading : List ℕ → Reading → Type 0
+IsReading s r = Reads s 0 BeforeL (r .fields) (r .ends)
 
 -- Each field begins where the one before ended, and has bytes of its own.
 abbrev pub InRow : ℕ → List WholeField → Type 0

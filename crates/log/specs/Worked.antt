@@ -4,7 +4,8 @@ use mathlib.Core.List.{List, [], _∷_}
 use Prim.Native.Nat.{ℕ}
 use lib.ListN.{length}
 use Rattle.log.specs.declared.Event.the-variants.{Largest, Open, Arrive, Serve}
-use Rattle.log.specs.Rows.{whole, WholeField, readLog}
+use Rattle.log.specs.declared.End.the-variants.{Whole as whole}
+use Rattle.log.specs.Rows.{WholeField, readLog}
 
 abbrev pub workedLog : List ℕ
 workedLog =

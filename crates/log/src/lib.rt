@@ -3,6 +3,7 @@ ghost use mathlib.Core.Path.{_≡_};
 ghost use Prim.Native.Nat.{_+_, _-_, _<_, _≤_};
 ghost use lib.ListN.{length};
 ghost use Rattle.log.specs.Format.{numberAt, lengthOf, rightLength, frameAt, eventOf, pastL, stageAfter, inTurn, fieldAt, isLong};
+ghost use Rattle.log.specs.Rows.{atEnd, endsLong, nextAt};
 
 mod tags;
 
@@ -36,6 +37,19 @@ pub enum Stage {
 pub enum Field {
     Whole(Event, usize),
     Broken(usize),
+}
+
+// How a log ends: where its last field ends, at a broken field's offset, or it is long.
+pub enum End {
+    Whole,
+    Broken(usize),
+    Long,
+}
+
+// What stands at an offset of a log: a whole field, with the offset after it, or the log's end.
+pub enum Next {
+    GoesOn(Event, usize),
+    Ends(End),
 }
 
 // A field whose bytes are all there, with its tag and the length of its value.
@@ -201,8 +215,48 @@ pub fn field_at(log: &[u8], at: usize, stage: Stage) -> Field
 }
 
 // Whether a log of this many bytes is over 32,768, and so is not read.
-pub fn is_long(len: usize) -> bool
+fn is_long(len: usize) -> bool
     ensures { λ r. ⌜ r ≡ isLong len ⌝ }
 {
     LONGEST_LOG < len
+}
+
+// Whether the log ends whole at an offset: its last field ends there, and L has been read.
+fn at_end(log: &[u8], at: usize, stage: Stage) -> bool
+    ensures { λ r. ⌜ r ≡ atEnd (now (log .entry)) at stage ⌝ }
+{
+    if past_l(stage) {
+        return at == log.len();
+    }
+    false
+}
+
+// The field at an offset, or the end of the log. Whether a log ends, and how, is decided here alone.
+pub fn next_at(log: &[u8], at: usize, stage: Stage) -> Next
+    ensures { λ r. ⌜ r ≡ nextAt (now (log .entry)) at stage ⌝ }
+{
+    if is_long(log.len()) {
+        return Next::Ends(End::Long);
+    }
+    if at_end(log, at, stage) {
+        return Next::Ends(End::Whole);
+    }
+    let Field::Whole(event, next) = field_at(log, at, stage) else {
+        return Next::Ends(End::Broken(at));
+    };
+    Next::GoesOn(event, next)
+}
+
+// Whether that is the end of a long log.
+pub fn ends_long(next: Next) -> bool
+    ensures { λ r. ⌜ r ≡ endsLong next ⌝ }
+{
+    match next {
+        Next::GoesOn(_, _) => false,
+        Next::Ends(end) => match end {
+            End::Whole => false,
+            End::Broken(_) => false,
+            End::Long => true,
+        },
+    }
 }

@@ -1,15 +1,15 @@
 -- The code of a piece, and what is written field by field is the listing.
 use mathlib.Core.Path.{_≡_, refl, sym, ap, ap₂, subst, _∙_}
-use mathlib.Core.Bool.{Bool, true, false, cond, not, _&&_, _||_, true≢false}
+use mathlib.Core.Bool.{Bool, true, false, cond, not, _&&_, _||_, true≢false, false≢true}
 use mathlib.Core.Logic.{_⊎_, inl, inr, _≢_}
 use mathlib.Core.List.{List, [], _∷_, _++_, append-assoc, append-nil}
 use Prim.Native.Nat.{ℕ, _+_, _-_, _/_, _^_, _≤_, _<_}
 use native.Mathlib.Omega.{arith}
 use native.Mathlib.Decide.{ℕ-discrete}
-use lib.Dec.{ltb, leb, eqb}
+use lib.Dec.{ltb, leb}
 use lib.ListN.{length, take, length-replicate}
-use borrow.Author.Tests.{ne-eqb, le-ltb, ltb-true}
-use Rattle.base.proofs.Numbers.{false-lt, true-le}
+use borrow.Author.Tests.{le-ltb}
+use Rattle.base.proofs.Numbers.{true-le}
 use Rattle.base.proofs.Tests.{and-left, and-right}
 use Rattle.rules.specs.Board
 use Rattle.rules.specs.Board.{Place, fresh}
@@ -23,14 +23,16 @@ use Rattle.log.specs.declared.Stage.{Stage}
 use Rattle.log.specs.declared.Stage.the-variants.{BeforeL}
 use Rattle.log.specs.declared.Event.{Event}
 use Rattle.log.specs.declared.Event.the-variants.{Largest}
-use Rattle.log.specs.declared.Field.the-variants.{Whole, Broken}
-use Rattle.log.specs.Format.{isL, pastL, stageAfter, inTurn, isLong, fieldAt}
-use Rattle.log.specs.Rows.{atEnd}
-use Rattle.log.proofs.Fields.{whole-is, whole-next, broken-at}
+use Rattle.log.specs.declared.End.{End}
+use Rattle.log.specs.declared.End.the-variants.{Whole as ends-whole, Broken as ends-broken, Long as ends-long}
+use Rattle.log.specs.declared.Next.the-variants.{GoesOn, Ends}
+use Rattle.log.specs.Format.{isL, pastL, stageAfter, inTurn}
+use Rattle.log.specs.Rows.{nextAt, endsLong}
+use Rattle.log.proofs.Fields.{whole-is}
 use Rattle.log.proofs.Stages.{later, no-l-by-place, turn-first, past-after}
-use Rattle.log.proofs.Readings.{before-all}
+use Rattle.log.proofs.Ends.{goes-only, ends-only, long-anywhere}
+use Rattle.log.proofs.Readings.{goes-next}
 use Rattle.lines.specs.Text.{Written, Line}
-use Rattle.lines.specs.Listing.{endLine, brokenLine, longLine}
 use Rattle.lines.proofs.Texts.{none, then, from-front}
 use Rattle.arrays.specs.Lists.{totalOf, zeroed}
 use Rattle.arrays.proofs.Totals.{total-map}
@@ -40,8 +42,8 @@ use Rattle.board.proofs.Tables.{right-tables, none-wrong}
 use Rattle.spoilt.proofs.Before.{sound-known, early-none}
 use Rattle.board.proofs.Fresh.{Starts, starts}
 use Rattle.blocks.specs.Blocks.{freshIn}
-use Rattle.plays.specs.Listing.{Playing, unmade, waiting, listingFrom, listingOf}
-use Rattle.plays.proofs.Listing.{listing-whole, listing-broken, listing-end, listing-long, listing-first}
+use Rattle.plays.specs.Listing.{Playing, unmade, waiting, lastOf, lastLine, listingFrom, listingOf}
+use Rattle.plays.proofs.Listing.{listing-whole, listing-ends, listing-first}
 use Rattle.player.specs.declared.State.{State}
 use Rattle.player.specs.declared.Piece.{Piece}
 use Rattle.fields.specs.Fields.{Memory, memory, reads, KnownMemory, FieldPlayed}
@@ -49,37 +51,37 @@ use Rattle.player.specs.Pieces.{beforeFirst, readTo, restOf, restAfter, 
 use Rattle.player.specs.Pieces.{PiecesListing, PiecesFew}
 
 -- ---- The code, test by test
-module _ (len : ℕ) (s : State) (ids lens : List ℕ) (a : length ids ≡ 2048) (d : length lens ≡ 2048) where
-  tables-right : pieceCode len s ids lens ≡ cond (pastL (s .stage)) (cond (unfit len s ids lens) 2 0) 0
+module _ (log : List ℕ) (s : State) (ids lens : List ℕ) (a : length ids ≡ 2048) (d : length lens ≡ 2048) where
+  tables-right : pieceCode log s ids lens ≡ cond (pastL (s .stage)) (cond (unfit log s ids lens) 2 0) 0
   unfolding pieceCode
-  tables-right = ap (λ (t : Bool). cond t 3 (cond (pastL (s .stage)) (cond (unfit len s ids lens) 2 0) 0)) (none-wrong (length ids) (length lens) a d)
+  tables-right = ap (λ (t : Bool). cond t 3 (cond (pastL (s .stage)) (cond (unfit log s ids lens) 2 0) 0)) (none-wrong (length ids) (length lens) a d)
 
-  pub code-before : pastL (s .stage) ≡ false → 0 ≡ pieceCode len s ids lens
-  code-before e = sym (tables-right ∙ ap (λ (t : Bool). cond t (cond (unfit len s ids lens) 2 0) 0) e)
+  pub code-before : pastL (s .stage) ≡ false → 0 ≡ pieceCode log s ids lens
+  code-before e = sym (tables-right ∙ ap (λ (t : Bool). cond t (cond (unfit log s ids lens) 2 0) 0) e)
 
   module _ (b : pastL (s .stage) ≡ true) where
-    past-code : pieceCode len s ids lens ≡ cond (unfit len s ids lens) 2 0
-    past-code = tables-right ∙ ap (λ (t : Bool). cond t (cond (unfit len s ids lens) 2 0) 0) b
+    past-code : pieceCode log s ids lens ≡ cond (unfit log s ids lens) 2 0
+    past-code = tables-right ∙ ap (λ (t : Bool). cond t (cond (unfit log s ids lens) 2 0) 0) b
 
-    pub code-long : isLong len ≡ true → 2 ≡ pieceCode len s ids lens
+    pub code-long : endsLong (nextAt log (s .at) (s .stage)) ≡ true → 2 ≡ pieceCode log s ids lens
     code-long e = sym (past-code ∙ ap (λ (t : Bool). cond (t || (ltb (s .at) (s .sent .0 / 65536) || not (isSound (s .board) ids lens))) 2 0) e)
 
-    module _ (short : isLong len ≡ false) where
-      short-code : pieceCode len s ids lens ≡ cond (ltb (s .at) (s .sent .0 / 65536) || not (isSound (s .board) ids lens)) 2 0
+    module _ (short : endsLong (nextAt log (s .at) (s .stage)) ≡ false) where
+      short-code : pieceCode log s ids lens ≡ cond (ltb (s .at) (s .sent .0 / 65536) || not (isSound (s .board) ids lens)) 2 0
       short-code = past-code ∙ ap (λ (t : Bool). cond (t || (ltb (s .at) (s .sent .0 / 65536) || not (isSound (s .board) ids lens))) 2 0) short
 
-      pub code-bytes : ltb (s .at) (s .sent .0 / 65536) ≡ true → 2 ≡ pieceCode len s ids lens
+      pub code-bytes : ltb (s .at) (s .sent .0 / 65536) ≡ true → 2 ≡ pieceCode log s ids lens
       code-bytes e = sym (short-code ∙ ap (λ (t : Bool). cond (t || not (isSound (s .board) ids lens)) 2 0) e)
 
       code-board : ltb (s .at) (s .sent .0 / 65536) ≡ false → (t : Bool) → isSound (s .board) ids lens ≡ t
-          → _≡_ {A = ℕ} (cond t 0 2) (pieceCode len s ids lens)
+          → _≡_ {A = ℕ} (cond t 0 2) (pieceCode log s ids lens)
       code-board e t q = sym (short-code ∙ ap₂ (λ (x y : Bool). cond (x || not y) 2 0) e q ∙ flip t)
         where
           flip : (y : Bool) → _≡_ {A = ℕ} (cond (false || not y) 2 0) (cond y 0 2)
           flip true = refl
           flip false = refl
 
-      pub code-early : ltb (s .at) (s .sent .0 / 65536) ≡ false → earlyCode (s .board) ids lens ≡ pieceCode len s ids lens
+      pub code-early : ltb (s .at) (s .sent .0 / 65536) ≡ false → earlyCode (s .board) ids lens ≡ pieceCode log s ids lens
       unfolding earlyCode
       code-early e = ap (λ (t : Bool). cond t 3 (cond (isSound (s .board) ids lens) 0 2)) (none-wrong (length ids) (length lens) a d) ∙ code-board e (isSound (s .board) ids lens) refl
 
@@ -140,9 +142,8 @@ module _ (log whole : List ℕ) (from : ℕ) (out₀ : List ℕ) (s : Memory) (s
   under-fits h count few = omega (arith, under-room h)
 
   -- the sum of bytes is far below its limit while the log goes on
-  pub under-small : (e : Event) (next : ℕ) → fieldAt log at stage ≡ Whole e next → isLong (length log) ≡ false → s .sent < 2 ^ 63
-  unfolding isLong
-  under-small e next f h = omega (arith, u .few, whole-next log at stage e next f, false-lt 32769 (length log) h)
+  pub under-small : (e : Event) (next : ℕ) → nextAt log at stage ≡ GoesOn e next → s .sent < 2 ^ 63
+  under-small e next f = omega (arith, u .few, goes-next log at stage e next f, goes-only log at stage e next f .1)
 
   -- one line more
   module _ (before text line : List ℕ) (count used′ : ℕ) (out′ : List ℕ) (l : Line before text count line) (few : count ≤ 64) (room : used + 64 ≤ length out) (w : Written out used (take count line) used′ out′) where
@@ -159,11 +160,11 @@ module _ (log whole : List ℕ) (from : ℕ) (out₀ : List ℕ) (s : Memory) (s
     text-fits = omega (arith, wrote .ends, wrote-fits)
 
     -- a field is played, and the next one follows
-    pub under-next : (e : Event) (next : ℕ) → fieldAt log at stage ≡ Whole e next → (n : Memory) → FieldPlayed s e n before count line
+    pub under-next : (e : Event) (next : ℕ) → nextAt log at stage ≡ GoesOn e next → (n : Memory) → FieldPlayed s e n before count line
         → length out′ ≡ length out → (stage′ : Stage) → stage′ ≡ stageAfter stage e → UnderWay log whole from out₀ n stage′ next used′ out′
     under-next e next f n p same! stage′ then! = record {
       good = p .good;
-      past = ap pastL then! ∙ past-after e stage (whole-is log at stage e next f .turn);
+      past = ap pastL then! ∙ past-after e stage (whole-is log at stage e next (goes-only log at stage e next f .0) .turn);
       text = u .text ++ take count line;
       written = wrote;
       joined =
@@ -172,7 +173,7 @@ module _ (log whole : List ℕ) (from : ℕ) (out₀ : List ℕ) (s : Memory) (s
           ∙ u .joined;
       fits = wrote-fits;
       same = same! ∙ u .same;
-      few = omega (arith, p .more, u .few, whole-next log at stage e next f);
+      few = omega (arith, p .more, u .few, goes-next log at stage e next f);
       moved = inl (on (u .moved));
     }
       where
@@ -182,8 +183,8 @@ module _ (log whole : List ℕ) (from : ℕ) (out₀ : List ℕ) (s : Memory) (s
             ∙ sym (listing-whole (reads s) log at stage e next f)
 
         on : ((from < at) × (at ≤ length log)) ⊎ ((from ≡ at) × (used ≡ 0)) → (from < next) × (next ≤ length log)
-        on (inl h) = let w = whole-next log at stage e next f in (omega (arith, h .0, w .0), w .1)
-        on (inr h) = let w = whole-next log at stage e next f in (omega (arith, h .0, w .0), w .1)
+        on (inl h) = let w = goes-next log at stage e next f in (omega (arith, h .0, w .0), w .1)
+        on (inr h) = let w = goes-next log at stage e next f in (omega (arith, h .0, w .0), w .1)
 
     -- or it is the last one
     module _ (s₀ : State) (ids lens : List ℕ) (is : restOf log s₀ ids lens ≡ whole) (ids′ lens′ : List ℕ) where
@@ -195,7 +196,7 @@ module _ (log whole : List ℕ) (from : ℕ) (out₀ : List ℕ) (s : Memory) (s
   gone = record { stage = stage; at = at; sent = record { 0 = s .sent }; board = s .board }
 
   -- there is no room for another line
-  pub under-more : (s₀ : State) (ids lens : List ℕ) → restOf log s₀ ids lens ≡ whole → isLong (length log) ≡ false → readTo s₀ ≡ from → length out - used < 64
+  pub under-more : (s₀ : State) (ids lens : List ℕ) → restOf log s₀ ids lens ≡ whole → endsLong (nextAt log at stage) ≡ false → readTo s₀ ≡ from → length out - used < 64
       → PieceDone log s₀ ids lens out₀ (record { code = 0; used = used; over = false; state = gone }) (s .ids) (s .lens) out
   unfolding restAfter
   under-more s₀ ids lens is short from! full = record {
@@ -210,24 +211,16 @@ module _ (log whole : List ℕ) (from : ℕ) (out₀ : List ℕ) (s : Memory) (s
       l : Line out₀ (u .text) used out
       l = from-front out₀ (u .text) out used (omega (arith, u .written .ends, u .fits)) (u .written)
 
-      ready : 0 ≡ pieceCode (length log) gone (s .ids) (s .lens)
+      ready : 0 ≡ pieceCode log gone (s .ids) (s .lens)
       ready =
-          code-board (length log) gone (s .ids) (s .lens) (u .good .ids-all) (u .good .lens-all) (u .past) short (le-ltb _ _ (u .few)) true
+          code-board log gone (s .ids) (s .lens) (u .good .ids-all) (u .good .lens-all) (u .past) short (le-ltb _ _ (u .few)) true
           (sound-known (s .board) (s .ids) (s .lens) (u .good))
 
       go : 64 ≤ length out₀ → ((from < at) × (at ≤ length log)) ⊎ ((from ≡ at) × (used ≡ 0)) → (readTo s₀ < readTo gone) × (readTo gone ≤ length log)
       go h (inl m) = let r = read-is gone (u .past) in (omega (arith, from!, m .0, r), omega (arith, m .1, r))
       go h (inr m) = absurd (omega (arith, m .1, u .same))
 
-not-end : (log : List ℕ) (at : ℕ) (stage : Stage) → at ≢ length log → atEnd log at stage ≡ false
-unfolding atEnd
-not-end log at stage ne = go (pastL stage)
-  where
-    go : (t : Bool) → t && eqb at (length log) ≡ false
-    go true = ne-eqb at (length log) ne
-    go false = refl
-
--- ---- The last line of a log that is read to its end: the board's clock and its lanes are what is read of them
+-- ---- The last line: the board's clock and its lanes are what is read of them
 
 module _ (s : Memory) (k : KnownMemory s) where
   abbrev m : Board.Board
@@ -241,26 +234,19 @@ module _ (s : Memory) (k : KnownMemory s) where
   unfolding encode
   counts-is = ap (λ (c : struct.Board). totalOf (c .counts)) (sym (k .sound .spells)) ∙ total-map (λ (x : Place). length (x .lane)) (m .places)
 
-  module _ (log : List ℕ) (at : ℕ) (stage : Stage) where
-    pub end-listing : (clock count : ℕ) → pastL stage ≡ true → at ≡ length log → clock ≡ s .board .clock → count ≡ totalOf (s .board .counts)
-        → endLine clock (s .sent) count ≡ listingFrom (reads s) log at stage
-    end-listing clock count past e c n =
-        ap₂ (λ (x y : ℕ). endLine x (s .sent) y) (c ∙ clock-is) (n ∙ counts-is)
-        ∙ sym (listing-end (reads s) log stage past)
-        ∙ ap (λ (i : ℕ). listingFrom (reads s) log i stage) (sym e)
-
-    pub broken-listing : (n : ℕ) → at ≢ length log → fieldAt log at stage ≡ Broken n → brokenLine at ≡ listingFrom (reads s) log at stage
-    broken-listing n ne f =
-        ap brokenLine (sym (broken-at log at stage n f)) ∙ sym (listing-broken (reads s) log at stage n (not-end log at stage ne) f)
+  pub end-listing : (log : List ℕ) (at : ℕ) (stage : Stage) (e : End) (clock count : ℕ) → nextAt log at stage ≡ Ends e
+      → clock ≡ s .board .clock → count ≡ totalOf (s .board .counts) → lastOf clock (s .sent) count e ≡ listingFrom (reads s) log at stage
+  end-listing log at stage e clock count h c n =
+      ap₂ (λ (x y : ℕ). lastOf x (s .sent) y e) (c ∙ clock-is) (n ∙ counts-is) ∙ sym (listing-ends (reads s) log at stage e h)
 
 -- ---- The first field
 
 -- a piece that is not refused has both tables whole
-pub code-tables : (len : ℕ) (s : State) (ids lens : List ℕ) → pieceCode len s ids lens ≡ 0 → (length ids ≡ 2048) × (length lens ≡ 2048)
+pub code-tables : (log : List ℕ) (s : State) (ids lens : List ℕ) → pieceCode log s ids lens ≡ 0 → (length ids ≡ 2048) × (length lens ≡ 2048)
 unfolding pieceCode
-code-tables len s ids lens e = go (wrongTables (length ids) (length lens)) refl e
+code-tables log s ids lens e = go (wrongTables (length ids) (length lens)) refl e
   where
-    go : (t : Bool) → wrongTables (length ids) (length lens) ≡ t → _≡_ {A = ℕ} (cond t 3 (cond (pastL (s .stage)) (cond (unfit len s ids lens) 2 0) 0)) 0 → (length ids ≡ 2048) × (length lens ≡ 2048)
+    go : (t : Bool) → wrongTables (length ids) (length lens) ≡ t → _≡_ {A = ℕ} (cond t 3 (cond (pastL (s .stage)) (cond (unfit log s ids lens) 2 0) 0)) 0 → (length ids ≡ 2048) × (length lens ≡ 2048)
     go true q z = absurd (omega arith)
     go false q z = right-tables (length ids) (length lens) q
 
@@ -275,7 +261,7 @@ module _ (log : List ℕ) (s : State) (ids lens out : List ℕ) (unread : pastL 
   left-whole = ap (λ (t : Bool). cond t (listingFrom (reads (memory (s .board) ids lens (s .sent .0))) log (s .at) (s .stage)) (listingOf log)) unread
 
   -- no room for a line
-  pub first-none : pieceCode (length log) s ids lens ≡ 0 → length out < 64 → PieceDone log s ids lens out (record { code = 0; used = 0; over = false; state = s }) ids lens out
+  pub first-none : pieceCode log s ids lens ≡ 0 → length out < 64 → PieceDone log s ids lens out (record { code = 0; used = 0; over = false; state = s }) ids lens out
   unfolding restAfter
   first-none ready h = record { done = refl; fits = omega arith; joined = refl; rest = refl; goesOn = λ e. ready; moves = λ e m. absurd (omega arith) }
 
@@ -285,10 +271,13 @@ module _ (log : List ℕ) (s : State) (ids lens out : List ℕ) (unread : pastL 
   first-last before text line count used ids′ lens′ out′ l few room w e = ended-done log s ids lens out used (take count line) (left-whole ∙ sym e ∙ sym (l .text)) ids′ lens′ out′ (omega (arith, line-count l)) w
 
   -- the board is made
-  module _ (a : length ids ≡ 2048) (d : length lens ≡ 2048) (short : isLong (length log) ≡ false) (l next : ℕ) (f : fieldAt log 0 BeforeL ≡ Whole (Largest l) next)
+  module _ (a : length ids ≡ 2048) (d : length lens ≡ 2048) (l next : ℕ) (f : nextAt log 0 BeforeL ≡ GoesOn (Largest l) next)
       (b : struct.Board) (ids′ lens′ : List ℕ) (m : returned b ids′ lens′ ≡ freshIn ids lens l) where
+    turn : inTurn (Largest l) BeforeL ≡ true
+    turn = whole-is log 0 BeforeL (Largest l) next (goes-only log 0 BeforeL (Largest l) next f .0) .turn
+
     in-range : leb 64 l && leb l 2048 ≡ true
-    in-range = largest-range l (whole-is log 0 BeforeL (Largest l) next f .turn)
+    in-range = largest-range l turn
 
     made-starts : Starts b ids′ lens′ l
     made-starts =
@@ -304,52 +293,57 @@ module _ (log : List ℕ) (s : State) (ids lens out : List ℕ) (unread : pastL 
       after-first = record { stage = stage; at = next; sent = record { 0 = 0 }; board = b }
 
       past : pastL stage ≡ true
-      past = ap pastL on ∙ past-after (Largest l) BeforeL (whole-is log 0 BeforeL (Largest l) next f .turn)
+      past = ap pastL on ∙ past-after (Largest l) BeforeL turn
+
+      not-long : endsLong (nextAt log next stage) ≡ false
+      not-long = long-anywhere log next 0 stage BeforeL ∙ ap endsLong f
 
       pub first-made : PieceDone log s ids lens out (record { code = 0; used = 0; over = false; state = after-first }) ids′ lens′ out
-      unfolding restAfter isLong
+      unfolding restAfter
       first-made = record {
         done = refl;
         fits = omega arith;
         joined =
             left-is after-first past log ids′ lens′
             ∙ ap₂ (λ (b : Board.Board) (t : Stage). listingFrom (record { board = b; sent = 0 }) log next t) (made-starts .reads) on
-            ∙ sym (listing-first log (omega (arith, false-lt 32769 (length log) short)) ∙ listing-whole unmade log 0 BeforeL (Largest l) next f)
+            ∙ sym (listing-first log ∙ listing-whole unmade log 0 BeforeL (Largest l) next f)
             ∙ sym left-whole;
         rest = refl;
         goesOn = λ e.
             let good = made-starts .good in
-            sym (code-early (length log) after-first ids′ lens′ (good .ids-all) (good .lens-all) past short (le-ltb next (0 / 65536) (omega arith)))
+            sym (code-early log after-first ids′ lens′ (good .ids-all) (good .lens-all) past not-long (le-ltb next (0 / 65536) (omega arith)))
             ∙ early-none b ids′ lens′ good;
         moves = λ e h.
-            let w = whole-next log 0 BeforeL (Largest l) next f in
+            let w = goes-next log 0 BeforeL (Largest l) next f in
             let now = read-is after-first past in
             (omega (arith, ap (λ (t : Bool). cond t (s .at) 0) unread, w .0, now), omega (arith, w .1, now));
       }
 
-pub long-listing : (log : List ℕ) → isLong (length log) ≡ true → longLine ≡ listingOf log
-unfolding isLong
-long-listing log h = sym (listing-long log (ltb-true 32768 (length log) h))
+-- before L nothing is shown but how the log ends, and it does not end whole
+pub first-ends : (log : List ℕ) (e : End) → nextAt log 0 BeforeL ≡ Ends e → lastOf 0 0 0 e ≡ listingOf log
+first-ends log e h = same e h ∙ sym (listing-first log ∙ listing-ends unmade log 0 BeforeL e h)
+  where
+    same : (e : End) → nextAt log 0 BeforeL ≡ Ends e → lastOf 0 0 0 e ≡ lastLine unmade e
+    same ends-whole h = absurd (false≢true (ends-only log 0 BeforeL h .0))
+    same (ends-broken n) h = refl
+    same ends-long h = refl
 
-pub first-broken : (log : List ℕ) (n : ℕ) → isLong (length log) ≡ false → fieldAt log 0 BeforeL ≡ Broken n → brokenLine 0 ≡ listingOf log
-unfolding isLong
-first-broken log n h f = ap brokenLine (sym (broken-at log 0 BeforeL n f)) ∙ sym (listing-first log (omega (arith, false-lt 32769 (length log) h)) ∙ listing-broken unmade log 0 BeforeL n (before-all log 0) f)
-
-pub is-largest : (log : List ℕ) (e : Event) (next l : ℕ) → fieldAt log 0 BeforeL ≡ Whole e next → e ≡ Largest l → fieldAt log 0 BeforeL ≡ Whole (Largest l) next
-is-largest log e next l f q = f ∙ ap (λ (x : Event). Whole x next) q
+pub is-largest : (log : List ℕ) (e : Event) (next l : ℕ) → nextAt log 0 BeforeL ≡ GoesOn e next → e ≡ Largest l
+    → nextAt log 0 BeforeL ≡ GoesOn (Largest l) next
+is-largest log e next l f q = f ∙ ap (λ (x : Event). GoesOn x next) q
 
 -- nothing but L is whole before L
-pub not-largest : (log : List ℕ) (e : Event) (next : ℕ) → fieldAt log 0 BeforeL ≡ Whole e next → OneOf later (tagOf the-type e) → ⊥
+pub not-largest : (log : List ℕ) (e : Event) (next : ℕ) → nextAt log 0 BeforeL ≡ GoesOn e next → OneOf later (tagOf the-type e) → ⊥
 not-largest log e next f k =
-    let t = turn-first e (whole-is log 0 BeforeL e next f .turn) in
+    let t = turn-first e (whole-is log 0 BeforeL e next (goes-only log 0 BeforeL e next f .0) .turn) in
     true≢false (sym (ap isL (t .1 .0)) ∙ no-l-by-place e k)
 
 -- ---- The promise of a piece
 
-pub refused-piece : (log : List ℕ) (s : State) (ids lens out : List ℕ) (code : ℕ) → code ≡ pieceCode (length log) s ids lens → code ≢ 0 → PieceOf log s ids lens out (refusedPiece code s) ids lens out
+pub refused-piece : (log : List ℕ) (s : State) (ids lens out : List ℕ) (code : ℕ) → code ≡ pieceCode log s ids lens → code ≢ 0 → PieceOf log s ids lens out (refusedPiece code s) ids lens out
 refused-piece log s ids lens out code e ne = record { code = e; refused = λ q. (refl, (refl, (refl, refl))); done = λ z. absurd (ne z) }
 
-pub done-piece : (log : List ℕ) (s : State) (ids lens out : List ℕ) (r : Piece) (ids′ lens′ out′ : List ℕ) → pieceCode (length log) s ids lens ≡ 0 → PieceDone log s ids lens out r ids′ lens′ out′ → PieceOf log s ids lens out r ids′ lens′ out′
+pub done-piece : (log : List ℕ) (s : State) (ids lens out : List ℕ) (r : Piece) (ids′ lens′ out′ : List ℕ) → pieceCode log s ids lens ≡ 0 → PieceDone log s ids lens out r ids′ lens′ out′ → PieceOf log s ids lens out r ids′ lens′ out′
 done-piece log s ids lens out r ids′ lens′ out′ z d = record { code = d .done ∙ sym z; refused = λ ne. absurd (ne (d .done)); done = λ q. d }
 
 -- ---- What a program goes by from piece to piece
@@ -362,8 +356,8 @@ module _ (log : List ℕ) (s : State) (ids lens out : List ℕ) (r : Piece) (ids
       go (yes z) = p .done z .fits
       go (no n) = omega (arith, ap (λ (x : Piece). x .used) (p .refused n .0))
 
-  module _ (z : pieceCode (length log) s ids lens ≡ 0) (e : r .over ≡ false) where
-    pub piece-next : pieceCode (length log) (r .state) ids′ lens′ ≡ 0
+  module _ (z : pieceCode log s ids lens ≡ 0) (e : r .over ≡ false) where
+    pub piece-next : pieceCode log (r .state) ids′ lens′ ≡ 0
     piece-next = p .done (p .code ∙ z) .goesOn e
 
     pub piece-moves : 64 ≤ length out → (readTo s < readTo (r .state)) × (readTo (r .state) ≤ length log)
@@ -371,15 +365,15 @@ module _ (log : List ℕ) (s : State) (ids lens out : List ℕ) (r : Piece) (ids
 
 -- ---- THE PIECES JOINED ARE THE LISTING, for every log
 
-pieces-left : (log : List ℕ) (s : State) (ids lens written : List ℕ) → Pieces log s ids lens written → pieceCode (length log) s ids lens ≡ 0 → written ≡ restOf log s ids lens
+pieces-left : (log : List ℕ) (s : State) (ids lens written : List ℕ) → Pieces log s ids lens written → pieceCode log s ids lens ≡ 0 → written ≡ restOf log s ids lens
 unfolding restAfter
 pieces-left log s ids lens written (last out r ids′ lens′ out′ p e) z = sym (append-nil (take (r .used) out′)) ∙ sym (ap (λ (t : Bool). take (r .used) out′ ++ cond t [] (restOf log (r .state) ids′ lens′)) e) ∙ p .done (p .code ∙ z) .joined
 pieces-left log s ids lens written (more {written = w} out r ids′ lens′ out′ p e rest) z =
     let d = p .done (p .code ∙ z) in
     ap (λ (t : List ℕ). take (r .used) out′ ++ t) (pieces-left log (r .state) ids′ lens′ w rest (d .goesOn e)) ∙ sym (ap (λ (t : Bool). take (r .used) out′ ++ cond t [] (restOf log (r .state) ids′ lens′)) e) ∙ d .joined
 
-pub before-first-ready : (log ids lens : List ℕ) → length ids ≡ 2048 → length lens ≡ 2048 → pieceCode (length log) beforeFirst ids lens ≡ 0
-before-first-ready log ids lens a d = sym (code-before (length log) beforeFirst ids lens a d refl)
+pub before-first-ready : (log ids lens : List ℕ) → length ids ≡ 2048 → length lens ≡ 2048 → pieceCode log beforeFirst ids lens ≡ 0
+before-first-ready log ids lens a d = sym (code-before log beforeFirst ids lens a d refl)
 
 before-first-left : (log ids lens : List ℕ) → restOf log beforeFirst ids lens ≡ listingOf log
 unfolding restOf
@@ -389,7 +383,7 @@ pub pieces-listing : PiecesListing
 pieces-listing log ids lens written a d p = pieces-left log beforeFirst ids lens written p (before-first-ready log ids lens a d) ∙ before-first-left log ids lens
 
 -- and they come to an end: with room for a line in each there are no more of them than the log has bytes, and one
-pieces-within : (log : List ℕ) (s : State) (ids lens written : List ℕ) (p : Pieces log s ids lens written) → Roomy p → pieceCode (length log) s ids lens ≡ 0 → readTo s ≤ length log → readTo s + howMany p ≤ length log + 1
+pieces-within : (log : List ℕ) (s : State) (ids lens written : List ℕ) (p : Pieces log s ids lens written) → Roomy p → pieceCode log s ids lens ≡ 0 → readTo s ≤ length log → readTo s + howMany p ≤ length log + 1
 unfolding howMany Roomy
 pieces-within log s ids lens written (last out r ids′ lens′ out′ p e) m z h = omega arith
 pieces-within log s ids lens written (more {written = w} out r ids′ lens′ out′ p e rest) m z h =

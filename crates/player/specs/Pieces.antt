@@ -10,7 +10,8 @@ use Rattle.rules.specs.Board.{fresh}
 use Rattle.rules.specs.Calls.{wrongTables}
 use Rattle.board.specs.Reading.{encode, isSound}
 use Rattle.log.specs.declared.Stage.the-variants.{BeforeL}
-use Rattle.log.specs.Format.{pastL, isLong}
+use Rattle.log.specs.Format.{pastL}
+use Rattle.log.specs.Rows.{nextAt, endsLong}
 use Rattle.plays.specs.Listing.{listingFrom, listingOf}
 use Rattle.fields.specs.Fields.{memory, reads, KnownMemory}
 use Rattle.player.specs.declared.State.{State}
@@ -36,17 +37,19 @@ restAfter log r ids lens = cond (r .over) [] (restOf log (r .state) ids lens)
 
 -- A table of another length is 3. After L, a long log, bytes sent of which there are too many for the offset, or a spoilt
 -- board is 2: no piece leaves such a state.
-abbrev pub unfit : ℕ → State → List ℕ → List ℕ → Bool
-unfit len s ids lens = isLong len || (ltb (s .at) (s .sent .0 / 65536) || not (isSound (s .board) ids lens))
+abbrev pub unfit : List ℕ → State → List ℕ → List ℕ → Bool
+unfit log s ids lens =
+    endsLong (nextAt log (s .at) (s .stage))
+    || (ltb (s .at) (s .sent .0 / 65536) || not (isSound (s .board) ids lens))
 
-unfoldable pub pieceCode : ℕ → State → List ℕ → List ℕ → ℕ
-pieceCode len s ids lens =
-    cond (wrongTables (length ids) (length lens)) 3 (cond (pastL (s .stage)) (cond (unfit len s ids lens) 2 0) 0)
+unfoldable pub pieceCode : List ℕ → State → List ℕ → List ℕ → ℕ
+pieceCode log s ids lens =
+    cond (wrongTables (length ids) (length lens)) 3 (cond (pastL (s .stage)) (cond (unfit log s ids lens) 2 0) 0)
 
 -- what is known of a state from which a piece goes on after L
-pub record CanGoOn (len : ℕ) (s : State) (ids lens : List ℕ) : Type 0 where
+pub record CanGoOn (log : List ℕ) (s : State) (ids lens : List ℕ) : Type 0 where
   pub past : pastL (s .stage) ≡ true
-  pub short : isLong len ≡ false
+  pub short : endsLong (nextAt log (s .at) (s .stage)) ≡ false
   pub few : s .sent .0 / 65536 ≤ s .at
   pub good : KnownMemory (memory (s .board) ids lens (s .sent .0))
 
@@ -65,12 +68,12 @@ pub record PieceDone (log : List ℕ) (s : State) (ids lens out : List ℕ) (r :
   pub joined : take (r .used) out′ ++ restAfter log r ids′ lens′ ≡ restOf log s ids lens
   pub rest : drop (r .used) out′ ≡ drop (r .used) out
   -- the next piece is not refused, and with room for a line every piece reads on within the log
-  pub goesOn : r .over ≡ false → pieceCode (length log) (r .state) ids′ lens′ ≡ 0
+  pub goesOn : r .over ≡ false → pieceCode log (r .state) ids′ lens′ ≡ 0
   pub moves : r .over ≡ false → 64 ≤ length out → (readTo s < readTo (r .state)) × (readTo (r .state) ≤ length log)
 
 -- THE PROMISE of a piece, for every log, state, table and buffer
 pub record PieceOf (log : List ℕ) (s : State) (ids lens out : List ℕ) (r : Piece) (ids′ lens′ out′ : List ℕ) : Type 0 where
-  pub code : r .code ≡ pieceCode (length log) s ids lens
+  pub code : r .code ≡ pieceCode log s ids lens
   pub refused : r .code ≢ 0 → (r ≡ refusedPiece (r .code) s) × ((ids′ ≡ ids) × ((lens′ ≡ lens) × (out′ ≡ out)))
   pub done : r .code ≡ 0 → PieceDone log s ids lens out r ids′ lens′ out′
 

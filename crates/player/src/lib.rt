@@ -10,7 +10,7 @@ ghost use Rattle.player.specs.Pieces.{beforeFirst, pieceCode, CanGoOn, e
 use board::Board;
 use lines::LINE_ROOM;
 use log::Event;
-use log::Field;
+use log::Next;
 use log::Stage;
 use numbers::PLACES;
 use numbers::TABLE_ENTRIES;
@@ -77,10 +77,10 @@ fn append(out: &mut [u8], used: usize, line: &[u8; LINE_ROOM], count: usize) -> 
 
 // Whether a piece may go on from a state: TABLE_LENGTH for the tables, SPOILT for a log, a sum or a board with which no
 // piece leaves one.
-fn unready(len: usize, ids: &[u32], lens: &[u16], s: State) -> u8
+fn unready(log: &[u8], ids: &[u32], lens: &[u16], s: State) -> u8
     ensures { λ r. ⌜
-        (r ≡ pieceCode len s (now (ids .entry)) (now (lens .entry)))
-        × (r ≡ 0 → pastL (s .stage) ≡ true → CanGoOn len s (now (ids .entry)) (now (lens .entry))) ⌝ }
+        (r ≡ pieceCode (now (log .entry)) s (now (ids .entry)) (now (lens .entry)))
+        × (r ≡ 0 → pastL (s .stage) ≡ true → CanGoOn (now (log .entry)) s (now (ids .entry)) (now (lens .entry))) ⌝ }
 {
     if ids.len() != TABLE_ENTRIES {
         return codes::TABLE_LENGTH;
@@ -92,7 +92,7 @@ fn unready(len: usize, ids: &[u32], lens: &[u16], s: State) -> u8
     if !log::past_l(stage) {
         return codes::DONE;
     }
-    if log::is_long(len) {
+    if log::ends_long(log::next_at(log, s.at, stage)) {
         return codes::SPOILT;
     }
     let sent = s.sent;
@@ -116,7 +116,7 @@ fn last_piece(used: usize, s: State) -> Piece
 
 // The fields after L in turn, as long as there is room for a line, and then the last line.
 fn next_piece(log: &[u8], ids: &mut [u32], lens: &mut [u16], out: &mut [u8], s: State) -> Piece
-    requires { ⌜ CanGoOn (length (now log)) s (now ids) (now lens) ⌝ }
+    requires { ⌜ CanGoOn (now log) s (now ids) (now lens) ⌝ }
     ensures { λ r. ⌜ PieceDone (now (log .entry)) s (now (ids .entry)) (now (lens .entry)) (now (out .entry)) r (now (ids .exit)) (now (lens .exit)) (now (out .exit)) ⌝ }
 {
     let b = s.board;
@@ -172,56 +172,56 @@ fn next_piece(log: &[u8], ids: &mut [u32], lens: &mut [u16], out: &mut [u8], s: 
                 },
             };
         }
-        if at == log.len() {
-            let last = lines::put_end(&mut line, clock, sent.0, waiting(&counts));
-            let end = append(out, used, &line, last);
-            return last_piece(end, s);
+        let here = log::next_at(log, at, stage);
+        match here {
+            Next::Ends(end) => {
+                let count = fields::show_end(end, clock, sent, waiting(&counts), &mut line);
+                let last = append(out, used, &line, count);
+                return last_piece(last, s);
+            }
+            Next::GoesOn(event, on) => {
+                let moved = fields::play_field(
+                    event,
+                    sent,
+                    b.largest,
+                    clock,
+                    active,
+                    pending,
+                    slot,
+                    left,
+                    &mut numbers,
+                    &mut shares,
+                    &mut starts,
+                    &mut counts,
+                    &mut deficits,
+                    &mut ready,
+                    &mut next,
+                    &mut heads,
+                    &mut tails,
+                    &mut held,
+                    ids,
+                    lens,
+                    &mut line,
+                );
+                used = append(out, used, &line, moved.shown);
+                stage = log::stage_after(stage, event);
+                at = on;
+                let total = moved.sent;
+                sent = total;
+                clock = moved.clock;
+                active = moved.active;
+                pending = moved.pending;
+                slot = moved.slot;
+                let rest = moved.left;
+                left = rest;
+            }
         }
-        let Field::Whole(event, on) = log::field_at(log, at, stage) else {
-            let count = lines::put_broken(&mut line, at as u64);
-            let end = append(out, used, &line, count);
-            return last_piece(end, s);
-        };
-        let moved = fields::play_field(
-            event,
-            sent,
-            b.largest,
-            clock,
-            active,
-            pending,
-            slot,
-            left,
-            &mut numbers,
-            &mut shares,
-            &mut starts,
-            &mut counts,
-            &mut deficits,
-            &mut ready,
-            &mut next,
-            &mut heads,
-            &mut tails,
-            &mut held,
-            ids,
-            lens,
-            &mut line,
-        );
-        used = append(out, used, &line, moved.shown);
-        stage = log::stage_after(stage, event);
-        at = on;
-        let total = moved.sent;
-        sent = total;
-        clock = moved.clock;
-        active = moved.active;
-        pending = moved.pending;
-        slot = moved.slot;
-        let rest = moved.left;
-        left = rest;
     }
 }
 
 // The first field: the board is made, or the listing is one line.
 fn first_piece(log: &[u8], ids: &mut [u32], lens: &mut [u16], out: &mut [u8], s: State) -> Piece
-    requires { ⌜ (pastL (s .stage) ≡ false) × (pieceCode (length (now log)) s (now ids) (now lens) ≡ 0) ⌝ }
+    requires { ⌜ (pastL (s .stage) ≡ false) × (pieceCode (now log) s (now ids) (now lens) ≡ 0) ⌝ }
     ensures { λ r. ⌜ PieceDone (now (log .entry)) s (now (ids .entry)) (now (lens .entry)) (now (out .entry)) r (now (ids .exit)) (now (lens .exit)) (now (out .exit)) ⌝ }
 {
     if out.len() < LINE_ROOM {
@@ -233,32 +233,32 @@ fn first_piece(log: &[u8], ids: &mut [u32], lens: &mut [u16], out: &mut [u8], s:
         };
     }
     let mut line = [0u8; LINE_ROOM];
-    if log::is_long(log.len()) {
-        let count = lines::put_long(&mut line);
-        let end = append(out, 0, &line, count);
-        return last_piece(end, s);
-    }
-    let Field::Whole(event, on) = log::field_at(log, 0, Stage::BeforeL) else {
-        let count = lines::put_broken(&mut line, 0);
-        let end = append(out, 0, &line, count);
-        return last_piece(end, s);
-    };
-    // No other field is whole before L, so this is never taken.
-    let Event::Largest(largest) = event else {
-        return last_piece(0, s);
-    };
-    let stage = log::stage_after(Stage::BeforeL, event);
-    let board = blocks::make_in(ids, lens, largest);
-    Piece {
-        code: codes::DONE,
-        used: 0,
-        over: false,
-        state: State {
-            stage: stage,
-            at: on,
-            sent: Bytes(0),
-            board: board,
-        },
+    let here = log::next_at(log, 0, Stage::BeforeL);
+    match here {
+        Next::Ends(end) => {
+            let count = fields::show_end(end, 0, Bytes(0), 0, &mut line);
+            let last = append(out, 0, &line, count);
+            last_piece(last, s)
+        }
+        Next::GoesOn(event, on) => {
+            // No other field is whole before L, so this is never taken.
+            let Event::Largest(largest) = event else {
+                return last_piece(0, s);
+            };
+            let stage = log::stage_after(Stage::BeforeL, event);
+            let board = blocks::make_in(ids, lens, largest);
+            Piece {
+                code: codes::DONE,
+                used: 0,
+                over: false,
+                state: State {
+                    stage: stage,
+                    at: on,
+                    sent: Bytes(0),
+                    board: board,
+                },
+            }
+        }
     }
 }
 
@@ -266,7 +266,7 @@ fn first_piece(log: &[u8], ids: &mut [u32], lens: &mut [u16], out: &mut [u8], s:
 pub fn list_piece(log: &[u8], ids: &mut [u32], lens: &mut [u16], out: &mut [u8], s: State) -> Piece
     ensures { λ r. ⌜ PieceOf (now (log .entry)) s (now (ids .entry)) (now (lens .entry)) (now (out .entry)) r (now (ids .exit)) (now (lens .exit)) (now (out .exit)) ⌝ }
 {
-    let refusal = unready(log.len(), &ids[..], &lens[..], s);
+    let refusal = unready(log, &ids[..], &lens[..], s);
     if refusal != codes::DONE {
         return Piece {
             code: refusal,

@@ -1,15 +1,12 @@
 -- Laws of the listing, by which a player goes: one field and the listing of what follows it.
-use mathlib.Core.Path.{ap}
+use mathlib.Core.Path.{refl, ap}
 use mathlib.Core.List.{List}
 use Prim.Native.Nat.{ℕ}
-use native.Mathlib.Omega.{arith}
-use lib.ListN.{length}
-use Rattle.base.proofs.Numbers.{leb-no}
-use Rattle.log.specs.Format.{isLong}
+use Rattle.log.specs.declared.End.the-variants.{Whole as whole, Broken as broken}
 use Rattle.log.specs.Rows.{Reading, readLog}
-use Rattle.log.proofs.Readings.{read-end, read-whole, read-broken, long-log}
+use Rattle.log.proofs.Readings.{read-whole, read-ends, long-log}
 use Rattle.plays.specs.Listing.{Playing, unmade, linesOf, listingOf}
-use Rattle.plays.specs.Laws.{ListingWhole, ListingBroken, ListingEnd, ListingLong, ListingFirst}
+use Rattle.plays.specs.Laws.{ListingWhole, ListingEnds, ListingEnd, ListingBroken, ListingFirst, ListingLong}
 
 -- the listing of a reading
 abbrev listed : Playing → Reading → List ℕ
@@ -20,22 +17,23 @@ pub listing-whole : ListingWhole
 unfolding linesOf
 listing-whole p log at stage e next h = ap (listed p) (read-whole log at stage e next h)
 
--- any other field ends it
-pub listing-broken : ListingBroken
+-- the log's end gives the last line
+pub listing-ends : ListingEnds
 unfolding linesOf
-listing-broken p log at stage n t h = ap (listed p) (read-broken log at stage n t h)
+listing-ends p log at stage e h = ap (listed p) (read-ends log at stage e h)
 
--- and so does the log's end
 pub listing-end : ListingEnd
-unfolding linesOf
-listing-end p log stage h = ap (listed p) (read-end log stage h)
+listing-end p log at stage h = listing-ends p log at stage whole h
 
--- a log over 32,768 bytes gives the one line
+pub listing-broken : ListingBroken
+listing-broken p log at stage n h = listing-ends p log at stage (broken n) h
+
+-- a log is read from its first byte
+pub listing-first : ListingFirst
+unfolding listingOf readLog
+listing-first log = refl
+
+-- and one over 32,768 bytes gives the one line
 pub listing-long : ListingLong
 unfolding listingOf linesOf
 listing-long log h = ap (listed unmade) (long-log log h)
-
--- and any other is read from its first byte
-pub listing-first : ListingFirst
-unfolding listingOf readLog isLong
-listing-first log h = ap (listed unmade) (rw (leb-no 32769 (length log) (omega arith)))

@@ -10,7 +10,9 @@ use Rattle.rules.specs.Runs.{answer, bytesOf}
 use Rattle.log.specs.declared.Stage.{Stage}
 use Rattle.log.specs.declared.Event.{Event}
 use Rattle.log.specs.declared.Event.the-variants.{Largest, Open, Close, Rename, Arrive, Serve, Passed}
-use Rattle.log.specs.Rows.{End, whole, broken, long, WholeField, readFrom, readLog}
+use Rattle.log.specs.declared.End.{End}
+use Rattle.log.specs.declared.End.the-variants.{Whole as whole, Broken as broken, Long as long}
+use Rattle.log.specs.Rows.{WholeField, readFrom, readLog}
 use Rattle.lines.specs.Listing.{openLine, closeLine, nameLine, inLine, outLine, refusedLine, endLine, brokenLine, longLine}
 
 -- What stands between two fields: the board, and the bytes sent so far.
@@ -57,10 +59,14 @@ fieldLine p Passed = []
 abbrev pub waiting : Board → ℕ
 waiting b = sum (λ (x : Place). length (x .lane)) (b .places)
 
+-- the last line, with the numbers that `end` shows
+abbrev pub lastOf : ℕ → ℕ → ℕ → End → List ℕ
+lastOf clock sent waits whole = endLine clock sent waits
+lastOf clock sent waits (broken offset) = brokenLine offset
+lastOf clock sent waits long = longLine
+
 abbrev pub lastLine : Playing → End → List ℕ
-lastLine p whole = endLine (p .board .clock) (p .sent) (waiting (p .board))
-lastLine p (broken offset) = brokenLine offset
-lastLine p long = longLine
+lastLine p e = lastOf (p .board .clock) (p .sent) (waiting (p .board)) e
 
 -- The fields in turn, and then the last line.
 unfoldable pub linesOf : Playing → List WholeField → End → List ℕ

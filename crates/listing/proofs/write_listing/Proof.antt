@@ -12,7 +12,7 @@ use Rattle.listing.proofs.write_listing.Statement.{statement}
 use Rattle.listing.proofs.write_listing.Tie as tie
 
 abbrev Inv-loop : tie.InvT-loop
-Inv-loop log ids₀ lens₀ out₀ state₀ ids lens out state = (length ids ≡ 2048) × ((length lens ≡ 2048) × ((length out ≡ 4096) × ((pieceCode (length log) state ids lens ≡ 0) × (readTo state ≤ length log))))
+Inv-loop log ids₀ lens₀ out₀ state₀ ids lens out state = (length ids ≡ 2048) × ((length lens ≡ 2048) × ((length out ≡ 4096) × ((pieceCode log state ids lens ≡ 0) × (readTo state ≤ length log))))
 
 abbrev μ-loop : tie.MeasureT-loop
 μ-loop log ids₀ lens₀ out₀ state₀ ids lens out state = length log - readTo state

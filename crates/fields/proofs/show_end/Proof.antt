@@ -1,0 +1,45 @@
+-- `fields::show_end` meets its contract. One line for each end of a log. Assumes nothing.
+use borrow.Author.Needs.{needs}
+use Rattle.fields.proofs.show_end.Statement.{statement}
+use Rattle.fields.proofs.show_end.Tie as tie
+
+enum-told : tie.Need-enum-told
+enum-told c = search needs
+
+put-end-requires : tie.Need-put-end-requires
+put-end-requires c κs = search needs
+
+enum-known-end : tie.Need-enum-known-end
+enum-known-end c = search needs
+
+put-broken-requires : tie.Need-put-broken-requires
+put-broken-requires c κs = search needs
+
+enum-told-2 : tie.Need-enum-told-2
+enum-told-2 c = search needs
+
+put-long-requires : tie.Need-put-long-requires
+put-long-requires c κs = search needs
+
+returns : tie.Need-returns
+returns c = rw (c .before .before .enum-told .given .1) (c .put-end .ensures)
+
+returns-2 : tie.Need-returns-2
+returns-2 c = rw (c .before .before .before .end .given .1) (c .put-broken .ensures)
+
+returns-3 : tie.Need-returns-3
+returns-3 c = rw (c .before .before .enum-told2 .given .1) (c .put-long .ensures)
+
+pub show-end-spec : {M : Type 1} → statement M
+show-end-spec =
+    tie.close
+    (tie.spec
+    enum-told
+    put-end-requires
+    enum-known-end
+    put-broken-requires
+    enum-told-2
+    put-long-requires
+    returns
+    returns-2
+    returns-3)
