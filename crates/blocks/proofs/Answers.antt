@@ -1,14 +1,13 @@
 -- RENAME, OPEN AND CLOSE: codes and steps of the code are the rules' turns, with the tables; on a value that is known to
 -- be good what the code asks holds, and what it leaves is the promise.
 use mathlib.Core.Path.{_≡_, refl, sym, ap, ap₂, subst, _∙_}
-use mathlib.Core.Bool.{false, _||_, true≢false}
+use mathlib.Core.Bool.{false, not, _||_}
 use mathlib.Core.Logic.{_⊎_, inl, inr}
 use mathlib.Core.List.{List}
 use Prim.Native.Nat.{ℕ, suc, _+_, _-_, _≤_, _<_}
 use native.Mathlib.Omega.{arith}
 use lib.Dec.{eqb, leb, ltb}
 use lib.ListN.{length, getD, set}
-use borrow.Author.Tests.{eq-eqb}
 use Rattle.base.proofs.Numbers.{split, leb-yes, leb-no, false-lt}
 use Rattle.base.specs.Sums.{below}
 use Rattle.arrays.specs.Lists.{totalOf}
@@ -16,10 +15,10 @@ use Rattle.arrays.proofs.Totals.{total-map, total-below}
 use Rattle.rules.specs.Board
 use Rattle.rules.specs.Board.{Place, freePlace, at, waits, out, spent}
 use Rattle.rules.specs.Spoilt.{isQueued}
-use Rattle.rules.specs.Choice.{Turn, whereIs, numberOutside, noneHas, someHas, goOn}
+use Rattle.rules.specs.Choice.{Turn, whereIs, numberOutside, goOn}
 use Rattle.rules.specs.Blocks.{meant, opened, freeAt, shareOutside, allTaken, overFree, openBlock, renameBlock, closed, closeBlock}
 use Rattle.rules.specs.Calls.{open!, rename!, close!, step, one, done! }
-use Rattle.rules.proofs.Cases.{or-right, in-range, some-in, free-found, CanClose, can-close}
+use Rattle.rules.proofs.Cases.{or-right, in-range, free-found, CanClose, can-close}
 use Rattle.rules.proofs.Calls.{in-places, empty-out}
 use Rattle.operands.specs.declared.Opening.{Opening}
 use Rattle.board.specs.declared.Board as struct
@@ -29,11 +28,11 @@ use Rattle.board.specs.Leaving.{Returned, returned, replied, written, Known, ru
 use Rattle.board.proofs.Lists.{length-tab, getD-tab}
 use Rattle.board.proofs.Reading.{Fit}
 use Rattle.board.proofs.Sound.{fit-view}
-use Rattle.board.proofs.Fields.{share-is, count-at}
+use Rattle.board.proofs.Fields.{share-is, count-is}
 use Rattle.board.proofs.Bounds.{bought, within, held-most}
 use Rattle.board.proofs.Agrees.{turned, agrees, by-spelling}
-use Rattle.finding.proofs.Finding.{not-zeroth, free-is, none-is, free-le, unknown-is, found-is, taken-number}
-use Rattle.blocks.specs.Blocks.{Renaming, renaming, renamedIn, withRenaming, AfterOpening, afterOpening, openedIn, withOpening, heldWith, Closing, closing, closedIn, withClosing, CloseNeeds}
+use Rattle.finding.proofs.Finding.{free-is, none-is, free-le, known-by, unknown-by}
+use Rattle.blocks.specs.Blocks.{Renaming, renaming, renamedAt, renamedIn, withRenaming, AfterOpening, afterOpening, openedIn, withOpening, heldWith, Closing, closing, closedAt, closedIn, withClosing, CloseNeeds}
 use Rattle.blocks.proofs.Blocks.{rename-is, open-is, close-is, quiet-active}
 
 module _ (m : Board.Board) (f : Fit m) where
@@ -69,10 +68,10 @@ module _ (m : Board.Board) (f : Fit m) (ids lens : List ℕ) (old new : ℕ) whe
   unfolding renamedIn step renameBlock
   renamed-is =
       agrees renamedTo by-rename m _ (numberOutside new) 4 _ _ _ refl refl λ e4.
-      agrees renamedTo by-rename m _ (noneHas m old) 6 _ _ _ (unknown-is m f old) refl λ e6.
-      agrees renamedTo by-rename m _ (someHas m new) 5 _ _ _ (taken-number m f new (λ q. true≢false (sym (eq-eqb new 0 q) ∙ e4))) refl λ e5.
-      ap (λ (i : ℕ). renamedTo (renaming 0 (set numbers i new))) (found-is m f old e6)
-      ∙ ap (λ (c : struct.Board). returned (replied 0 c) ids lens) (rename-is m (f .tidy) (whereIs m old) (inside m f (whereIs m old) (some-in m old e6)) new)
+      known-by m (f .tidy) renamedTo by-rename old (renamedAt numbers new) (renaming 6 numbers) _ refl λ h.
+      let next = rename-is m (f .tidy) (whereIs m old) (inside m f (whereIs m old) h) new in
+      unknown-by m (f .tidy) renamedTo by-rename new (λ j. renaming 5 numbers) (renaming 0 (set numbers (whereIs m old) new)) _
+      refl (ap (λ (c : struct.Board). returned (replied 0 c) ids lens) next)
 
 -- ---- OPEN
 module _ (m : Board.Board) (f : Fit m) (ids lens : List ℕ) (o : Opening) where
@@ -107,23 +106,32 @@ module _ (m : Board.Board) (f : Fit m) (ids lens : List ℕ) (o : Opening) where
   unfolding openedIn step openBlock
   opened-is =
       agrees openedTo by-open m _ (numberOutside n || shareOutside s) 4 _ _ _ refl refl λ e4.
-      agrees openedTo by-open m _ (someHas m n) 5 _ _ _ (taken-number m f n (not-zeroth n (shareOutside s) e4)) refl λ e5.
-      agrees openedTo by-open m _ (allTaken m) 7 _ _ _ (ap (λ (i : ℕ). eqb i 64) (free-is m (f .tidy)) ∙ none-is (freeAt m) (free-le m f)) refl λ e7.
-      agrees openedTo by-open m _ (overFree m s) 8 _ _ _ (room-is m f s (in-range s 65536 (or-right (numberOutside n) (shareOutside s) e4) .0)) refl λ e8.
-      ap (λ (i : ℕ). openedTo (openedAt i)) (free-is m (f .tidy)) ∙ ap (λ (c : struct.Board). returned (replied 0 c) ids lens) (opened-at e7)
+      let taken = ap (λ (i : ℕ). eqb i 64) (free-is m (f .tidy)) ∙ none-is (freeAt m) (free-le m) in
+      let pos = in-range s 65536 (or-right (numberOutside n) (shareOutside s) e4) .0 in
+      unknown-by m (f .tidy) openedTo by-open n (λ j. afterOpening 5 (encode m .numbers) (encode m .shares)) _ _ refl
+      (agrees openedTo by-open m _ (allTaken m) 7 _ _ _ taken refl λ e7.
+      agrees openedTo by-open m _ (overFree m s) 8 _ _ _ (room-is m f s pos) refl λ e8.
+      ap (λ (i : ℕ). openedTo (openedAt i)) (free-is m (f .tidy))
+      ∙ ap (λ (c : struct.Board). returned (replied 0 c) ids lens) (opened-at e7))
 
 -- ---- CLOSE
 module _ (m : Board.Board) (f : Fit m) (ids lens : List ℕ) (n : ℕ) where
+  abbrev b : struct.Board
+  b = encode m
+
   abbrev closedTo : Closing → Returned Reply
   closedTo x = returned (replied (x .code) (withClosing (encode m) x)) ids lens
 
-  abbrev closedAt : ℕ → ℕ → Closing
-  closedAt i share = closing 0 (set (encode m .numbers) i 0) (set (encode m .shares) i 0) (set (encode m .starts) i 0) (heldWith (encode m .active) share (encode m .held))
+  abbrev closedNow : ℕ → ℕ → Closing
+  closedNow i share =
+      closing 0 (set (encode m .numbers) i 0) (set (encode m .shares) i 0) (set (encode m .starts) i 0)
+      (heldWith (encode m .active) share (encode m .held))
 
   abbrev by-close : Turn → Returned Reply
   by-close = turned (encode m) ids lens m (close! n)
 
-  closed-at : CanClose m (whereIs m n) n → withClosing (encode m) (closedAt (whereIs m n) (at m (whereIs m n) .share)) ≡ encode (closed m (whereIs m n))
+  closed-at : CanClose m (whereIs m n) n
+      → withClosing (encode m) (closedNow (whereIs m n) (at m (whereIs m n) .share)) ≡ encode (closed m (whereIs m n))
   closed-at can =
       let owed = f .tidy .shape .placeOk p .clear (ap (λ s. isQueued s) was) in
       close-is m (f .tidy) p (in-places m (f .tidy .shape) p (can .has .inside)) was (can .empty) owed (quiet-active m (f .tidy))
@@ -137,11 +145,12 @@ module _ (m : Board.Board) (f : Fit m) (ids lens : List ℕ) (n : ℕ) where
   pub closed-is : closedTo (closedIn (encode m .active) (encode m .numbers) (encode m .shares) (encode m .starts) (encode m .counts) (encode m .held) n) ≡ written (encode m) ids lens (done! m (one (close! n)))
   unfolding closedIn step closeBlock
   closed-is =
-      agrees closedTo by-close m _ (noneHas m n) 6 _ _ _ (unknown-is m f n) refl λ e6.
-      agrees closedTo by-close m _ (waits (at m (whereIs m n))) 10 _ _ _ (ap (ltb 0) (count-at m (whereIs m n) _ (found-is m f n e6))) refl λ e10.
-      ap (λ (i : ℕ). closedTo (closedAt i (getD (encode m .shares) i 0))) (found-is m f n e6)
-      ∙ ap (λ (s : ℕ). closedTo (closedAt (whereIs m n) s)) (share-is m (whereIs m n))
-      ∙ ap (λ (c : struct.Board). returned (replied 0 c) ids lens) (closed-at (can-close m n (e6, (e10, tt))))
+      let closes = closedAt (b .active) (b .numbers) (b .shares) (b .starts) (b .counts) (b .held) in
+      known-by m (f .tidy) closedTo by-close n closes (closing 6 (b .numbers) (b .shares) (b .starts) (b .held)) _ refl λ h.
+      agrees closedTo by-close m _ (waits (at m (whereIs m n))) 10 _ _ _ (ap (ltb 0) (count-is m (whereIs m n))) refl λ e10.
+      let can = can-close m n (ap not (leb-yes (suc (whereIs m n)) 64 h), (e10, tt)) in
+      ap (λ (s : ℕ). closedTo (closedNow (whereIs m n) s)) (share-is m (whereIs m n))
+      ∙ ap (λ (c : struct.Board). returned (replied 0 c) ids lens) (closed-at can)
 
 module _ (m : Board.Board) (f : Fit m) where
   written-close-needs : CloseNeeds (encode m .numbers) (encode m .shares) (encode m .held)

@@ -1,6 +1,6 @@
 -- WORKING DEFINITIONS: making, renaming, opening and closing, with their codes, on the board's lists.
 -- Theorems tie them to the rules; no promise of a call cites one.
-use mathlib.Core.Bool.{Bool, cond, not, _||_}
+use mathlib.Core.Bool.{cond, _||_}
 use mathlib.Core.List.{List}
 use Prim.Native.Nat.{ℕ, _+_, _≤_}
 use lib.Dec.{ltb, eqb}
@@ -13,7 +13,7 @@ use Rattle.operands.specs.declared.Opening.{Opening}
 use Rattle.board.specs.Reading.{encode}
 use Rattle.board.specs.Memory.{withBlocks}
 use Rattle.board.specs.Leaving.{Returned, returned}
-use Rattle.finding.specs.Finding.{foundIn, isUnknown}
+use Rattle.finding.specs.Finding.{foundIn, byFound, lowestFree}
 
 -- ---- MAKING
 
@@ -30,12 +30,15 @@ pub record Renaming : Type 0 where
 abbrev pub renaming : ℕ → List ℕ → Renaming
 renaming code numbers = record { code = code; numbers = numbers }
 
+-- the block at place i
+abbrev pub renamedAt : List ℕ → ℕ → ℕ → Renaming
+renamedAt numbers new i =
+    byFound (foundIn numbers new) (λ j. renaming 5 numbers) (renaming 0 (set numbers i new))
+
 unfoldable pub renamedIn : List ℕ → ℕ → ℕ → Renaming
 renamedIn numbers old new =
     cond (eqb new 0) (renaming 4 numbers)
-    (cond (isUnknown numbers old) (renaming 6 numbers)
-    (cond (not (eqb (foundIn numbers new) 64)) (renaming 5 numbers)
-    (renaming 0 (set numbers (foundIn numbers old) new))))
+    (byFound (foundIn numbers old) (renamedAt numbers new) (renaming 6 numbers))
 
 abbrev pub withRenaming : Board → Renaming → Board
 withRenaming b r = withBlocks b (r .numbers) (b .shares) (b .starts) (b .held)
@@ -54,9 +57,9 @@ unfoldable pub openedIn : List ℕ → List ℕ → List ℕ → Opening → Aft
 openedIn numbers shares held o =
     let n = o .number in
     let s = o .share in
-    let p = foundIn numbers 0 in
+    let p = lowestFree numbers in
     cond (eqb n 0 || (eqb s 0 || ltb 65536 s)) (afterOpening 4 numbers shares)
-    (cond (not (eqb (foundIn numbers n) 64)) (afterOpening 5 numbers shares)
+    (byFound (foundIn numbers n) (λ j. afterOpening 5 numbers shares)
     (cond (eqb p 64) (afterOpening 7 numbers shares)
     (cond (ltb 65536 (totalOf shares + totalOf held + s)) (afterOpening 8 numbers shares)
     (afterOpening 0 (set numbers p n) (set shares p s)))))
@@ -80,12 +83,16 @@ closing code numbers shares starts held = record { code = code; numbers = number
 unfoldable pub heldWith : ℕ → ℕ → List ℕ → List ℕ
 heldWith active share held = let k = classOf share in cond (eqb active 0) held (set held k (getD held k 0 + share))
 
+-- the block at place i
+abbrev pub closedAt : ℕ → List ℕ → List ℕ → List ℕ → List ℕ → List ℕ → ℕ → Closing
+closedAt active numbers shares starts counts held i =
+    cond (ltb 0 (getD counts i 0)) (closing 10 numbers shares starts held)
+    (closing 0 (set numbers i 0) (set shares i 0) (set starts i 0) (heldWith active (getD shares i 0) held))
+
 unfoldable pub closedIn : ℕ → List ℕ → List ℕ → List ℕ → List ℕ → List ℕ → ℕ → Closing
 closedIn active numbers shares starts counts held n =
-    let i = foundIn numbers n in
-    cond (isUnknown numbers n) (closing 6 numbers shares starts held)
-    (cond (ltb 0 (getD counts i 0)) (closing 10 numbers shares starts held)
-    (closing 0 (set numbers i 0) (set shares i 0) (set starts i 0) (heldWith active (getD shares i 0) held)))
+    let at = closedAt active numbers shares starts counts held in
+    byFound (foundIn numbers n) at (closing 6 numbers shares starts held)
 
 abbrev pub withClosing : Board → Closing → Board
 withClosing b c = withBlocks b (c .numbers) (c .shares) (c .starts) (c .held)

@@ -7,6 +7,7 @@ ghost use Rattle.board.specs.Reading.{encode};
 ghost use Rattle.board.specs.Leaving.{returned};
 ghost use Rattle.blocks.specs.Blocks.{freshIn, renaming, renamedIn, afterOpening, openedIn, heldWith, closing, closedIn, CloseNeeds};
 use board::Board;
+use finding::Found;
 use numbers::CLASSES;
 use numbers::GREATEST_SHARE;
 use numbers::NO_BLOCK;
@@ -71,16 +72,12 @@ pub fn rename_in(old: u32, new: u32, numbers: &mut [u32; PLACES]) -> u8
     if new == NO_BLOCK {
         return codes::OUT_OF_RANGE;
     }
-    if old == NO_BLOCK {
+    let Found::OpenAt(i) = finding::find(numbers, old) else {
         return codes::UNKNOWN_BLOCK;
-    }
-    let i = finding::find(numbers, old);
-    if i == NO_PLACE {
-        return codes::UNKNOWN_BLOCK;
-    }
-    if finding::find(numbers, new) != NO_PLACE {
+    };
+    let Found::Unknown = finding::find(numbers, new) else {
         return codes::NUMBER_IS_OPEN;
-    }
+    };
     numbers[i] = new;
     codes::DONE
 }
@@ -99,10 +96,10 @@ pub fn open_in(
     if finding::outside(block, share, GREATEST_SHARE) {
         return codes::OUT_OF_RANGE;
     }
-    if finding::find(numbers, block) != NO_PLACE {
+    let Found::Unknown = finding::find(numbers, block) else {
         return codes::NUMBER_IS_OPEN;
-    }
-    let i = finding::find(numbers, NO_BLOCK);
+    };
+    let i = finding::lowest_free(numbers);
     if i == NO_PLACE {
         return codes::NO_FREE_PLACE;
     }
@@ -140,13 +137,9 @@ pub fn close_in(
     requires { ⌜ CloseNeeds (now numbers) (now shares) (now held) ⌝ }
     ensures { λ r. ⌜ closing r (now (numbers .exit)) (now (shares .exit)) (now (starts .exit)) (now (held .exit)) ≡ closedIn active (now (numbers .entry)) (now (shares .entry)) (now (starts .entry)) (now (counts .entry)) (now (held .entry)) block ⌝ }
 {
-    if block == NO_BLOCK {
+    let Found::OpenAt(i) = finding::find(numbers, block) else {
         return codes::UNKNOWN_BLOCK;
-    }
-    let i = finding::find(numbers, block);
-    if i == NO_PLACE {
-        return codes::UNKNOWN_BLOCK;
-    }
+    };
     if 0 < counts[i] {
         return codes::LANE_NOT_EMPTY;
     }

@@ -1,5 +1,5 @@
 -- What the arrays that are written for a board have at a place.
-use mathlib.Core.Path.{_≡_, ap, _∙_}
+use mathlib.Core.Path.{_≡_}
 use Prim.Native.Nat.{ℕ}
 use lib.ListN.{length, getD, List·getD-map}
 use Rattle.rules.specs.Board
@@ -26,7 +26,3 @@ module _ (m : Board.Board) (i : ℕ) where
   pub deficit-is : getD (encode m .deficits) i 0 ≡ at m i .deficit
   unfolding encode
   deficit-is = List·getD-map (λ (y : Place). y .deficit) (m .places) i freePlace
-
--- the count of a place that was found
-pub count-at : (m : Board.Board) (p i : ℕ) → i ≡ p → getD (encode m .counts) i 0 ≡ length (at m p .lane)
-count-at m p i e = ap (λ (j : ℕ). getD (encode m .counts) j 0) e ∙ count-is m p

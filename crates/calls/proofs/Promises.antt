@@ -49,12 +49,12 @@ module _ (b : struct.Board) (ids lens : List ℕ) (known : Known b ids lens) whe
 
     -- n is the board made again
     pub serve-goes : w .step .code ≡ 0 → (n : struct.Board) → n ≡ withEngine b (engineAfter w)
-        → record { code = 0; block = getD (b .numbers) (w .step .place) 0; number = getD ids (w .step .entry) 0; length = getD lens (w .step .entry) 0; clock = w .step .time; board = n } ≡ goodServe b ids lens
+        → record { code = 0; block = getD (b .numbers) (w .step .place) 0; number = getD ids (w .step .entry) 0; length = getD lens (w .step .entry) 0; clock = w .step .«slot_clock»; board = n } ≡ goodServe b ids lens
     unfolding goodServe
     serve-goes z n n-is = go (by-cases b ids lens known bytes 1 w w-is)
       where
         go : Stops m bytes 1 w ⊎ Goes m ids lens bytes 1 w
-            → _≡_ {A = Served} (record { code = 0; block = getD (b .numbers) (w .step .place) 0; number = getD ids (w .step .entry) 0; length = getD lens (w .step .entry) 0; clock = w .step .time; board = n }) (goodServe b ids lens)
+            → _≡_ {A = Served} (record { code = 0; block = getD (b .numbers) (w .step .place) 0; number = getD ids (w .step .entry) 0; length = getD lens (w .step .entry) 0; clock = w .step .«slot_clock»; board = n }) (goodServe b ids lens)
         go (inl s) = absurd (s .code z)
         go (inr g) = rw (g .out) (λ j. record { code = 0; block = block j; number = g .number-is j; length = g .bytes-is j; clock = g .clock-is j; board = (n-is ∙ after-is b ids lens known w (g .next)) j })
           where

@@ -259,7 +259,7 @@ fn serve_board(ids: &[u32], lens: &[u16], b: Board) -> Served
         block: b.numbers[place],
         number: ids[entry],
         length: lens[entry],
-        clock: s.time,
+        clock: s.slot_clock,
         board: board,
     }
 }

@@ -115,7 +115,7 @@ module _ (s : Memory) (k : KnownMemory s) (before : List ℕ) (count : ℕ) (lin
 
   module _ (w : Within) (w-is : w ≡ within (s .board) (s .lens) 65536 1) where
     abbrev shown : List ℕ
-    shown = shownLine (w .step .code) (getD (s .board .numbers) (w .step .place) 0) (getD (s .ids) (w .step .entry) 0) (getD (s .lens) (w .step .entry) 0) (w .step .time)
+    shown = shownLine (w .step .code) (getD (s .board .numbers) (w .step .place) 0) (getD (s .ids) (w .step .entry) 0) (getD (s .lens) (w .step .entry) 0) (w .step .«slot_clock»)
 
     abbrev next-board : struct.Board
     next-board = withEngine (s .board) (engineAfter w)

@@ -123,7 +123,16 @@ fn play_serve(
         held,
         lens,
     );
-    let shown = show_serve(s.code, s.place, s.entry, s.time, numbers, ids, lens, line);
+    let shown = show_serve(
+        s.code,
+        s.place,
+        s.entry,
+        s.slot_clock,
+        numbers,
+        ids,
+        lens,
+        line,
+    );
     let charge = s.bytes;
     let rest = s.left;
     Moved {

@@ -1,16 +1,31 @@
--- WORKING DEFINITIONS: the place of a number, on the board's list of numbers. Theorems tie them to the rules; no promise
--- of a call cites one.
-use mathlib.Core.Bool.{Bool, _||_}
+-- WORKING DEFINITIONS: what is known of a number, on the board's list of numbers. Theorems tie them to the rules; no
+-- promise of a call cites one.
+use mathlib.Core.Bool.{Bool, true, false, not, _||_}
 use mathlib.Core.List.{List}
 use Prim.Native.Nat.{ℕ}
 use lib.Dec.{eqb}
 use lib.ListN.{getD}
 use Rattle.base.specs.Tests.{least}
+use Rattle.finding.specs.declared.Found.{Found}
+use Rattle.finding.specs.declared.Found.the-variants.{OpenAt, Unknown}
 
--- the first place with this number, or 64; a free place has number 0
-unfoldable pub foundIn : List ℕ → ℕ → ℕ
-foundIn numbers n = least (λ i. eqb (getD numbers i 0) n) 64
+-- the first place with this number, or 64
+unfoldable pub placeWith : List ℕ → ℕ → ℕ
+placeWith numbers n = least (λ i. eqb (getD numbers i 0) n) 64
 
--- no open block has this number, which is 0 at every free place
-abbrev pub isUnknown : List ℕ → ℕ → Bool
-isUnknown numbers n = eqb n 0 || eqb (foundIn numbers n) 64
+-- what is known of a number; a free place has number 0, which is no block's
+abbrev pub foundAt : Bool → ℕ → Found
+foundAt true p = OpenAt p
+foundAt false p = Unknown
+
+unfoldable pub foundIn : List ℕ → ℕ → Found
+foundIn numbers n = foundAt (not (eqb n 0 || eqb (placeWith numbers n) 64)) (placeWith numbers n)
+
+-- by what is known of a number
+abbrev pub byFound : {A : Type 0} → Found → (ℕ → A) → A → A
+byFound (OpenAt p) isOpen isUnknown = isOpen p
+byFound Unknown isOpen isUnknown = isUnknown
+
+-- the lowest free place, or 64
+unfoldable pub lowestFree : List ℕ → ℕ
+lowestFree numbers = placeWith numbers 0

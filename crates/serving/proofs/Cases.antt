@@ -3,6 +3,7 @@ use mathlib.Core.Path.{_≡_}
 use mathlib.Core.Logic.{_≢_}
 use mathlib.Core.List.{List}
 use Prim.Native.Nat.{ℕ, _+_, _-_, _≤_, _<_}
+use lib.Dec.{eqb}
 use lib.ListN.{length, getD, set}
 use borrow.Author.Tests.{eq-eqb, ne-eqb, le-leb, lt-leb, lt-ltb, le-ltb}
 use Rattle.units.specs.Classes.{classOf}
@@ -12,7 +13,7 @@ use Rattle.serving.specs.declared.Step.{Step}
 use Rattle.slots.specs.declared.Choice.the-variants.{Stop, Go}
 use Rattle.board.specs.Memory.{Engine, engineNow, numbersNow}
 use Rattle.slots.specs.Slots.{EmptyEnd, endedEmpty, WaitingEnd, endedWaiting, opened, choiceOf}
-use Rattle.serving.specs.Serving.{sentFrom, enacted, CanEnact, stayed, withinNow, servedWithin}
+use Rattle.serving.specs.Serving.{sentFrom, lostFrom, enacted, CanEnact, stayed, withinNow, Told, withinOf, servedWithin}
 
 -- ---- A send: entry, charge and start are what the code computed
 module _ (shares lens : List ℕ) (p : ℕ) (e : Engine) (entry charge on k : ℕ) (entry-is : entry ≡ laneEntry p (getD (e .starts) p 0) 0) (charge-is : charge ≡ chargeOf (getD lens entry 0)) (on-is : on ≡ laneOn (getD (e .starts) p 0)) (k-is : k ≡ classOf (getD shares p 0)) where
@@ -31,6 +32,18 @@ module _ (shares lens : List ℕ) (p : ℕ) (e : Engine) (entry charge on k : �
         → engineNow (set (e .starts) p on) (set (e .counts) p (getD (e .counts) p 0 - 1)) (x .queues .deficits) (x .queues .ready) (x .queues .next) (x .queues .heads) (x .queues .tails) (x .queues .held) (x .now) ≡ sentFrom shares lens p e
     unfolding sentFrom
     sent-waits h x x-is = rw (ne-eqb (getD (e .counts) p 0 - 1) 0 more, ← entry-is, ← charge-is, ← on-is, ← following-is, ← need-is, lt-leb need (e .now .left .0 - charge) h, ← k-is, ← x-is)
+
+-- what is lost of the slot
+module _ (lens : List ℕ) (p : ℕ) (e : Engine) where
+  pub lost-last : (entry charge : ℕ) → entry ≡ laneEntry p (getD (e .starts) p 0) 0 → charge ≡ chargeOf (getD lens entry 0)
+      → getD (e .counts) p 0 - 1 ≡ 0 → e .now .left .0 - charge ≡ lostFrom lens p e
+  unfolding lostFrom
+  lost-last entry charge entry-is charge-is z =
+      rw (eq-eqb (getD (e .counts) p 0 - 1) 0 z, ← entry-is, ← charge-is)
+
+  pub lost-none : getD (e .counts) p 0 - 1 ≢ 0 → 0 ≡ lostFrom lens p e
+  unfolding lostFrom
+  lost-none more = rw (ne-eqb (getD (e .counts) p 0 - 1) 0 more)
 
 -- ---- A serve within a number of bytes and the room of a list
 module _ (shares lens : List ℕ) (L bytes room : ℕ) (e : Engine) where
@@ -51,11 +64,14 @@ module _ (shares lens : List ℕ) (L bytes room : ℕ) (e : Engine) where
       unfolding servedWithin
       within-long s h s-is = rw (c, ne-eqb room 0 some, ← entry-is, ← charge-is, lt-ltb bytes charge h, s-is)
 
-      pub within-done : charge ≤ bytes → (n : Engine) → n ≡ enacted shares lens L p t e
-          → withinNow (record { code = 0; place = p; entry = entry; bytes = record { 0 = charge }; time = t; clock = n .now .clock; active = n .now .active; pending = n .now .pending; slot = n .now .slot; left = n .now .left })
-          (n .starts) (n .counts) (n .queues .deficits) (n .queues .ready) (n .queues .next) (n .queues .heads) (n .queues .tails) (n .queues .held) ≡ servedWithin shares lens L bytes room e
+      pub within-done : charge ≤ bytes → (n : Engine) (lost : ℕ)
+          → (n ≡ enacted shares lens L p t e) × (lost ≡ lostFrom lens p (opened shares L p t e))
+          → let began = eqb (e .now .slot) 0 in
+          let told : Told = record { place = p; entry = entry; bytes = charge; clock = t; began = began; lost = lost } in
+          withinOf 0 told n ≡ servedWithin shares lens L bytes room e
       unfolding servedWithin
-      within-done h n n-is = rw (c, ne-eqb room 0 some, ← entry-is, ← charge-is, le-ltb bytes charge h, ← n-is)
+      within-done h n lost (n-is, lost-is) =
+          rw (c, ne-eqb room 0 some, ← entry-is, ← charge-is, le-ltb bytes charge h, ← n-is, ← lost-is)
 
 -- where a slot can serve, its place's lane is in the table
 pub can-read : (shares lens : List ℕ) (L p t : ℕ) (e : Engine) → CanEnact shares lens L p t e → (p < 64) × (length lens ≡ 2048)

@@ -23,7 +23,7 @@ use Rattle.lanes.specs.Lanes.{laneDepth, laneFirst, laneEntry, laneOn}
 use Rattle.lanes.proofs.Rings.{ring-moved}
 use Rattle.rules.specs.Board
 use Rattle.rules.specs.Board.{Record, noRecord, Place, freePlace, blockClass, at, entry, charge, front, onward}
-use Rattle.rules.specs.Choice.{isNone, Out, refused, done, taken, Sending, sending, sent, Turn, leftOf, leftAfter, leastReady, upd, started, emptied, short, going, ended, goOn, sendFrom, send, begin, lowest, chosen, serve}
+use Rattle.rules.specs.Choice.{isNone, Out, refused, done, taken, Sending, sending, sent, Turn, leftOf, leftAfter, lostAt, leastReady, upd, started, emptied, short, going, ended, goOn, sendFrom, send, begin, lowest, chosen, serve}
 use Rattle.rules.specs.Spoilt.{count, inClass}
 use Rattle.rules.proofs.Orders.{pl, upd-other, in-head, count-head}
 use Rattle.rules.proofs.Shape.{LeastIs, least-is, Chosen, choose, all-front, release-le, queued-in, Fit as record-fit}
@@ -40,7 +40,7 @@ use Rattle.board.proofs.Moves.{after-first}
 use Rattle.slots.specs.declared.Choice.the-variants.{Stop, Go}
 use Rattle.board.specs.Memory.{Engine, engineOf, withEngine}
 use Rattle.slots.specs.Slots.{choice, choiceOf, chosenClass, slotClock, CanChoose, CanBegin, openedSlot, opened}
-use Rattle.serving.specs.Serving.{sentFrom, CanSend, enacted, CanEnact, CanServe}
+use Rattle.serving.specs.Serving.{sentFrom, lostFrom, CanSend, enacted, CanEnact, CanServe}
 use Rattle.board.proofs.Fields.{number-is, share-is, start-is, count-is, deficit-is}
 use Rattle.slots.proofs.Sets as sets
 use Rattle.slots.proofs.Choosing.{choice-is}
@@ -124,6 +124,11 @@ module _ (m : Board.Board) (fit : Fit m) (p : ℕ) (held! : m .slot ≡ some p) 
 
   rest-is : encode m .left .0 - chargeOf (getD lens (laneEntry p (at m p .start) 0) 0) ≡ leftAfter (at m p)
   rest-is = rw (left-of, bytes-is, charge-is (front (at m p)))
+
+  -- what is lost of its slot
+  lost-send : lostFrom lens p (engineOf (encode m)) ≡ lostAt (at m p)
+  unfolding lostFrom
+  lost-send = rw (start-is m p, count-is m p, rest-is, last-one (length (at m p .lane)) one!)
 
   -- A SEND
   pub send-is : withEngine (encode m) (sentFrom (encode m .shares) lens p (engineOf (encode m))) ≡ encode (sendFrom m p)
@@ -212,6 +217,10 @@ module _ (m m′ : Board.Board) (p t : ℕ) (ids lens : List ℕ) (fit : Fit m�
   unfolding enacted
   enact-is = ap (λ (b : struct.Board). withEngine b (sentFrom (b .shares) lens p (engineOf b))) open-is ∙ send-is m′ fit p held! ids lens holds
 
+  lost-is : lostFrom lens p (opened (encode m .shares) (encode m .largest) p t (engineOf (encode m))) ≡ lostAt (at m′ p)
+  lost-is =
+      ap (λ (b : struct.Board). lostFrom lens p (engineOf b)) open-is ∙ lost-send m′ fit p held! ids lens holds
+
   can-sends : length lens ≡ 2048 → CanSend (encode m .shares) lens p (opened (encode m .shares) (encode m .largest) p t (engineOf (encode m)))
   can-sends h = subst (λ (b : struct.Board). CanSend (b .shares) lens p (engineOf b)) (sym open-is) (can-send m′ fit p held! ids lens holds h)
 
@@ -249,6 +258,11 @@ pub record Serves (m : Board.Board) (ids lens : List ℕ) (s : Sending) (next : 
   pub number : getD ids (laneEntry (s .place) (at m (s .place) .start) 0) 0 ≡ s .front .number
   pub bytes : getD lens (laneEntry (s .place) (at m (s .place) .start) 0) 0 ≡ s .front .bytes
   pub short : s .front .bytes ≤ m .largest
+  pub entry : laneEntry (s .place) (at m (s .place) .start) 0 ≡ s .entry
+  pub began : eqb (encode m .slot) 0 ≡ s .began
+  pub lost :
+      lostFrom lens (s .place) (opened (encode m .shares) (encode m .largest) (s .place) (s .clock) (engineOf (encode m)))
+      ≡ s .lost
 
 pub record Refuses (m : Board.Board) (code : ℕ) (next : Board.Board) : Type 0 where
   pub refusal : code ≢ 0
@@ -368,6 +382,9 @@ module _ (m : Board.Board) (fit : Fit m) (ids lens : List ℕ) (holds : Holds m 
     number = ap (λ (r : Record). r .number) (front-is m fit ids lens holds p (w .lane));
     bytes = ap (λ (r : Record). r .bytes) (front-is m fit ids lens holds p (w .lane));
     short = short-front m fit p (w .lane);
+    entry = front-entry p (at m p);
+    began = ne-eqb (encode m .slot) 0 (λ z. omega (arith, z, open-slot m p (w .slot)));
+    lost = lost-is m m p (m .clock) ids lens fit (w .slot) holds stays;
   }
     where
       stays : withEngine (encode m) (opened (encode m .shares) (encode m .largest) p (m .clock) (engineOf (encode m))) ≡ encode m
@@ -388,6 +405,9 @@ module _ (m : Board.Board) (fit : Fit m) (ids lens : List ℕ) (holds : Holds m 
     number = ap (λ (x : Record). x .number) front-at;
     bytes = ap (λ (x : Record). x .bytes) front-at;
     short = subst (λ (x : Record). x .bytes ≤ m .largest) (sym (front-is m fit ids lens holds p (w .lane)) ∙ front-at) (short-front m fit p (w .lane));
+    entry = ap (λ (s : ℕ). laneEntry p s 0) (sym start-begin) ∙ front-entry p (at (begin m t) p);
+    began = ap (λ (o : Option ℕ). eqb (slotLink o) 0) (w .slot);
+    lost = lost-is m (begin m t) p t ids lens fit-begin slot-begin holds-begin opens;
   }
     where
       next! : Tidy (begin m t)
@@ -413,6 +433,11 @@ module _ (m : Board.Board) (fit : Fit m) (ids lens : List ℕ) (holds : Holds m 
 
       places-are : begin m t .places ≡ set (m .places) p (started (m .largest) (at m p))
       places-are = ap (λ (q : ℕ). set (m .places) q (started (m .largest) (at m q))) (sym e)
+
+      start-begin : at (begin m t) p .start ≡ at m p .start
+      start-begin =
+          ap (λ (l : List Place). pl l p .start) places-are
+          ∙ ap (λ (x : Place). x .start) (getD-set-same (m .places) p y freePlace in-l)
 
       holds-begin : Holds (begin m t) ids lens
       holds-begin = subst (λ (l : List Place). (i : ℕ) → pl l i .lane ≡ laneOf ids lens i (pl l i) (length (pl l i .lane))) (sym places-are) (holds-set (m .places) p y ids lens in-l holds (holds p ∙ lane-by ids lens p (at m p) y (length (at m p .lane)) refl))

@@ -25,8 +25,8 @@ use Rattle.board.proofs.Reading.{Fit}
 use Rattle.slots.specs.declared.Choice.{Choice}
 use Rattle.slots.specs.declared.Choice.the-variants.{Go}
 use Rattle.board.specs.Memory.{Engine, engineOf, withEngine}
-use Rattle.slots.specs.Slots.{choiceOf}
-use Rattle.serving.specs.Serving.{enacted, Within, engineAfter, withinOf, servedBy, servedWithin}
+use Rattle.slots.specs.Slots.{choiceOf, opened}
+use Rattle.serving.specs.Serving.{lostFrom, enacted, Within, engineAfter, Told, untold, withinOf, servedBy, servedWithin}
 use Rattle.board.proofs.Fields.{start-is}
 use Rattle.serving.proofs.Serves.{Serves, ByAnswer, serve-by}
 
@@ -64,7 +64,7 @@ module _ (m : Board.Board) (bytes : ℕ) (s : Sending) (e : serve m .out ≡ sen
 
 pub record Stops (m : Board.Board) (bytes room : ℕ) (w : Within) : Type 0 where
   pub code : w .step .code ≢ 0
-  pub same : w ≡ withinOf (w .step .code) 0 0 0 0 (engineOf (encode m))
+  pub same : w ≡ withinOf (w .step .code) untold (engineOf (encode m))
   pub burst-is : burst m bytes room ≡ stopped m (w .step .code)
   -- the serve is refused, or the list or the bytes stop the burst
   pub why : (serve m .out ≡ refused (w .step .code)) ⊎ ((room ≡ 0) ⊎ ((r : Record) × (bytes < charge r) × (charge r < 65536)))
@@ -76,7 +76,10 @@ pub record Goes (m : Board.Board) (ids lens : List ℕ) (bytes room : ℕ) (w : 
   pub sends : Sending
   pub out : serve m .out ≡ sent sends
   pub place-is : w .step .place ≡ sends .place
-  pub clock-is : w .step .time ≡ sends .clock
+  pub entry-is : w .step .entry ≡ sends .entry
+  pub clock-is : w .step .«slot_clock» ≡ sends .clock
+  pub began-is : w .step .began ≡ sends .began
+  pub lost-is : w .step .lost .0 ≡ sends .lost
   pub next : withEngine (encode m) (engineAfter w) ≡ encode (serve m .next)
   pub holds : Holds (serve m .next) ids lens
   pub some : room ≢ 0
@@ -120,11 +123,19 @@ module _ (m : Board.Board) (fit : Fit m) (ids lens : List ℕ) (holds : Holds m 
       entry : ℕ
       entry = laneEntry p (at m p .start) 0
 
+      lost : ℕ
+      lost = lostFrom lens p (opened (encode m .shares) (encode m .largest) p t (engineOf (encode m)))
+
       E : Engine
       E = enacted (encode m .shares) lens (encode m .largest) p t (engineOf (encode m))
 
+      told : Told
+      told = record { place = p; entry = entry; bytes = c; clock = t; began = eqb (encode m .slot) 0; lost = lost }
+
       result : Bool → Bool → Within
-      result full long = cond full (withinOf 14 0 0 0 0 (engineOf (encode m))) (cond long (withinOf 13 0 0 0 0 (engineOf (encode m))) (withinOf 0 p entry c t E))
+      result full long =
+          cond full (withinOf 14 untold (engineOf (encode m)))
+          (cond long (withinOf 13 untold (engineOf (encode m))) (withinOf 0 told E))
 
       by-bytes : 1 ≤ room → (bytes < c) ⊎ (c ≤ bytes) → Stops m bytes room (result false (ltb bytes c)) ⊎ Goes m ids lens bytes room (result false (ltb bytes c))
       by-bytes some (inl h) = rw (lt-ltb bytes c h) (inl (record { code = λ z. omega arith; same = refl; burst-is = burst-long m bytes s e room (λ z. omega arith) h; why = inr (inr (r, h, small)) }))
@@ -133,7 +144,10 @@ module _ (m : Board.Board) (fit : Fit m) (ids lens : List ℕ) (holds : Holds m 
         sends = s;
         out = e;
         place-is = refl;
+        entry-is = w .entry;
         clock-is = refl;
+        began-is = w .began;
+        lost-is = w .lost;
         next = w .enacts;
         holds = w .holds;
         some = λ z. omega arith;

@@ -1,7 +1,7 @@
 -- WORKING DEFINITIONS: the front record is sent, on the board's lists. Theorems tie them to the rules; no
 -- promise of a call cites one.
 use mathlib.Core.Path.{_≡_}
-use mathlib.Core.Bool.{cond}
+use mathlib.Core.Bool.{Bool, false, cond}
 use mathlib.Core.List.{List}
 use Prim.Native.Nat.{ℕ, zero, suc, _+_, _-_, _*_, _/_, _%_, _^_, _≤_, _<_}
 use lib.Dec.{ltb, leb, eqb}
@@ -36,6 +36,12 @@ sentFrom shares lens place e =
     (cond (leb need rest)
     (record { starts = starts; counts = counts; queues = e .queues; now = numbersNow (e .now .clock) (e .now .active) (e .now .pending) (place + 1) rest })
     (record { starts = starts; counts = counts; queues = waiting .queues; now = waiting .now }))
+
+-- what is left of the slot where the lane empties, which is lost
+unfoldable pub lostFrom : List ℕ → ℕ → Engine → ℕ
+lostFrom lens place e =
+    let rest = e .now .left .0 - chargeOf (getD lens (laneEntry place (getD (e .starts) place 0) 0) 0) in
+    cond (eqb (getD (e .counts) place 0 - 1) 0) rest 0
 
 pub record CanSend (shares lens : List ℕ) (place : ℕ) (e : Engine) : Type 0 where
   pub inside : place < 64
@@ -76,40 +82,65 @@ engineAfter w =
       now = record { clock = w .step .clock; active = w .step .active; pending = w .step .pending; slot = w .step .slot; left = w .step .left };
     }
 
+-- what a serve tells of the record sent: its place, its entry and its charge; the slot's clock, whether the slot began with
+-- it, and the parts lost
+pub record Told : Type 0 where
+  pub place : ℕ
+  pub entry : ℕ
+  pub bytes : ℕ
+  pub clock : ℕ
+  pub began : Bool
+  pub lost : ℕ
+
+abbrev pub untold : Told
+untold = record { place = 0; entry = 0; bytes = 0; clock = 0; began = false; lost = 0 }
+
+abbrev pub stepOf : ℕ → Told → After → Step
+stepOf code t now =
+    record {
+      code = code;
+      place = t .place;
+      entry = t .entry;
+      bytes = record { 0 = t .bytes };
+      «slot_clock» = t .clock;
+      began = t .began;
+      lost = record { 0 = t .lost };
+      clock = now .clock;
+      active = now .active;
+      pending = now .pending;
+      slot = now .slot;
+      left = now .left;
+    }
+
 -- nothing is served
 abbrev pub stayed : ℕ → After → Step
-stayed code now =
-    record { code = code; place = 0; entry = 0; bytes = record { 0 = 0 }; time = 0; clock = now .clock; active = now .active; pending = now .pending; slot = now .slot; left = now .left }
+stayed code now = stepOf code untold now
 
--- a code, the place, the entry and the charge of the record sent, and the slot's clock; the rest is the engine's
-abbrev pub withinOf : ℕ → ℕ → ℕ → ℕ → ℕ → Engine → Within
-withinOf code place entry bytes time e =
+-- a code and what is told; the rest is the engine's
+abbrev pub withinOf : ℕ → Told → Engine → Within
+withinOf code t e = record { step = stepOf code t (e .now); starts = e .starts; counts = e .counts; queues = e .queues }
+
+-- the record that is sent from a place in the slot of that clock
+abbrev pub toldOf : List ℕ → List ℕ → ℕ → ℕ → ℕ → Engine → Told
+toldOf shares lens largest place time e =
+    let entry = laneEntry place (getD (e .starts) place 0) 0 in
     record {
-      step = record {
-        code = code;
-        place = place;
-        entry = entry;
-        bytes = record { 0 = bytes };
-        time = time;
-        clock = e .now .clock;
-        active = e .now .active;
-        pending = e .now .pending;
-        slot = e .now .slot;
-        left = e .now .left;
-      };
-      starts = e .starts;
-      counts = e .counts;
-      queues = e .queues;
+      place = place;
+      entry = entry;
+      bytes = charged (getD lens entry 0);
+      clock = time;
+      began = eqb (e .now .slot) 0;
+      lost = lostFrom lens place (opened shares largest place time e);
     }
 
 -- codes 1 and 11 as chosen; 14 without room; 13 where the record exceeds the bytes
 abbrev pub servedBy : List ℕ → List ℕ → ℕ → ℕ → ℕ → Engine → Choice → Within
-servedBy shares lens largest bytes room e (Stop code) = withinOf code 0 0 0 0 e
+servedBy shares lens largest bytes room e (Stop code) = withinOf code untold e
 servedBy shares lens largest bytes room e (Go place time) =
-    let entry = laneEntry place (getD (e .starts) place 0) 0 in
-    cond (eqb room 0) (withinOf 14 0 0 0 0 e)
-    (cond (ltb bytes (charged (getD lens entry 0))) (withinOf 13 0 0 0 0 e)
-    (withinOf 0 place entry (charged (getD lens entry 0)) time (enacted shares lens largest place time e)))
+    let told = toldOf shares lens largest place time e in
+    cond (eqb room 0) (withinOf 14 untold e)
+    (cond (ltb bytes (told .bytes)) (withinOf 13 untold e)
+    (withinOf 0 told (enacted shares lens largest place time e)))
 
 unfoldable pub servedWithin : List ℕ → List ℕ → ℕ → ℕ → ℕ → Engine → Within
 servedWithin shares lens largest bytes room e = servedBy shares lens largest bytes room e (choiceOf e)

@@ -1,11 +1,12 @@
 // Serving: the slot that serves sends its front record. Arrays are lent one by one, so that no board is copied.
 ghost use mathlib.Core.Path.{_≡_};
 ghost use Prim.Native.Nat.{_+_, _-_, _*_, _<_};
+ghost use lib.Dec.{eqb};
 ghost use lib.ListN.{getD};
 ghost use Rattle.units.specs.Classes.{classOf};
 ghost use Rattle.board.specs.Memory.{queuesNow, engineNow, numbersNow};
-ghost use Rattle.slots.specs.Slots.{beginningNow, CanBegin, openedSlot};
-ghost use Rattle.serving.specs.Serving.{sentFrom, CanSend, enacted, CanEnact, stayed, withinNow, servedWithin, CanServe};
+ghost use Rattle.slots.specs.Slots.{beginningNow, CanBegin, openedSlot, opened};
+ghost use Rattle.serving.specs.Serving.{sentFrom, lostFrom, CanSend, enacted, CanEnact, stayed, withinNow, servedWithin, CanServe};
 use board::After;
 use numbers::CLASSES;
 use numbers::NO_LINK;
@@ -16,13 +17,23 @@ use slots::Choice;
 use units::Bytes;
 use units::Parts;
 
-// The code of one serve; the place and the table entry of the record sent, and the bytes charged for it; the slot's clock; and the numbers after it.
+// What a send leaves besides the arrays: the numbers after it, and what was left of the slot where the lane emptied, which is
+// lost.
+pub struct Sent {
+    pub after: After,
+    pub lost: Parts,
+}
+
+// The code of one serve; what it tells: the place and the table entry of the record sent, and the bytes charged for it; the
+// clock at which its slot began, whether the slot began with it, and the parts lost; and the numbers after it.
 pub struct Step {
     pub code: u8,
     pub place: usize,
     pub entry: usize,
     pub bytes: Bytes,
-    pub time: u64,
+    pub slot_clock: u64,
+    pub began: bool,
+    pub lost: Parts,
     pub clock: u64,
     pub active: u32,
     pub pending: u32,
@@ -47,9 +58,17 @@ fn send(
     tails: &mut [u8; CLASSES],
     held: &mut [u32; CLASSES],
     lens: &[u16],
-) -> After
+) -> Sent
     requires { ⌜ CanSend (now shares) (now lens) place (engineNow (now starts) (now counts) (now deficits) (now ready) (now next) (now heads) (now tails) (now held) (numbersNow clock active pending (place + 1) (left .0))) ⌝ }
-    ensures { λ r. ⌜ engineNow (now (starts .exit)) (now (counts .exit)) (now (deficits .exit)) (now (ready .exit)) (now (next .exit)) (now (heads .exit)) (now (tails .exit)) (now (held .exit)) r ≡ sentFrom (now (shares .entry)) (now (lens .entry)) place (engineNow (now (starts .entry)) (now (counts .entry)) (now (deficits .entry)) (now (ready .entry)) (now (next .entry)) (now (heads .entry)) (now (tails .entry)) (now (held .entry)) (numbersNow clock active pending (place + 1) (left .0))) ⌝ }
+    ensures { λ r. ⌜
+        (let before =
+            engineNow (now (starts .entry)) (now (counts .entry)) (now (deficits .entry)) (now (ready .entry))
+            (now (next .entry)) (now (heads .entry)) (now (tails .entry)) (now (held .entry))
+            (numbersNow clock active pending (place + 1) (left .0)) in
+        (engineNow (now (starts .exit)) (now (counts .exit)) (now (deficits .exit)) (now (ready .exit))
+            (now (next .exit)) (now (heads .exit)) (now (tails .exit)) (now (held .exit)) (r .after)
+            ≡ sentFrom (now (shares .entry)) (now (lens .entry)) place before)
+        × (r .lost .0 ≡ lostFrom (now (lens .entry)) place before)) ⌝ }
 {
     let ring = starts[place];
     let entry = lanes::entry(place, ring, 0);
@@ -61,20 +80,28 @@ fn send(
     let rest = Parts(left.0 - charge.0);
     let k = units::class_of(shares[place]) as usize;
     if count == 0 {
-        return slots::end_empty(k, clock, active, pending, heads, held);
+        let after = slots::end_empty(k, clock, active, pending, heads, held);
+        return Sent {
+            after: after,
+            lost: rest,
+        };
     }
     let following = lanes::entry(place, on, 0);
     let need = units::charge(Bytes(lens[following] as u64));
     if need.0 <= rest.0 {
-        return After {
+        let after = After {
             clock: clock,
             active: active,
             pending: pending,
             slot: (place + 1) as u8,
             left: rest,
         };
+        return Sent {
+            after: after,
+            lost: Parts(0),
+        };
     }
-    slots::end_waiting(
+    let after = slots::end_waiting(
         place,
         k,
         rest,
@@ -87,7 +114,11 @@ fn send(
         heads,
         tails,
         held,
-    )
+    );
+    Sent {
+        after: after,
+        lost: Parts(0),
+    }
 }
 
 // The slot that serves: the open one, or one that begins.
@@ -154,9 +185,17 @@ fn enact(
     tails: &mut [u8; CLASSES],
     held: &mut [u32; CLASSES],
     lens: &[u16],
-) -> After
+) -> Sent
     requires { ⌜ CanEnact (now shares) (now lens) largest place time (engineNow (now starts) (now counts) (now deficits) (now ready) (now next) (now heads) (now tails) (now held) (numbersNow clock active pending slot (left .0))) ⌝ }
-    ensures { λ r. ⌜ engineNow (now (starts .exit)) (now (counts .exit)) (now (deficits .exit)) (now (ready .exit)) (now (next .exit)) (now (heads .exit)) (now (tails .exit)) (now (held .exit)) r ≡ enacted (now (shares .entry)) (now (lens .entry)) largest place time (engineNow (now (starts .entry)) (now (counts .entry)) (now (deficits .entry)) (now (ready .entry)) (now (next .entry)) (now (heads .entry)) (now (tails .entry)) (now (held .entry)) (numbersNow clock active pending slot (left .0))) ⌝ }
+    ensures { λ r. ⌜
+        (let before =
+            engineNow (now (starts .entry)) (now (counts .entry)) (now (deficits .entry)) (now (ready .entry))
+            (now (next .entry)) (now (heads .entry)) (now (tails .entry)) (now (held .entry))
+            (numbersNow clock active pending slot (left .0)) in
+        (engineNow (now (starts .exit)) (now (counts .exit)) (now (deficits .exit)) (now (ready .exit))
+            (now (next .exit)) (now (heads .exit)) (now (tails .exit)) (now (held .exit)) (r .after)
+            ≡ enacted (now (shares .entry)) (now (lens .entry)) largest place time before)
+        × (r .lost .0 ≡ lostFrom (now (lens .entry)) place (opened (now (shares .entry)) largest place time before))) ⌝ }
 {
     let begun = open_slot(
         place,
@@ -233,7 +272,7 @@ pub fn serve_within(
             if bytes.0 < charge.0 {
                 return stay(codes::OVER_BUDGET, clock, active, pending, slot, left);
             }
-            let after = enact(
+            let sent = enact(
                 place,
                 time,
                 clock,
@@ -253,13 +292,17 @@ pub fn serve_within(
                 held,
                 lens,
             );
+            let after = sent.after;
             let rest = after.left;
+            let lost = sent.lost;
             Step {
                 code: codes::DONE,
                 place: place,
                 entry: entry,
                 bytes: charge,
-                time: time,
+                slot_clock: time,
+                began: slot == NO_LINK,
+                lost: lost,
                 clock: after.clock,
                 active: after.active,
                 pending: after.pending,
@@ -279,7 +322,9 @@ fn stay(code: u8, clock: u64, active: u32, pending: u32, slot: u8, left: Parts) 
         place: 0,
         entry: 0,
         bytes: Bytes(0),
-        time: 0,
+        slot_clock: 0,
+        began: false,
+        lost: Parts(0),
         clock: clock,
         active: active,
         pending: pending,

@@ -10,7 +10,9 @@ use Rattle.bits.specs.Sets.{withBit}
 use Rattle.units.specs.Classes.{classOf, nextStart}
 use Rattle.lanes.specs.Lanes.{laneDepth, laneEntry}
 use Rattle.board.specs.Memory.{Orders, ordersNow, Taking, taking, Blocks}
-use Rattle.finding.specs.Finding.{foundIn}
+use Rattle.rules.specs.Choice.{Taken}
+use Rattle.finding.specs.Finding.{foundIn, byFound}
+use Rattle.taking.specs.declared.Took.{Took}
 
 -- ---- JOINING
 
@@ -53,22 +55,37 @@ pub record RecordNeeds (x : Blocks) (tails : List ℕ) (clock : ℕ) (ids lens :
   pub ids-all : length ids ≡ 2048
   pub lens-all : length lens ≡ 2048
 
--- what it leaves
+-- what it leaves, and what it tells, in the rules' words
 pub record Recording : Type 0 where
   pub code : ℕ
+  pub tells : Taken
   pub taking : Taking
   pub ids : List ℕ
   pub lens : List ℕ
 
-abbrev pub recording : ℕ → Taking → List ℕ → List ℕ → Recording
-recording code t ids lens = record { code = code; taking = t; ids = ids; lens = lens }
+abbrev pub recording : ℕ → Taken → Taking → List ℕ → List ℕ → Recording
+recording code tells t ids lens = record { code = code; tells = tells; taking = t; ids = ids; lens = lens }
+
+abbrev pub tookTells : Took → Taken
+tookTells t = record { place = t .place; entry = t .entry; before = t .before }
+
+-- a refusal tells of no record
+abbrev pub noTaken : Taken
+noTaken = record { place = 0; entry = 0; before = 0 }
+
+abbrev pub notTaken : (code active : ℕ) → Took
+notTaken code active = record { code = code; active = active; place = 0; entry = 0; before = 0 }
+
+-- it comes for the block at place i, and goes to the entry behind the last record there
+abbrev pub recordedAt : Blocks → ℕ → ℕ → ℕ → Taking → List ℕ → List ℕ → ℕ → Recording
+recordedAt x clock id len t ids lens i =
+    let before = getD (t .counts) i 0 in
+    let e = laneEntry i (getD (x .starts) i 0) before in
+    let tells : Taken = record { place = i; entry = e; before = before } in
+    cond (leb laneDepth before) (recording 9 noTaken t ids lens)
+    (recording 0 tells (takenAt (x .shares) clock i t) (set ids e id) (set lens e len))
 
 unfoldable pub recordedIn : Blocks → ℕ → ℕ → ℕ → ℕ → ℕ → Taking → List ℕ → List ℕ → Recording
 recordedIn x largest clock number id len t ids lens =
-    let i = foundIn (x .numbers) number in
-    let count = getD (t .counts) i 0 in
-    let e = laneEntry i (getD (x .starts) i 0) count in
-    cond (eqb number 0 || (eqb len 0 || ltb largest len)) (recording 4 t ids lens)
-    (cond (eqb i 64) (recording 6 t ids lens)
-    (cond (leb laneDepth count) (recording 9 t ids lens)
-    (recording 0 (takenAt (x .shares) clock i t) (set ids e id) (set lens e len))))
+    cond (eqb number 0 || (eqb len 0 || ltb largest len)) (recording 4 noTaken t ids lens)
+    (byFound (foundIn (x .numbers) number) (recordedAt x clock id len t ids lens) (recording 6 noTaken t ids lens))

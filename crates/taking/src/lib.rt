@@ -3,10 +3,10 @@ ghost use mathlib.Core.Path.{_≡_};
 ghost use Prim.Native.Nat.{_+_, _-_, _*_, _<_, _≤_};
 ghost use lib.ListN.{length, getD, set};
 ghost use Rattle.board.specs.Memory.{ordersNow, taking, blocks};
-ghost use Rattle.taking.specs.Taking.{joinedOrders, takenAt, TakeNeeds, RecordNeeds, recording, recordedIn};
+ghost use Rattle.taking.specs.Taking.{joinedOrders, takenAt, TakeNeeds, RecordNeeds, notTaken, tookTells, recording, recordedIn};
+use finding::Found;
 use numbers::CLASSES;
 use numbers::NO_LINK;
-use numbers::NO_PLACE;
 use numbers::PLACES;
 use numbers::codes;
 
@@ -63,10 +63,27 @@ fn take_in(
     join_in(next, heads, tails, ready, active, i, k as usize, time)
 }
 
-// What taking a record leaves besides the arrays: the code, and the set of active classes.
+// What taking a record leaves besides the arrays: the code, and the set of active classes; and what it tells: the place and
+// the table entry of the record, and how many stood before it in its lane, all 0 where it was refused.
 pub struct Took {
     pub code: u8,
     pub active: u32,
+    pub place: usize,
+    pub entry: usize,
+    pub before: usize,
+}
+
+// No record is taken: a code, and the set as it was.
+fn not_taken(code: u8, active: u32) -> Took
+    ensures { λ r. ⌜ r ≡ notTaken code active ⌝ }
+{
+    Took {
+        code: code,
+        active: active,
+        place: 0,
+        entry: 0,
+        before: 0,
+    }
 }
 
 // A record comes for the block with this number.
@@ -89,28 +106,25 @@ pub fn record_in(
     lens: &mut [u16],
 ) -> Took
     requires { ⌜ RecordNeeds (blocks (now numbers) (now shares) (now starts)) (now tails) clock (now ids) (now lens) ⌝ }
-    ensures { λ r. ⌜ recording (r .code) (taking (now (counts .exit)) (ordersNow (now (next .exit)) (now (heads .exit)) (now (tails .exit)) (now (ready .exit)) (r .active))) (now (ids .exit)) (now (lens .exit)) ≡ recordedIn (blocks (now (numbers .entry)) (now (shares .entry)) (now (starts .entry))) largest clock block id length (taking (now (counts .entry)) (ordersNow (now (next .entry)) (now (heads .entry)) (now (tails .entry)) (now (ready .entry)) active)) (now (ids .entry)) (now (lens .entry)) ⌝ }
+    ensures { λ r. ⌜
+        recording (r .code) (tookTells r)
+        (taking (now (counts .exit)) (ordersNow (now (next .exit)) (now (heads .exit)) (now (tails .exit)) (now (ready .exit)) (r .active)))
+        (now (ids .exit)) (now (lens .exit))
+        ≡ recordedIn (blocks (now (numbers .entry)) (now (shares .entry)) (now (starts .entry))) largest clock block id length
+        (taking (now (counts .entry)) (ordersNow (now (next .entry)) (now (heads .entry)) (now (tails .entry)) (now (ready .entry)) active))
+        (now (ids .entry)) (now (lens .entry)) ⌝ }
 {
     if finding::outside(block, length as u32, largest) {
-        return Took {
-            code: codes::OUT_OF_RANGE,
-            active: active,
-        };
+        return not_taken(codes::OUT_OF_RANGE, active);
     }
-    let i = finding::find(numbers, block);
-    if i == NO_PLACE {
-        return Took {
-            code: codes::UNKNOWN_BLOCK,
-            active: active,
-        };
-    }
+    let Found::OpenAt(i) = finding::find(numbers, block) else {
+        return not_taken(codes::UNKNOWN_BLOCK, active);
+    };
     let count = counts[i];
     if lanes::depth() <= count {
-        return Took {
-            code: codes::LANE_FULL,
-            active: active,
-        };
+        return not_taken(codes::LANE_FULL, active);
     }
+    let before = count as usize;
     let at = lanes::entry(i, starts[i], count);
     ids[at] = id;
     lens[at] = length;
@@ -118,5 +132,8 @@ pub fn record_in(
     Took {
         code: codes::DONE,
         active: set,
+        place: i,
+        entry: at,
+        before: before,
     }
 }

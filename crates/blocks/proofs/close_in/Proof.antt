@@ -1,73 +1,77 @@
-use Rattle.finding.proofs.Finding.{found-in, found-bought}
+use Rattle.finding.proofs.Finding.{found-at, found-bought}
 use Rattle.blocks.specs.Blocks.{closedIn}
-use borrow.Author.Tests.{eq-eqb, ne-eqb, lt-ltb, le-ltb}
+use borrow.Author.Tests.{lt-ltb, le-ltb}
+use mathlib.Core.Path.{sym, _∙_}
 use denote.Ref.{now}
 use borrow.Author.Needs.{needs}
 use Rattle.blocks.proofs.close_in.Statement.{statement}
 use Rattle.blocks.proofs.close_in.Tie as tie
 
-returns : tie.Need-returns
-unfolding closedIn
-returns c = rw (eq-eqb _ _ (c .if1 .taken))
-
 find-requires : tie.Need-find-requires
 find-requires c κs = search needs
 
+enum-known-i : tie.Need-enum-known-i
+enum-known-i c = search needs
+
+enum-told : tie.Need-enum-told
+enum-told c = search needs
+
+returns : tie.Need-returns
+unfolding closedIn
+returns c = rw (← c .before .before .find .ensures, c .enum-told .given .1)
+
+mul-if1 : tie.Need-mul-if1
+mul-if1 c = let h = found-at _ _ _ (sym (c .before .before .before .find .ensures) ∙ c .before .i .given .1) .inside in search needs
+
+element-copy-out-if1 : tie.Need-element-copy-out-if1
+element-copy-out-if1 c = found-at _ _ _ (sym (c .before .before .before .find .ensures) ∙ c .before .i .given .1) .inside
+
 returns-2 : tie.Need-returns-2
 unfolding closedIn
-returns-2 c = rw (ne-eqb _ _ (c .before .before .before .if1 .left), ← c .before .find .ensures, eq-eqb _ _ (c .if2 .taken))
+returns-2 c = rw (← c .before .before .before .before .before .find .ensures, c .before .before .before .i .given .1, lt-ltb _ _ (c .if1 .taken))
 
-mul-if3 : tie.Need-mul-if3
-mul-if3 c = let h = found-in _ _ _ (c .before .find .ensures) (c .if2 .left) in search needs
+mul-hold-in : tie.Need-mul-hold-in
+mul-hold-in c = let h = found-at _ _ _ (sym (c .before .before .before .before .before .find .ensures) ∙ c .before .before .before .i .given .1) .inside in search needs
 
-element-copy-out-if3 : tie.Need-element-copy-out-if3
-element-copy-out-if3 c = found-in _ _ _ (c .before .find .ensures) (c .if2 .left)
+element-copy-out-hold-in : tie.Need-element-copy-out-hold-in
+element-copy-out-hold-in c = found-at _ _ _ (sym (c .before .before .before .before .before .find .ensures) ∙ c .before .before .before .i .given .1) .inside
+
+hold-in-requires : tie.Need-hold-in-requires
+hold-in-requires c κs = (found-bought (now (c .before .before .before .before .before .before .before .before .before .args .numbers)) (now (c .before .before .before .before .before .before .before .before .before .args .shares)) (c .before .before .before .before .before .before .before .before .before .args .block) _ (sym (c .before .before .before .before .before .before .before .find .ensures) ∙ c .before .before .before .before .before .i .given .1) (c .before .before .before .before .before .before .before .before .before .pre .low), (c .before .before .before .before .before .before .before .before .before .pre .high _, c .before .before .before .before .before .before .before .before .before .pre .most))
+
+mul-numbers : tie.Need-mul-numbers
+mul-numbers c = let h = found-at _ _ _ (sym (c .before .before .before .before .before .before .before .before .find .ensures) ∙ c .before .before .before .before .before .before .i .given .1) .inside in search needs
+
+element-write-numbers : tie.Need-element-write-numbers
+element-write-numbers c = found-at _ _ _ (sym (c .before .before .before .before .before .before .before .before .find .ensures) ∙ c .before .before .before .before .before .before .i .given .1) .inside
+
+mul-shares : tie.Need-mul-shares
+mul-shares c = let h = found-at _ _ _ (sym (c .before .before .before .before .before .before .before .before .find .ensures) ∙ c .before .before .before .before .before .before .i .given .1) .inside in search needs
+
+element-write-shares : tie.Need-element-write-shares
+element-write-shares c = found-at _ _ _ (sym (c .before .before .before .before .before .before .before .before .find .ensures) ∙ c .before .before .before .before .before .before .i .given .1) .inside
+
+mul-starts : tie.Need-mul-starts
+mul-starts c = let h = found-at _ _ _ (sym (c .before .before .before .before .before .before .before .before .find .ensures) ∙ c .before .before .before .before .before .before .i .given .1) .inside in search needs
+
+element-write-starts : tie.Need-element-write-starts
+element-write-starts c = found-at _ _ _ (sym (c .before .before .before .before .before .before .before .before .find .ensures) ∙ c .before .before .before .before .before .before .i .given .1) .inside
 
 returns-3 : tie.Need-returns-3
 unfolding closedIn
-returns-3 c = rw (ne-eqb _ _ (c .before .before .before .before .before .if1 .left), ← c .before .before .before .find .ensures, ne-eqb _ _ (c .before .before .if2 .left), lt-ltb _ _ (c .if3 .taken))
-
-mul-hold-in : tie.Need-mul-hold-in
-mul-hold-in c = let h = found-in _ _ _ (c .before .before .before .find .ensures) (c .before .before .if2 .left) in search needs
-
-element-copy-out-hold-in : tie.Need-element-copy-out-hold-in
-element-copy-out-hold-in c = found-in _ _ _ (c .before .before .before .find .ensures) (c .before .before .if2 .left)
-
-hold-in-requires : tie.Need-hold-in-requires
-hold-in-requires c κs = (found-bought (now (c .before .before .before .before .before .before .before .before .args .numbers)) (now (c .before .before .before .before .before .before .before .before .args .shares)) (c .before .before .before .before .before .before .before .before .args .block) (c .before .before .before .before .before .find .result) (c .before .before .before .before .before .find .ensures) (c .before .before .before .before .before .before .before .if1 .left) (c .before .before .before .before .if2 .left) (c .before .before .before .before .before .before .before .before .pre .low), (c .before .before .before .before .before .before .before .before .pre .high _, c .before .before .before .before .before .before .before .before .pre .most))
-
-mul-numbers : tie.Need-mul-numbers
-mul-numbers c = let h = found-in _ _ _ (c .before .before .before .before .before .before .find .ensures) (c .before .before .before .before .before .if2 .left) in search needs
-
-element-write-numbers : tie.Need-element-write-numbers
-element-write-numbers c = found-in _ _ _ (c .before .before .before .before .before .before .find .ensures) (c .before .before .before .before .before .if2 .left)
-
-mul-shares : tie.Need-mul-shares
-mul-shares c = let h = found-in _ _ _ (c .before .before .before .before .before .before .find .ensures) (c .before .before .before .before .before .if2 .left) in search needs
-
-element-write-shares : tie.Need-element-write-shares
-element-write-shares c = found-in _ _ _ (c .before .before .before .before .before .before .find .ensures) (c .before .before .before .before .before .if2 .left)
-
-mul-starts : tie.Need-mul-starts
-mul-starts c = let h = found-in _ _ _ (c .before .before .before .before .before .before .find .ensures) (c .before .before .before .before .before .if2 .left) in search needs
-
-element-write-starts : tie.Need-element-write-starts
-element-write-starts c = found-in _ _ _ (c .before .before .before .before .before .before .find .ensures) (c .before .before .before .before .before .if2 .left)
-
-returns-4 : tie.Need-returns-4
-unfolding closedIn
-returns-4 c = rw (ne-eqb _ _ (c .before .before .before .before .before .before .before .before .if1 .left), ← c .before .before .before .before .before .before .find .ensures, ne-eqb _ _ (c .before .before .before .before .before .if2 .left), le-ltb _ _ (c .before .before .before .if3 .left), c .hold-in .ensures)
+returns-3 c = rw (← c .before .before .before .before .before .before .before .before .find .ensures, c .before .before .before .before .before .before .i .given .1, le-ltb _ _ (c .before .before .before .if1 .left), c .hold-in .ensures)
 
 pub close-in-spec : {M : Type 1} → statement M
 close-in-spec =
     tie.close
     (tie.spec
-    returns
     find-requires
+    enum-known-i
+    enum-told
+    returns
+    mul-if1
+    element-copy-out-if1
     returns-2
-    mul-if3
-    element-copy-out-if3
-    returns-3
     mul-hold-in
     element-copy-out-hold-in
     hold-in-requires
@@ -77,4 +81,4 @@ close-in-spec =
     element-write-shares
     mul-starts
     element-write-starts
-    returns-4)
+    returns-3)

@@ -1,60 +1,19 @@
-use denote.Ref.{now}
-use mathlib.Core.Path.{_≡_, sym, _∙_}
-use mathlib.Core.Bool.{false}
-use Prim.Native.Nat.{ℕ, _-_, _≤_, _<_}
-use native.Mathlib.Omega.{arith}
-use lib.Dec.{eqb}
-use lib.ListN.{getD}
-use borrow.Author.Tests.{eq-eqb, ne-eqb}
-use Rattle.base.proofs.Tests.{least-found, least-none, below-next}
-use Rattle.finding.specs.Finding.{foundIn}
+use Rattle.finding.proofs.Finding.{find-none, find-unknown, find-open}
 use borrow.Author.Needs.{needs}
 use Rattle.finding.proofs.find.Statement.{statement}
 use Rattle.finding.proofs.find.Tie as tie
 
-abbrev Inv-loop : tie.InvT-loop
-Inv-loop numbers number i₀ i = (i ≤ 64) × ((j : ℕ) → j < i → eqb (getD numbers j 0) number ≡ false)
+returns : tie.Need-returns
+returns c = find-none _ _ (c .if1 .taken)
 
-abbrev μ-loop : tie.MeasureT-loop
-μ-loop numbers number i₀ i = 64 - i
+place-with-requires : tie.Need-place-with-requires
+place-with-requires c κs = search needs
 
-loop-holds : tie.Need-loop-holds Inv-loop μ-loop
-loop-holds c = (omega arith, λ j h. absurd (omega arith))
+returns-2 : tie.Need-returns-2
+returns-2 c = find-unknown _ _ _ (c .before .before .if1 .left) (c .before .place-with .ensures) (c .if2 .taken)
 
-mul-if1 : tie.Need-mul-if1 Inv-loop μ-loop
-mul-if1 c = search needs
-
-element-copy-out-if1 : tie.Need-element-copy-out-if1 Inv-loop μ-loop
-element-copy-out-if1 c = search needs
-
-returns : tie.Need-returns Inv-loop μ-loop
-unfolding foundIn
-returns c = sym (least-found (λ j. eqb (getD (now (c .before .before .before .before .args .numbers)) j 0) (c .before .before .before .before .args .number)) 64 (c .before .before .before .loop .i) (omega arith) (c .before .before .before .loop .inv .1) (eq-eqb _ _ (c .if1 .taken)))
-
-add-i : tie.Need-add-i Inv-loop μ-loop
-add-i c = search needs
-
-loop-less : tie.Need-loop-less Inv-loop μ-loop
-loop-less c = search needs
-
-loop-again : tie.Need-loop-again Inv-loop μ-loop
-loop-again c = (omega arith, below-next (λ j. eqb (getD (now (c .before .before .before .before .args .numbers)) j 0) (c .before .before .before .before .args .number) ≡ false) (c .before .before .before .loop .i) (c .before .before .before .loop .inv .1) (ne-eqb _ _ (c .if1 .left)))
-
-returns-2 : tie.Need-returns-2 Inv-loop μ-loop
-unfolding foundIn
-returns-2 c = let e : c .before .loop .i ≡ 64 = omega arith in e ∙ sym (least-none (λ j. eqb (getD (now (c .before .before .args .numbers)) j 0) (c .before .before .args .number)) 64 (λ j h. c .before .loop .inv .1 j (omega arith)))
+returns-3 : tie.Need-returns-3
+returns-3 c = find-open _ _ _ (c .before .before .if1 .left) (c .before .place-with .ensures) (c .if2 .left)
 
 pub find-spec : {M : Type 1} → statement M
-find-spec =
-    tie.close
-    (tie.spec
-    Inv-loop
-    μ-loop
-    loop-holds
-    mul-if1
-    element-copy-out-if1
-    returns
-    add-i
-    loop-less
-    loop-again
-    returns-2)
+find-spec = tie.close (tie.spec returns place-with-requires returns-2 returns-3)

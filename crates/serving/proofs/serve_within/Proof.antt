@@ -32,14 +32,14 @@ element-copy-out-entry c = (can-read _ _ _ _ _ _ (c .before .before .before .bef
 entry-requires : tie.Need-entry-requires
 entry-requires c κs = (can-read _ _ _ _ _ _ (c .before .before .before .before .before .before .before .before .pre .enacts _ _ (sym (c .before .before .before .before .before .choose .ensures) ∙ c .before .before .before .chosen2 .given .1))) .0
 
-mul-t30 : tie.Need-mul-t30
-mul-t30 c = omega (arith, c .entry .ensures .1)
+mul-t32 : tie.Need-mul-t32
+mul-t32 c = omega (arith, c .entry .ensures .1)
 
-shared-slice-read-t33 : tie.Need-shared-slice-read-t33
-shared-slice-read-t33 c = let w = (can-read _ _ _ _ _ _ (c .before .before .before .before .before .before .before .before .before .before .pre .enacts _ _ (sym (c .before .before .before .before .before .before .before .choose .ensures) ∙ c .before .before .before .before .before .chosen2 .given .1))) in omega (arith, c .before .entry .ensures .1, w .1)
+shared-slice-read-t35 : tie.Need-shared-slice-read-t35
+shared-slice-read-t35 c = let w = (can-read _ _ _ _ _ _ (c .before .before .before .before .before .before .before .before .before .before .pre .enacts _ _ (sym (c .before .before .before .before .before .before .before .choose .ensures) ∙ c .before .before .before .before .before .chosen2 .given .1))) in omega (arith, c .before .entry .ensures .1, w .1)
 
-cast-t35 : tie.Need-cast-t35
-cast-t35 c = omega (arith, c .shared-slice-known2 .given (c .before .entry .result))
+cast-t37 : tie.Need-cast-t37
+cast-t37 c = omega (arith, c .shared-slice-known2 .given (c .before .entry .result))
 
 charged-requires : tie.Need-charged-requires
 charged-requires c κs = omega (arith, c .shared-slice-known2 .given (c .before .entry .result))
@@ -57,7 +57,7 @@ returns-3 : tie.Need-returns-3
 returns-3 c = within-stop _ _ _ _ _ _ _ _ (sym (c .before .before .before .before .choose .ensures) ∙ c .before .before .chosen .given .1) (c .stay .ensures)
 
 returns-4 : tie.Need-returns-4
-returns-4 c = within-done _ _ _ _ _ _ _ _ (sym (c .before .before .before .before .before .before .before .before .before .before .before .before .before .before .before .before .before .before .before .before .before .choose .ensures) ∙ c .before .before .before .before .before .before .before .before .before .before .before .before .before .before .before .before .before .before .before .chosen2 .given .1) _ _ (c .before .before .before .before .before .before .before .before .before .before .before .before .before .before .before .before .before .if1 .left) (c .before .before .before .before .before .before .before .before .before .before .before .before .before .before .before .entry .ensures .0) (c .before .before .before .before .before .before .before .before .before .before .before .before .before .charged .ensures) (c .before .before .before .before .before .before .before .before .before .before .if2 .left) _ (c .before .enact .ensures)
+returns-4 c = within-done _ _ _ _ _ _ _ _ (sym (c .before .before .before .before .before .before .before .before .before .before .before .before .before .before .before .before .before .before .before .before .before .before .before .choose .ensures) ∙ c .before .before .before .before .before .before .before .before .before .before .before .before .before .before .before .before .before .before .before .before .before .chosen2 .given .1) _ _ (c .before .before .before .before .before .before .before .before .before .before .before .before .before .before .before .before .before .before .before .if1 .left) (c .before .before .before .before .before .before .before .before .before .before .before .before .before .before .before .before .before .entry .ensures .0) (c .before .before .before .before .before .before .before .before .before .before .before .before .before .before .before .charged .ensures) (c .before .before .before .before .before .before .before .before .before .before .before .before .if2 .left) _ _ (c .before .before .before .enact .ensures)
 
 pub serve-within-spec : {M : Type 1} → statement M
 serve-within-spec =
@@ -72,9 +72,9 @@ serve-within-spec =
     mul-entry
     element-copy-out-entry
     entry-requires
-    mul-t30
-    shared-slice-read-t33
-    cast-t35
+    mul-t32
+    shared-slice-read-t35
+    cast-t37
     charged-requires
     stay-requires-3
     returns-2
