@@ -14,7 +14,8 @@ use Rattle.calls.specs.Promises.{Known}
 use Rattle.plays.specs.Listing.{Playing, played, fieldLine}
 
 -- the board whose arrays and numbers these are
-abbrev pub boardNow : List ℕ → List ℕ → List ℕ → List ℕ → List ℕ → List ℕ → List ℕ → List ℕ → List ℕ → List ℕ → ℕ → After → struct.Board
+abbrev pub boardNow : (numbers shares starts counts deficits ready next heads tails held : List ℕ) (largest : ℕ)
+    → After → struct.Board
 boardNow numbers shares starts counts deficits ready next heads tails held largest now =
     record {
       numbers = numbers;
@@ -54,7 +55,8 @@ abbrev pub KnownMemory : Memory → Type 0
 KnownMemory s = Known (s .board) (s .ids) (s .lens)
 
 -- A field is played: board and bytes sent are what the rules say, and its line is put in front of a buffer.
-pub record FieldPlayed (s : Memory) (e : Event) (n : Memory) (before : List ℕ) (count : ℕ) (after : List ℕ) : Type 0 where
+pub record FieldPlayed
+    (s : Memory) (e : Event) (n : Memory) (before : List ℕ) (count : ℕ) (after : List ℕ) : Type 0 where
   pub good : KnownMemory n
   pub next : reads n ≡ played (reads s) e
   pub line : Line before (fieldLine (reads s) e) count after
