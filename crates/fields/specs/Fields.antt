@@ -31,7 +31,8 @@ abbrev pub KnownMemory : Memory → Type 0
 KnownMemory s = Known (s .board) (s .ids) (s .lens)
 
 -- A field is played: board and bytes sent are what the rules say, and its line is put in front of a buffer.
-pub record FieldPlayed (s : Memory) (e : Event) (n : Memory) (before : List ℕ) (count : ℕ) (after : List ℕ) : Type 0 where
+pub record FieldPlayed
+    (s : Memory) (e : Event) (n : Memory) (before : List ℕ) (count : ℕ) (after : List ℕ) : Type 0 where
   pub good : KnownMemory n
   pub next : reads n ≡ played (reads s) e
   pub line : Line before (fieldLine (reads s) e) count after

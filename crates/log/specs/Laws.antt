@@ -28,7 +28,8 @@ FieldBack = (e : Event) (tag : ℕ) (value pre rest : List ℕ) (stage : Stage) 
 -- A field that is read whole says that event in its turn, and the log from its offset on is the field's bytes and what
 -- follows them.
 abbrev pub FieldOnly : Type 0
-FieldOnly = (s : List ℕ) (at : ℕ) (stage : Stage) (e : Event) (next : ℕ) → AllBytes s → fieldAt s at stage ≡ Whole e next
+FieldOnly = (s : List ℕ) (at : ℕ) (stage : Stage) (e : Event) (next : ℕ)
+    → AllBytes s → fieldAt s at stage ≡ Whole e next
     → (Says e (tagAt s at) (valueAt s at) × (inTurn e stage ≡ true))
     × (drop at s ≡ fieldOf (tagAt s at) (valueAt s at) ++ drop next s)
 
@@ -63,7 +64,8 @@ GoesOnly = (s : List ℕ) (at : ℕ) (stage : Stage) (e : Event) (next : ℕ) �
     → (fieldAt s at stage ≡ Whole e next) × (next ≤ 32768)
 
 abbrev pub EndsOnly : Type 0
-EndsOnly = (s : List ℕ) (at : ℕ) (stage : Stage) → nextAt s at stage ≡ Ends whole → (pastL stage ≡ true) × (at ≡ length s)
+EndsOnly = (s : List ℕ) (at : ℕ) (stage : Stage) → nextAt s at stage ≡ Ends whole
+    → (pastL stage ≡ true) × (at ≡ length s)
 
 abbrev pub BreaksOnly : Type 0
 BreaksOnly = (s : List ℕ) (at : ℕ) (stage : Stage) (n : ℕ) → nextAt s at stage ≡ Ends (broken n)
@@ -85,11 +87,13 @@ Enough = (n m : ℕ) (s : List ℕ) (at : ℕ) (stage : Stage) → length s - at
 
 -- The reading from an offset is the whole field there, followed by the reading from its end; or the log ends there.
 abbrev pub ReadStep : Type 0
-ReadStep = (s : List ℕ) (at : ℕ) (stage : Stage) → readFrom s at stage ≡ follow (readFrom s) at stage (nextAt s at stage)
+ReadStep = (s : List ℕ) (at : ℕ) (stage : Stage)
+    → readFrom s at stage ≡ follow (readFrom s) at stage (nextAt s at stage)
 
 abbrev pub ReadWhole : Type 0
 ReadWhole = (s : List ℕ) (at : ℕ) (stage : Stage) (e : Event) (next : ℕ) → nextAt s at stage ≡ GoesOn e next
-    → readFrom s at stage ≡ andThen (record { offset = at; event = e; next = next }) (readFrom s next (stageAfter stage e))
+    → readFrom s at stage
+    ≡ andThen (record { offset = at; event = e; next = next }) (readFrom s next (stageAfter stage e))
 
 abbrev pub ReadEnds : Type 0
 ReadEnds = (s : List ℕ) (at : ℕ) (stage : Stage) (e : End) → nextAt s at stage ≡ Ends e → readFrom s at stage ≡ only e

@@ -42,8 +42,8 @@ abbrev pub nextOf : Field → Next
 nextOf (Whole e next) = GoesOn e next
 nextOf (Broken n) = Ends (broken n)
 
--- THE END OF A LOG: whether it ends at an offset, in a stage, and how; or else the field there. A log over 32,768 bytes is
--- long wherever this is asked. No other definition asks for a log's end or its length.
+-- THE END OF A LOG: whether it ends at an offset, in a stage, and how; or else the field there. A log over 32,768 bytes
+-- is long wherever this is asked. No other definition asks how a log ends, or for its whole length.
 unfoldable pub nextAt : List ℕ → ℕ → Stage → Next
 nextAt s at stage =
     cond (isLong (length s)) (Ends long)

@@ -2,7 +2,8 @@
 ghost use mathlib.Core.Path.{_≡_};
 ghost use Prim.Native.Nat.{_+_, _-_, _<_, _≤_};
 ghost use lib.ListN.{length};
-ghost use Rattle.log.specs.Format.{numberAt, lengthOf, rightLength, frameAt, eventOf, pastL, stageAfter, inTurn, fieldAt, isLong};
+ghost use Rattle.log.specs.Format.{numberAt, lengthOf, rightLength, frameAt, eventOf};
+ghost use Rattle.log.specs.Format.{pastL, stageAfter, inTurn, fieldAt, isLong};
 ghost use Rattle.log.specs.Rows.{atEnd, endsLong, nextAt};
 
 mod tags;
@@ -247,7 +248,7 @@ pub fn next_at(log: &[u8], at: usize, stage: Stage) -> Next
     Next::GoesOn(event, next)
 }
 
-// Whether that is the end of a long log.
+// Whether what stands there is the end of a long log.
 pub fn ends_long(next: Next) -> bool
     ensures { λ r. ⌜ r ≡ endsLong next ⌝ }
 {

@@ -35,8 +35,8 @@ restOf log s ids lens =
 unfoldable pub restAfter : List ℕ → Piece → List ℕ → List ℕ → List ℕ
 restAfter log r ids lens = cond (r .over) [] (restOf log (r .state) ids lens)
 
--- A table of another length is 3. After L, a long log, bytes sent of which there are too many for the offset, or a spoilt
--- board is 2: no piece leaves such a state.
+-- A table of another length is 3. After L, a long log, bytes sent of which there are too many for the offset, or a
+-- spoilt board is 2: no piece leaves such a state.
 abbrev pub unfit : List ℕ → State → List ℕ → List ℕ → Bool
 unfit log s ids lens =
     endsLong (nextAt log (s .at) (s .stage))

@@ -1,4 +1,5 @@
-// The player of a log: it writes the listing in pieces, each into a lent buffer, and works on the engine's arrays from field to field.
+// The player of a log: it writes the listing in pieces, each into a lent buffer, and works on the engine's arrays from
+// field to field.
 ghost use mathlib.Core.Path.{_≡_};
 ghost use mathlib.Core.Bool.{true, false};
 ghost use Prim.Native.Nat.{_+_, _≤_};
@@ -117,7 +118,9 @@ fn last_piece(used: usize, s: State) -> Piece
 // The fields after L in turn, as long as there is room for a line, and then the last line.
 fn next_piece(log: &[u8], ids: &mut [u32], lens: &mut [u16], out: &mut [u8], s: State) -> Piece
     requires { ⌜ CanGoOn (now log) s (now ids) (now lens) ⌝ }
-    ensures { λ r. ⌜ PieceDone (now (log .entry)) s (now (ids .entry)) (now (lens .entry)) (now (out .entry)) r (now (ids .exit)) (now (lens .exit)) (now (out .exit)) ⌝ }
+    ensures { λ r. ⌜
+        PieceDone (now (log .entry)) s (now (ids .entry)) (now (lens .entry)) (now (out .entry))
+        r (now (ids .exit)) (now (lens .exit)) (now (out .exit)) ⌝ }
 {
     let b = s.board;
     let mut numbers = b.numbers;
@@ -222,7 +225,9 @@ fn next_piece(log: &[u8], ids: &mut [u32], lens: &mut [u16], out: &mut [u8], s: 
 // The first field: the board is made, or the listing is one line.
 fn first_piece(log: &[u8], ids: &mut [u32], lens: &mut [u16], out: &mut [u8], s: State) -> Piece
     requires { ⌜ (pastL (s .stage) ≡ false) × (pieceCode (now log) s (now ids) (now lens) ≡ 0) ⌝ }
-    ensures { λ r. ⌜ PieceDone (now (log .entry)) s (now (ids .entry)) (now (lens .entry)) (now (out .entry)) r (now (ids .exit)) (now (lens .exit)) (now (out .exit)) ⌝ }
+    ensures { λ r. ⌜
+        PieceDone (now (log .entry)) s (now (ids .entry)) (now (lens .entry)) (now (out .entry))
+        r (now (ids .exit)) (now (lens .exit)) (now (out .exit)) ⌝ }
 {
     if out.len() < LINE_ROOM {
         return Piece {
@@ -264,7 +269,9 @@ fn first_piece(log: &[u8], ids: &mut [u32], lens: &mut [u16], out: &mut [u8], s:
 
 // The next piece of a log's listing, into a lent buffer.
 pub fn list_piece(log: &[u8], ids: &mut [u32], lens: &mut [u16], out: &mut [u8], s: State) -> Piece
-    ensures { λ r. ⌜ PieceOf (now (log .entry)) s (now (ids .entry)) (now (lens .entry)) (now (out .entry)) r (now (ids .exit)) (now (lens .exit)) (now (out .exit)) ⌝ }
+    ensures { λ r. ⌜
+        PieceOf (now (log .entry)) s (now (ids .entry)) (now (lens .entry)) (now (out .entry))
+        r (now (ids .exit)) (now (lens .exit)) (now (out .exit)) ⌝ }
 {
     let refusal = unready(log, &ids[..], &lens[..], s);
     if refusal != codes::DONE {
