@@ -20,6 +20,20 @@ pub fn sum(row: &[u32]) -> u64
     sum
 }
 
+// The same of short numbers; of 65,535 and fewer it fits.
+pub fn sum_shorts(row: &[u16]) -> u32
+    requires { ⌜ length (now row) ≤ 65535 ⌝ }
+    ensures { λ r. ⌜ r ≡ totalOf (now (row .entry)) ⌝ }
+{
+    let mut sum: u32 = 0;
+    let mut i: usize = 0;
+    while i < row.len() {
+        sum += row[i] as u32;
+        i += 1;
+    }
+    sum
+}
+
 pub fn clear_words(row: &mut [u32])
     ensures { λ _. ⌜ now (row .exit) ≡ zeroed (now (row .entry)) ⌝ }
 {

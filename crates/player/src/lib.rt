@@ -39,25 +39,11 @@ pub struct Piece {
     pub state: State,
 }
 
-// The sum of some lanes' counts.
-fn sum_of(counts: &[u16]) -> u32
-    requires { ⌜ length (now counts) ≤ 64 ⌝ }
-    ensures { λ r. ⌜ r ≡ totalOf (now (counts .entry)) ⌝ }
-{
-    let mut sum: u32 = 0;
-    let mut i: usize = 0;
-    while i < counts.len() {
-        sum += counts[i] as u32;
-        i += 1;
-    }
-    sum
-}
-
 // How many records wait.
 fn waiting(counts: &[u16; PLACES]) -> u32
     ensures { λ r. ⌜ r ≡ totalOf (now (counts .entry)) ⌝ }
 {
-    sum_of(counts)
+    arrays::sum_shorts(counts)
 }
 
 // The first bytes of a text are put behind what is written; the answer is where they end.

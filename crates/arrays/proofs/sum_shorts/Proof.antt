@@ -1,17 +1,17 @@
--- `player::sum_of` meets its contract. The sum up to an index. Assumes nothing.
+-- `arrays::sum_shorts` meets its contract. Assumes nothing.
 use Rattle.arrays.proofs.Loops.{Summed, summed-none, summed-more, summed-all}
 use lib.ListN.{length}
 use native.Mathlib.Omega.{arith}
 use Prim.Native.Nat.{_-_}
 use borrow.Author.Needs.{needs}
-use Rattle.player.proofs.sum_of.Statement.{statement}
-use Rattle.player.proofs.sum_of.Tie as tie
+use Rattle.arrays.proofs.sum_shorts.Statement.{statement}
+use Rattle.arrays.proofs.sum_shorts.Tie as tie
 
 abbrev Inv-loop : tie.InvT-loop
-Inv-loop counts sum₀ i₀ sum i = Summed 65536 counts i sum
+Inv-loop row sum₀ i₀ sum i = Summed 65536 row i sum
 
 abbrev μ-loop : tie.MeasureT-loop
-μ-loop counts sum₀ i₀ sum i = length counts - i
+μ-loop row sum₀ i₀ sum i = length row - i
 
 loop-holds : tie.Need-loop-holds Inv-loop μ-loop
 loop-holds c = summed-none _ _
@@ -40,8 +40,8 @@ loop-again c = summed-more _ _ _ _ (c .before .before .loop .inv) (omega arith) 
 returns : tie.Need-returns Inv-loop μ-loop
 returns c = summed-all _ _ _ _ (c .before .loop .inv) (omega arith)
 
-pub sum-of-spec : {M : Type 1} → statement M
-sum-of-spec =
+pub sum-shorts-spec : {M : Type 1} → statement M
+sum-shorts-spec =
     tie.close
     (tie.spec
     Inv-loop
