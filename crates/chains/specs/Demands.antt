@@ -215,8 +215,8 @@ pub record Chained (L : ℕ) : Type 0 where
   pub made : Made L start
   pub row : Row start cs told xs said finish
 
--- The row's calls in parts: those before a block's opening; what the opening was given; those since; one call; those during which
--- something lasts; the rest. Each part may begin, and end, inside a burst.
+-- The row's calls in parts: those before a block's opening; what the opening was given; those since; one call; those
+-- during which something lasts; the rest. Each part may begin, and end, inside a burst.
 pub record Parting : Type 0 where
   pub first : List Single
   pub given : Opening

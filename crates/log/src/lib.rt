@@ -16,8 +16,8 @@ use operands::Opening;
 // The bytes of a field before its value: the tag and the length.
 const HEADER: usize = 3;
 
-// What a whole field says, its numbers in the order of the log: L; an opening's; block; old and new; block, number and length.
-// Passed is a field that is passed over.
+// What a whole field says, its numbers in the order of the log: L; an opening's; block; old and new; block, number and
+// length. Passed is a field that is passed over.
 pub enum Event {
     Largest(u32),
     Open(Opening),

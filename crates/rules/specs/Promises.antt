@@ -81,7 +81,8 @@ pub record Accounted (s : Runs.Story) (b : Board) : Type 0 where
 abbrev pub Conserved : Type 0
 Conserved = (L : ℕ) (b : Board) → OfRun L b → (o : Opening) (after : List Single)
     → codeOf (Runs.answer b (open! o)) ≡ 0
-    → let next = step b (open! o) .next in Accounted (Runs.story (Runs.begins (o .number)) next after) (Runs.play next after)
+    → let next = step b (open! o) .next in
+    Accounted (Runs.story (Runs.begins (o .number)) next after) (Runs.play next after)
 
 -- ---- Demand 3
 
@@ -187,8 +188,8 @@ abbrev pub inHand : Place → ℕ
 inHand x = x .deficit + leftOf (x .stand)
 
 -- It was the front record of its place, in the entry where that stood. Its slot began with it exactly where no slot was
--- open before. Parts are lost only as the lane empties: what the place has after it, what was lost and what the record was
--- charged are what the place had before it, with the credit of the slot that began.
+-- open before. Parts are lost only as the lane empties: what the place has after it, what was lost and what the record
+-- was charged are what the place had before it, with the credit of the slot that began.
 pub record SendTells (b next : Board) (s : Sending) : Type 0 where
   pub front : s .front ≡ front (at b (s .place))
   pub entry : s .entry ≡ entry (s .place) (at b (s .place)) 0
@@ -198,4 +199,5 @@ pub record SendTells (b next : Board) (s : Sending) : Type 0 where
       ≡ inHand (at b (s .place)) + cond (s .began) (creditOf (b .largest) (at b (s .place) .share)) 0
 
 abbrev pub SendsTell : Type 0
-SendsTell = (b : Board) → Seventeen b → spoilt b ≡ false → (s : Sending) → serve b .out ≡ sent s → SendTells b (serve b .next) s
+SendsTell = (b : Board) → Seventeen b → spoilt b ≡ false
+    → (s : Sending) → serve b .out ≡ sent s → SendTells b (serve b .next) s
