@@ -62,12 +62,12 @@ fn send(
     requires { ⌜ CanSend (now shares) (now lens) place (engineNow (now starts) (now counts) (now deficits) (now ready) (now next) (now heads) (now tails) (now held) (numbersNow clock active pending (place + 1) (left .0))) ⌝ }
     ensures { λ r. ⌜
         (let before =
-            engineNow (now (starts .entry)) (now (counts .entry)) (now (deficits .entry)) (now (ready .entry))
-            (now (next .entry)) (now (heads .entry)) (now (tails .entry)) (now (held .entry))
-            (numbersNow clock active pending (place + 1) (left .0)) in
+        engineNow (now (starts .entry)) (now (counts .entry)) (now (deficits .entry)) (now (ready .entry))
+        (now (next .entry)) (now (heads .entry)) (now (tails .entry)) (now (held .entry))
+        (numbersNow clock active pending (place + 1) (left .0)) in
         (engineNow (now (starts .exit)) (now (counts .exit)) (now (deficits .exit)) (now (ready .exit))
-            (now (next .exit)) (now (heads .exit)) (now (tails .exit)) (now (held .exit)) (r .after)
-            ≡ sentFrom (now (shares .entry)) (now (lens .entry)) place before)
+        (now (next .exit)) (now (heads .exit)) (now (tails .exit)) (now (held .exit)) (r .after)
+        ≡ sentFrom (now (shares .entry)) (now (lens .entry)) place before)
         × (r .lost .0 ≡ lostFrom (now (lens .entry)) place before)) ⌝ }
 {
     let ring = starts[place];
@@ -189,12 +189,12 @@ fn enact(
     requires { ⌜ CanEnact (now shares) (now lens) largest place time (engineNow (now starts) (now counts) (now deficits) (now ready) (now next) (now heads) (now tails) (now held) (numbersNow clock active pending slot (left .0))) ⌝ }
     ensures { λ r. ⌜
         (let before =
-            engineNow (now (starts .entry)) (now (counts .entry)) (now (deficits .entry)) (now (ready .entry))
-            (now (next .entry)) (now (heads .entry)) (now (tails .entry)) (now (held .entry))
-            (numbersNow clock active pending slot (left .0)) in
+        engineNow (now (starts .entry)) (now (counts .entry)) (now (deficits .entry)) (now (ready .entry))
+        (now (next .entry)) (now (heads .entry)) (now (tails .entry)) (now (held .entry))
+        (numbersNow clock active pending slot (left .0)) in
         (engineNow (now (starts .exit)) (now (counts .exit)) (now (deficits .exit)) (now (ready .exit))
-            (now (next .exit)) (now (heads .exit)) (now (tails .exit)) (now (held .exit)) (r .after)
-            ≡ enacted (now (shares .entry)) (now (lens .entry)) largest place time before)
+        (now (next .exit)) (now (heads .exit)) (now (tails .exit)) (now (held .exit)) (r .after)
+        ≡ enacted (now (shares .entry)) (now (lens .entry)) largest place time before)
         × (r .lost .0 ≡ lostFrom (now (lens .entry)) place (opened (now (shares .entry)) largest place time before))) ⌝ }
 {
     let begun = open_slot(
