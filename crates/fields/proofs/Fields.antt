@@ -57,7 +57,6 @@ none-sent m t = call-cases m t (Sends m) (record {
   begins = λ r t p on q e. absurd (true≢false e);
 })
 
-
 step-serve : (m : Board.Board) → step m serve! ≡ serve m
 unfolding step
 step-serve m = refl

@@ -1,7 +1,6 @@
 // Serving: the slot that serves sends its front record. Arrays are lent one by one, so that no board is copied.
 ghost use mathlib.Core.Path.{_≡_};
 ghost use Prim.Native.Nat.{_+_, _-_, _*_, _<_};
-ghost use lib.Dec.{eqb};
 ghost use lib.ListN.{getD};
 ghost use Rattle.units.specs.Classes.{classOf};
 ghost use Rattle.board.specs.Memory.{queuesNow, engineNow, numbersNow};
@@ -17,15 +16,15 @@ use slots::Choice;
 use units::Bytes;
 use units::Parts;
 
-// What a send leaves besides the arrays: the numbers after it, and what was left of the slot where the lane emptied, which is
-// lost.
+// What a send leaves besides the arrays: the numbers after it, and what was left of the slot where the lane emptied, which
+// is lost.
 pub struct Sent {
     pub after: After,
     pub lost: Parts,
 }
 
-// The code of one serve; what it tells: the place and the table entry of the record sent, and the bytes charged for it; the
-// clock at which its slot began, whether the slot began with it, and the parts lost; and the numbers after it.
+// The code of one serve; what it tells: the place and the table entry of the record sent, and the bytes charged for it;
+// the clock at which its slot began, whether the slot began with it, and the parts lost; and the numbers after it.
 pub struct Step {
     pub code: u8,
     pub place: usize,
@@ -62,12 +61,12 @@ fn send(
     requires { ⌜ CanSend (now shares) (now lens) place (engineNow (now starts) (now counts) (now deficits) (now ready) (now next) (now heads) (now tails) (now held) (numbersNow clock active pending (place + 1) (left .0))) ⌝ }
     ensures { λ r. ⌜
         (let before =
-            engineNow (now (starts .entry)) (now (counts .entry)) (now (deficits .entry)) (now (ready .entry))
-            (now (next .entry)) (now (heads .entry)) (now (tails .entry)) (now (held .entry))
-            (numbersNow clock active pending (place + 1) (left .0)) in
+        engineNow (now (starts .entry)) (now (counts .entry)) (now (deficits .entry)) (now (ready .entry))
+        (now (next .entry)) (now (heads .entry)) (now (tails .entry)) (now (held .entry))
+        (numbersNow clock active pending (place + 1) (left .0)) in
         (engineNow (now (starts .exit)) (now (counts .exit)) (now (deficits .exit)) (now (ready .exit))
-            (now (next .exit)) (now (heads .exit)) (now (tails .exit)) (now (held .exit)) (r .after)
-            ≡ sentFrom (now (shares .entry)) (now (lens .entry)) place before)
+        (now (next .exit)) (now (heads .exit)) (now (tails .exit)) (now (held .exit)) (r .after)
+        ≡ sentFrom (now (shares .entry)) (now (lens .entry)) place before)
         × (r .lost .0 ≡ lostFrom (now (lens .entry)) place before)) ⌝ }
 {
     let ring = starts[place];
@@ -189,13 +188,14 @@ fn enact(
     requires { ⌜ CanEnact (now shares) (now lens) largest place time (engineNow (now starts) (now counts) (now deficits) (now ready) (now next) (now heads) (now tails) (now held) (numbersNow clock active pending slot (left .0))) ⌝ }
     ensures { λ r. ⌜
         (let before =
-            engineNow (now (starts .entry)) (now (counts .entry)) (now (deficits .entry)) (now (ready .entry))
-            (now (next .entry)) (now (heads .entry)) (now (tails .entry)) (now (held .entry))
-            (numbersNow clock active pending slot (left .0)) in
+        engineNow (now (starts .entry)) (now (counts .entry)) (now (deficits .entry)) (now (ready .entry))
+        (now (next .entry)) (now (heads .entry)) (now (tails .entry)) (now (held .entry))
+        (numbersNow clock active pending slot (left .0)) in
         (engineNow (now (starts .exit)) (now (counts .exit)) (now (deficits .exit)) (now (ready .exit))
-            (now (next .exit)) (now (heads .exit)) (now (tails .exit)) (now (held .exit)) (r .after)
-            ≡ enacted (now (shares .entry)) (now (lens .entry)) largest place time before)
-        × (r .lost .0 ≡ lostFrom (now (lens .entry)) place (opened (now (shares .entry)) largest place time before))) ⌝ }
+        (now (next .exit)) (now (heads .exit)) (now (tails .exit)) (now (held .exit)) (r .after)
+        ≡ enacted (now (shares .entry)) (now (lens .entry)) largest place time before)
+        × (r .lost .0
+        ≡ lostFrom (now (lens .entry)) place (opened (now (shares .entry)) largest place time before))) ⌝ }
 {
     let begun = open_slot(
         place,
