@@ -7,7 +7,7 @@ use mathlib.Core.List.{List}
 use Prim.Native.Nat.{ℕ, suc, _+_, _-_, _≤_, _<_}
 use native.Mathlib.Omega.{arith}
 use lib.Dec.{eqb, leb, ltb}
-use lib.ListN.{length, getD, set}
+use lib.ListN.{length, set}
 use Rattle.base.proofs.Numbers.{split, leb-yes, leb-no, false-lt}
 use Rattle.base.specs.Sums.{below}
 use Rattle.arrays.specs.Lists.{totalOf}
@@ -70,8 +70,9 @@ module _ (m : Board.Board) (f : Fit m) (ids lens : List ℕ) (old new : ℕ) whe
       agrees renamedTo by-rename m _ (numberOutside new) 4 _ _ _ refl refl λ e4.
       known-by m (f .tidy) renamedTo by-rename old (renamedAt numbers new) (renaming 6 numbers) _ refl λ h.
       let next = rename-is m (f .tidy) (whereIs m old) (inside m f (whereIs m old) h) new in
-      unknown-by m (f .tidy) renamedTo by-rename new (λ j. renaming 5 numbers) (renaming 0 (set numbers (whereIs m old) new)) _
-      refl (ap (λ (c : struct.Board). returned (replied 0 c) ids lens) next)
+      let goes = renaming 0 (set numbers (whereIs m old) new) in
+      unknown-by m (f .tidy) renamedTo by-rename new (λ j. renaming 5 numbers) goes _ refl
+      (ap (λ (c : struct.Board). returned (replied 0 c) ids lens) next)
 
 -- ---- OPEN
 module _ (m : Board.Board) (f : Fit m) (ids lens : List ℕ) (o : Opening) where
@@ -146,8 +147,10 @@ module _ (m : Board.Board) (f : Fit m) (ids lens : List ℕ) (n : ℕ) where
   unfolding closedIn step closeBlock
   closed-is =
       let closes = closedAt (b .active) (b .numbers) (b .shares) (b .starts) (b .counts) (b .held) in
-      known-by m (f .tidy) closedTo by-close n closes (closing 6 (b .numbers) (b .shares) (b .starts) (b .held)) _ refl λ h.
-      agrees closedTo by-close m _ (waits (at m (whereIs m n))) 10 _ _ _ (ap (ltb 0) (count-is m (whereIs m n))) refl λ e10.
+      let stays = closing 6 (b .numbers) (b .shares) (b .starts) (b .held) in
+      known-by m (f .tidy) closedTo by-close n closes stays _ refl λ h.
+      let waiting = ap (ltb 0) (count-is m (whereIs m n)) in
+      agrees closedTo by-close m _ (waits (at m (whereIs m n))) 10 _ _ _ waiting refl λ e10.
       let can = can-close m n (ap not (leb-yes (suc (whereIs m n)) 64 h), (e10, tt)) in
       ap (λ (s : ℕ). closedTo (closedNow (whereIs m n) s)) (share-is m (whereIs m n))
       ∙ ap (λ (c : struct.Board). returned (replied 0 c) ids lens) (closed-at can)

@@ -16,8 +16,8 @@ use Rattle.board.specs.Leaving.{Returned, written, Known, ruled}
 abbrev pub turned : struct.Board → List ℕ → List ℕ → Board.Board → Single → Turn → Returned Reply
 turned b ids lens m x t = written b ids lens (record { answer = told m (t .out); board = some (t .next); entries = writes x (t .out); list = [] })
 
-pub agrees : {A R : Type 0} (left : A → R) (came : Turn → R) (m : Board.Board) (t holds : Bool) (code : ℕ) (stop rest : A)
-    (u : Turn) → t ≡ holds → left stop ≡ came (refuse m code) → (holds ≡ false → left rest ≡ came u)
+pub agrees : {A R : Type 0} (left : A → R) (came : Turn → R) (m : Board.Board) (t holds : Bool) (code : ℕ)
+    (stop rest : A) (u : Turn) → t ≡ holds → left stop ≡ came (refuse m code) → (holds ≡ false → left rest ≡ came u)
     → left (cond t stop rest) ≡ came (cond holds (refuse m code) u)
 agrees left came m t holds code stop rest u e stopped later = ap (λ (c : Bool). left (cond c stop rest)) e ∙ go holds refl
   where

@@ -122,7 +122,8 @@ eqb-turn a b = go (ℕ-discrete a b)
 module _ (m : Board.Board) (g : Tidy m) where
   place-is : (n : ℕ) → n ≢ 0 → placeWith (encode m .numbers) n ≡ whereIs m n
   unfolding placeWith whereIs
-  place-is n ne = least-ext _ _ 64 (λ i. ap (λ (a : ℕ). eqb a n) (number-is m i) ∙ by-name (at m i) (g .shape .placeOk i .named))
+  place-is n ne =
+      least-ext _ _ 64 (λ i. ap (λ (a : ℕ). eqb a n) (number-is m i) ∙ by-name (at m i) (g .shape .placeOk i .named))
     where
       by-name : (x : Place) → (x ≡ freePlace) ⊎ ((1 ≤ x .number) × (1 ≤ x .share)) → eqb (x .number) n ≡ (ltb 0 (x .share) && eqb n (x .number))
       by-name x (inl e) = rw e (ne-eqb 0 n (λ f. ne (sym f)))

@@ -35,8 +35,8 @@ module _ (shares lens : List ℕ) (p : ℕ) (e : Engine) (entry charge on k : �
 
 -- what is lost of the slot
 module _ (lens : List ℕ) (p : ℕ) (e : Engine) where
-  pub lost-last : (entry charge : ℕ) → entry ≡ laneEntry p (getD (e .starts) p 0) 0 → charge ≡ chargeOf (getD lens entry 0)
-      → getD (e .counts) p 0 - 1 ≡ 0 → e .now .left .0 - charge ≡ lostFrom lens p e
+  pub lost-last : (entry charge : ℕ) → entry ≡ laneEntry p (getD (e .starts) p 0) 0
+      → charge ≡ chargeOf (getD lens entry 0) → getD (e .counts) p 0 - 1 ≡ 0 → e .now .left .0 - charge ≡ lostFrom lens p e
   unfolding lostFrom
   lost-last entry charge entry-is charge-is z =
       rw (eq-eqb (getD (e .counts) p 0 - 1) 0 z, ← entry-is, ← charge-is)
@@ -66,8 +66,8 @@ module _ (shares lens : List ℕ) (L bytes room : ℕ) (e : Engine) where
 
       pub within-done : charge ≤ bytes → (n : Engine) (lost : ℕ)
           → (n ≡ enacted shares lens L p t e) × (lost ≡ lostFrom lens p (opened shares L p t e))
-          → let began = eqb (e .now .slot) 0 in
-          let told : Told = record { place = p; entry = entry; bytes = charge; clock = t; began = began; lost = lost } in
+          → let b = eqb (e .now .slot) 0 in
+          let told : Told = record { place = p; entry = entry; bytes = charge; clock = t; began = b; lost = lost } in
           withinOf 0 told n ≡ servedWithin shares lens L bytes room e
       unfolding servedWithin
       within-done h n lost (n-is, lost-is) =

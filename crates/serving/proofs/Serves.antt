@@ -260,9 +260,8 @@ pub record Serves (m : Board.Board) (ids lens : List ℕ) (s : Sending) (next : 
   pub short : s .front .bytes ≤ m .largest
   pub entry : laneEntry (s .place) (at m (s .place) .start) 0 ≡ s .entry
   pub began : eqb (encode m .slot) 0 ≡ s .began
-  pub lost :
-      lostFrom lens (s .place) (opened (encode m .shares) (encode m .largest) (s .place) (s .clock) (engineOf (encode m)))
-      ≡ s .lost
+  pub lost : let b = encode m in
+      lostFrom lens (s .place) (opened (b .shares) (b .largest) (s .place) (s .clock) (engineOf b)) ≡ s .lost
 
 pub record Refuses (m : Board.Board) (code : ℕ) (next : Board.Board) : Type 0 where
   pub refusal : code ≢ 0

@@ -82,8 +82,8 @@ engineAfter w =
       now = record { clock = w .step .clock; active = w .step .active; pending = w .step .pending; slot = w .step .slot; left = w .step .left };
     }
 
--- what a serve tells of the record sent: its place, its entry and its charge; the slot's clock, whether the slot began with
--- it, and the parts lost
+-- what a serve tells of the record sent: its place, its entry and its charge; the slot's clock, whether the slot began
+-- with it, and the parts lost
 pub record Told : Type 0 where
   pub place : ℕ
   pub entry : ℕ

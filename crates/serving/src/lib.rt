@@ -1,7 +1,6 @@
 // Serving: the slot that serves sends its front record. Arrays are lent one by one, so that no board is copied.
 ghost use mathlib.Core.Path.{_≡_};
 ghost use Prim.Native.Nat.{_+_, _-_, _*_, _<_};
-ghost use lib.Dec.{eqb};
 ghost use lib.ListN.{getD};
 ghost use Rattle.units.specs.Classes.{classOf};
 ghost use Rattle.board.specs.Memory.{queuesNow, engineNow, numbersNow};
@@ -17,15 +16,15 @@ use slots::Choice;
 use units::Bytes;
 use units::Parts;
 
-// What a send leaves besides the arrays: the numbers after it, and what was left of the slot where the lane emptied, which is
-// lost.
+// What a send leaves besides the arrays: the numbers after it, and what was left of the slot where the lane emptied, which
+// is lost.
 pub struct Sent {
     pub after: After,
     pub lost: Parts,
 }
 
-// The code of one serve; what it tells: the place and the table entry of the record sent, and the bytes charged for it; the
-// clock at which its slot began, whether the slot began with it, and the parts lost; and the numbers after it.
+// The code of one serve; what it tells: the place and the table entry of the record sent, and the bytes charged for it;
+// the clock at which its slot began, whether the slot began with it, and the parts lost; and the numbers after it.
 pub struct Step {
     pub code: u8,
     pub place: usize,
@@ -195,7 +194,8 @@ fn enact(
         (engineNow (now (starts .exit)) (now (counts .exit)) (now (deficits .exit)) (now (ready .exit))
         (now (next .exit)) (now (heads .exit)) (now (tails .exit)) (now (held .exit)) (r .after)
         ≡ enacted (now (shares .entry)) (now (lens .entry)) largest place time before)
-        × (r .lost .0 ≡ lostFrom (now (lens .entry)) place (opened (now (shares .entry)) largest place time before))) ⌝ }
+        × (r .lost .0
+        ≡ lostFrom (now (lens .entry)) place (opened (now (shares .entry)) largest place time before))) ⌝ }
 {
     let begun = open_slot(
         place,

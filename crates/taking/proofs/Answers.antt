@@ -1,6 +1,6 @@
 -- A RECORD COMES: codes and steps of the code are the rules' turn, with the tables; on a value that is known to be good
 -- what the code asks holds, and what it leaves is the promise.
-use mathlib.Core.Path.{_≡_, refl, ap, subst, _∙_}
+use mathlib.Core.Path.{_≡_, refl, ap, subst}
 use mathlib.Core.Bool.{cond, _||_}
 use mathlib.Core.List.{List}
 use Prim.Native.Nat.{ℕ, _≤_, _<_}

@@ -63,8 +63,8 @@ fn take_in(
     join_in(next, heads, tails, ready, active, i, k as usize, time)
 }
 
-// What taking a record leaves besides the arrays: the code, and the set of active classes; and what it tells: the place and
-// the table entry of the record, and how many stood before it in its lane, all 0 where it was refused.
+// What taking a record leaves besides the arrays: the code, and the set of active classes; and what it tells: the place
+// and the table entry of the record, and how many stood before it in its lane, all 0 where it was refused.
 pub struct Took {
     pub code: u8,
     pub active: u32,
@@ -108,10 +108,13 @@ pub fn record_in(
     requires { ⌜ RecordNeeds (blocks (now numbers) (now shares) (now starts)) (now tails) clock (now ids) (now lens) ⌝ }
     ensures { λ r. ⌜
         recording (r .code) (tookTells r)
-        (taking (now (counts .exit)) (ordersNow (now (next .exit)) (now (heads .exit)) (now (tails .exit)) (now (ready .exit)) (r .active)))
+        (taking (now (counts .exit))
+        (ordersNow (now (next .exit)) (now (heads .exit)) (now (tails .exit)) (now (ready .exit)) (r .active)))
         (now (ids .exit)) (now (lens .exit))
-        ≡ recordedIn (blocks (now (numbers .entry)) (now (shares .entry)) (now (starts .entry))) largest clock block id length
-        (taking (now (counts .entry)) (ordersNow (now (next .entry)) (now (heads .entry)) (now (tails .entry)) (now (ready .entry)) active))
+        ≡ recordedIn (blocks (now (numbers .entry)) (now (shares .entry)) (now (starts .entry)))
+        largest clock block id length
+        (taking (now (counts .entry))
+        (ordersNow (now (next .entry)) (now (heads .entry)) (now (tails .entry)) (now (ready .entry)) active))
         (now (ids .entry)) (now (lens .entry)) ⌝ }
 {
     if finding::outside(block, length as u32, largest) {
