@@ -53,19 +53,19 @@ d-start : (k n : ℕ) → Decides (eqb (n % 2 ^ k) 0) (Start k n)
 unfolding Start
 d-start k n = d-iff (d-eqb (n % 2 ^ k) 0) (λ e. (n / 2 ^ k, omega (arith, e, div-add-mod' n (2 ^ k)))) (λ w. ap (λ (a : ℕ). a % 2 ^ k) (w .1) ∙ mul-mod-left (w .0) (2 ^ k))
 
-d-ready : (clock : ℕ) (x : Place) → Decides (readyInRange clock x) (SeatP clock x)
+pub d-ready : (clock : ℕ) (x : Place) → Decides (readyInRange clock x) (SeatP clock x)
 d-ready clock x = d-imp (isQueued (x .stand)) (d-and (d-start (blockClass x) (readyNum (x .stand))) (d-leb (readyNum (x .stand)) (nextStart (blockClass x) clock)))
 
 -- the clauses on a place by itself
-record PlacePasses (L : ℕ) (x : Place) : Type 0 where
-  number : numberInRange x ≡ true
-  share : shareInRange x ≡ true
-  ring : ringInRange x ≡ true
-  lengths : lengthsIn L (x .lane) ≡ true
-  deficit : deficitInRange L x ≡ true
-  free : freeIsZero x ≡ true
-  stands : standsByLane x ≡ true
-  slot : slotOf L x (x .stand) ≡ true
+pub record PlacePasses (L : ℕ) (x : Place) : Type 0 where
+  pub number : numberInRange x ≡ true
+  pub share : shareInRange x ≡ true
+  pub ring : ringInRange x ≡ true
+  pub lengths : lengthsIn L (x .lane) ≡ true
+  pub deficit : deficitInRange L x ≡ true
+  pub free : freeIsZero x ≡ true
+  pub stands : standsByLane x ≡ true
+  pub slot : slotOf L x (x .stand) ≡ true
 
 d-ring : (x : Place) → Decides (ringInRange x) ((x .start < depth x) × (length (x .lane) ≤ depth x))
 d-ring x = d-and (d-leb (suc (x .start)) (depth x)) (d-leb (length (x .lane)) (depth x))
@@ -116,7 +116,7 @@ place-ok L x h = record {
         let none : length (x .lane) ≤ 0 = omega arith in
         inl (λ j. record { number = number j; share = share j; start = start j; lane = empty (x .lane) none j; deficit = deficit j; stand = lane-out L (x .share) (x .lane) (x .stand) none standOk j })
 
-place-passes : (L : ℕ) (x : Place) → PlaceOk L x → PlacePasses L x
+pub place-passes : (L : ℕ) (x : Place) → PlaceOk L x → PlacePasses L x
 place-passes L x ok = record {
   number = d-number x .no (λ o. named-num x (true-le 1 (x .share) o) (ok .named));
   share = leb-yes (x .share) 65536 (ok .most);
@@ -145,7 +145,7 @@ d-apart : (b : Board) → Decides (numbersApart b) ((p : ℕ) → p < 64 → (q 
 unfolding numbersApart
 d-apart b = d-all 64 _ _ (λ p. d-all 64 _ _ (λ q. d-or (d-eqb p q) (d-not (d-and (d-leb 1 (at b p .share)) (d-and (d-leb 1 (at b q .share)) (d-eqb (at b p .number) (at b q .number)))))))
 
-d-held : (b : Board) → Decides (heldWhileWaiting b) (quiet b ≡ true → (k : ℕ) → k < 17 → b .held k ≡ 0)
+pub d-held : (b : Board) → Decides (heldWhileWaiting b) (quiet b ≡ true → (k : ℕ) → k < 17 → b .held k ≡ 0)
 d-held b = d-imp (quiet b) (d-all 17 _ _ (λ k. d-eqb (b .held k) 0))
 
 -- ---- the orders and the slot
@@ -159,7 +159,7 @@ d-inside (p ∷ ps) = d-iff (d-and (d-leb (suc p) 64) (d-inside ps)) (λ w q h. 
     go w q h (yes e) = rw e (w .0)
     go w q h (no e) = w .1 q (omega (arith, ap oneIf (eqb-no q p e)))
 
-d-rising : (l : List Place) (ps : List ℕ) → Decides (neverFalling l ps) (Rising l ps)
+pub d-rising : (l : List Place) (ps : List ℕ) → Decides (neverFalling l ps) (Rising l ps)
 unfolding neverFalling Rising count
 d-rising l [] = record { yes = λ e. tt; no = λ e. refl }
 d-rising l (p ∷ []) = record { yes = λ e. (λ q h. absurd (omega arith), tt); no = λ e. refl }

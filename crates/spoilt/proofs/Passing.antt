@@ -1,5 +1,5 @@
 -- A value that is not spoilt passes every rule of the test.
-use mathlib.Core.Path.{_≡_, refl, sym, ap, ap₂, _∙_}
+use mathlib.Core.Path.{_≡_, refl, sym, ap, ap₂, subst, _∙_}
 use mathlib.Core.Bool.{Bool, true, false, cond, not, _&&_, _||_}
 use mathlib.Core.Logic.{_⊎_, inl, inr}
 use mathlib.Core.Option.{none, some}
@@ -13,24 +13,24 @@ use lib.ListN.{length, getD, List·getD-map}
 use borrow.Author.Tests.{not-true}
 use Rattle.base.specs.Sums.{oneIf, below}
 use Rattle.base.specs.Tests.{alike, allBelow}
-use Rattle.base.proofs.Numbers.{eqb-yes, true-le}
+use Rattle.base.proofs.Numbers.{eqb-yes, leb-yes}
 use Rattle.base.proofs.Sums.{below-ext}
-use Rattle.base.proofs.Tests.{and-left, and-right, and-both, all-at}
-use Rattle.base.proofs.Decides.{Each, d-every, d-and, d-imp, d-eqb, d-leb, d-true}
+use Rattle.base.proofs.Tests.{and-left, and-right, and-both}
+use Rattle.base.proofs.Decides.{Each, d-and, d-imp, d-eqb, d-leb, d-true}
 use Rattle.bits.specs.Sets.{setBelow}
 use Rattle.bits.proofs.Sets.{set-ext}
 use Rattle.units.specs.Classes.{classOf, nextStart}
 use Rattle.units.specs.Credit.{largestCharge, chargeOf}
 use Rattle.lanes.specs.Lanes.{laneEntry}
 use Rattle.rules.specs.Board
-use Rattle.rules.specs.Board.{out, queued, serving, Place, freePlace, at, front, charge, blockClass, isOpen, waits, active, pending}
-use Rattle.rules.specs.Spoilt
-use Rattle.rules.specs.Spoilt.{everyPlace, isQueued, isServing, lengthsIn, standsByLane, isAt, count, readyNum, neverFalling, slotOf, slotInTime, clauses, unspoilt}
+use Rattle.rules.specs.Board.{out, queued, serving, Place, freePlace, at, front, charge, blockClass, isOpen, waits, spent, active, pending}
+use Rattle.rules.specs.Spoilt.{isQueued, isServing, isAt, count, readyNum, slotOf}
 use Rattle.rules.proofs.Orders.{ready}
 use Rattle.rules.proofs.Shape.{listed-in}
 use Rattle.rules.proofs.Slot.{serving-in}
-use Rattle.rules.proofs.Spoilt.{unspoilt-tidy}
+use Rattle.rules.proofs.Spoilt.{PlacePasses, place-passes, d-ready, d-held, d-rising, unspoilt-tidy}
 use Rattle.rules.proofs.Tidy.{Tidy}
+use Rattle.rules.proofs.Turns.{busy}
 use Rattle.board.specs.declared.Board as struct
 use Rattle.board.specs.Reading.{lastLink, behind, slotLeft, encode, placeOf, slotBy, view, Sound, bareOf, Sized}
 use Rattle.board.proofs.Lists.{getD-tab, linked-behind, behind-none}
@@ -56,9 +56,10 @@ module _ (b : struct.Board) (ids lens : List ℕ) (z : Sized b) (s : Sound b ids
   tidy : Tidy (view b ids lens)
   tidy = unspoilt-tidy (view b ids lens) (seventeen-view b ids lens (z .heads) (z .held)) (s .keeps)
 
-  kept : Each (clauses (view b ids lens))
-  unfolding unspoilt
-  kept = d-every (clauses (view b ids lens)) .yes (s .keeps)
+  -- the clauses on a place, by name
+  passes : (p : ℕ) → p < 64 → PlacePasses (b .largest) (placeOf b ids lens p)
+  unfolding view
+  passes p h = subst (PlacePasses (b .largest)) (inner b ids lens p h) (place-passes (b .largest) (at v p) (tidy .shape .placeOk p))
 
   -- ---- what the fields spell
 
@@ -92,9 +93,6 @@ module _ (b : struct.Board) (ids lens : List ℕ) (z : Sized b) (s : Sound b ids
 
   -- ---- a place
 
-  at-place : (t : Place → Bool) → everyPlace v t ≡ true → (p : ℕ) → p < 64 → t (placeOf b ids lens p) ≡ true
-  at-place t e p h = ap t (sym (inner b ids lens p h)) ∙ all-at (λ q. t (at v q)) 64 p e h
-
   unused : (p : ℕ) → p < 64 → unusedIsZero (inOrder p (getD (b .counts) p 0) (b .slot)) (getD (b .ready) p 0) (getD (b .next) p 0) ≡ true
   unfolding unusedIsZero
   unused p h = go (inOrder p (getD (b .counts) p 0) (b .slot)) refl
@@ -112,15 +110,15 @@ module _ (b : struct.Board) (ids lens : List ℕ) (z : Sized b) (s : Sound b ids
   place-rules : (p : ℕ) → p < 64 → Each (placeRulesAt b p)
   unfolding view
   place-rules p h = (
-    sym (number-is b ids lens p) ∙ at-place Spoilt.numberInRange (kept .1 .1 .1 .1 .0) p h,
+    sym (number-is b ids lens p) ∙ passes p h .number,
     (
-      sym (share-is b ids lens p) ∙ at-place Spoilt.shareInRange (kept .1 .1 .1 .1 .1 .0) p h,
+      sym (share-is b ids lens p) ∙ passes p h .share,
       (
-        sym (ring-is b ids lens p) ∙ at-place Spoilt.ringInRange (kept .1 .1 .1 .1 .1 .1 .0) p h,
+        sym (ring-is b ids lens p) ∙ passes p h .ring,
         (
-          sym (deficit-is b ids lens p) ∙ at-place (Spoilt.deficitInRange (b .largest)) (kept .1 .1 .1 .1 .1 .1 .1 .1 .0) p h,
+          sym (deficit-is b ids lens p) ∙ passes p h .deficit,
           (
-            sym (free-is b ids lens p) ∙ at-place Spoilt.freeIsZero (kept .1 .1 .1 .1 .1 .1 .1 .1 .1 .0) p h,
+            sym (free-is b ids lens p) ∙ passes p h .free,
             (
               unused p h,
               tt,
@@ -135,7 +133,7 @@ module _ (b : struct.Board) (ids lens : List ℕ) (z : Sized b) (s : Sound b ids
 
   open-at : (p : ℕ) → p < 64 → eqb (getD (b .counts) p 0) 0 ≡ false → 1 ≤ getD (b .shares) p 0
   unfolding placeOf bareOf
-  open-at p h e = d-imp (waits (placeOf b ids lens p)) (d-leb 1 (getD (b .shares) p 0)) .yes (and-right (alike (waits (placeOf b ids lens p)) _) _ (at-place standsByLane (kept .1 .1 .1 .1 .1 .1 .1 .1 .1 .1 .1 .1 .0) p h)) (waits-is b ids lens p ∙ ap not e)
+  open-at p h e = d-imp (waits (placeOf b ids lens p)) (d-leb 1 (getD (b .shares) p 0)) .yes (and-right (alike (waits (placeOf b ids lens p)) _) _ (passes p h .stands)) (waits-is b ids lens p ∙ ap not e)
 
   slot-at : (p : ℕ) → b .slot ≡ suc p → (p < 64) × (eqb (getD (b .counts) p 0) 0 ≡ false)
   slot-at p e = (inside, not-true (eqb (getD (b .counts) p 0) 0) (and-left (not (eqb (getD (b .counts) p 0) 0)) _ (sym (serving-is b ids lens p) ∙ ap (λ (x : Place). isServing (x .stand)) (sym (inner b ids lens p inside)) ∙ serves)))
@@ -162,7 +160,7 @@ module _ (b : struct.Board) (ids lens : List ℕ) (z : Sized b) (s : Sound b ids
   ready-at : (k q : ℕ) → 1 ≤ count q (v .orders k) → (readyNum (at v q .stand) % 2 ^ k ≡ 0) × (readyNum (at v q .stand) ≤ nextStart k (b .clock))
   unfolding view
   ready-at k q c = rw (← same) at (d-imp (isQueued (at v q .stand)) (d-and (d-eqb (readyNum (at v q .stand) % 2 ^ blockClass (at v q)) 0) (d-leb (readyNum (at v q .stand)) (nextStart (blockClass (at v q)) (b .clock)))) .yes
-      (all-at (λ p. Spoilt.readyInRange (b .clock) (at v p)) 64 q (kept .1 .1 .1 .1 .1 .1 .1 .1 .1 .1 .1 .1 .1 .1 .0) (small v tidy k q c)) (listed-at k q c .0))
+      (d-ready (b .clock) (at v q) .no (tidy .shape .seat q)) (listed-at k q c .0))
     where
       same : k ≡ blockClass (at v q)
       same = listed-at k q c .1
@@ -192,7 +190,7 @@ module _ (b : struct.Board) (ids lens : List ℕ) (z : Sized b) (s : Sound b ids
   walks : (k : ℕ) → k < 17 → lengthOf b k ≡ length (orderOf b k)
   unfolding view
   walks k h = walked-from b k ends! (belong-all b k (orderOf b k) (λ q c. d-belongs b k q .no (belong k q c)))
-      (sym (falls-as (v .places) (b .ready) (orderOf b k) (λ q c. sym (ready-field q (small v tidy k q c)))) ∙ all-at (λ j. neverFalling (v .places) (v .orders j)) 17 k (kept .1 .1 .1 .1 .1 .1 .1 .1 .1 .1 .1 .1 .1 .1 .1 .0) h)
+      (sym (falls-as (v .places) (b .ready) (orderOf b k) (λ q c. sym (ready-field q (small v tidy k q c)))) ∙ d-rising (v .places) (v .orders k) .no (tidy .shape .rising k))
       (last-is (orderOf b k) ∙ sym (tail-field k h))
     where
       ends! : ends (b .next) 64 (getD (b .heads) k 0) ≡ true
@@ -213,14 +211,14 @@ module _ (b : struct.Board) (ids lens : List ℕ) (z : Sized b) (s : Sound b ids
   front-rule : (p : ℕ) → b .slot ≡ suc p → p < 64 → eqb (getD (b .counts) p 0) 0 ≡ false → (charge (front (placeOf b ids lens p)) * 65536 ≤ b .left .0) × (b .left .0 < 3 * largestCharge (b .largest) * 65536)
   unfolding view
   front-rule p e h c = d-and (d-true (waits (placeOf b ids lens p))) (d-and (d-leb (charge (front (placeOf b ids lens p)) * 65536) (b .left .0)) (d-leb (suc (b .left .0)) (3 * largestCharge (b .largest) * 65536))) .yes
-      (ap (slotOf (b .largest) (placeOf b ids lens p)) (sym stands) ∙ at-place (λ x. slotOf (b .largest) x (x .stand)) (kept .1 .1 .1 .1 .1 .1 .1 .1 .1 .1 .1 .1 .1 .1 .1 .1 .0) p h) .1
+      (ap (slotOf (b .largest) (placeOf b ids lens p)) (sym stands) ∙ passes p h .slot) .1
     where
       stands : placeOf b ids lens p .stand ≡ serving (b .left .0)
       stands = stand-is b ids lens p ∙ ap₂ (λ (c s : Bool). cond c out (cond s (serving (b .left .0)) (queued (getD (b .ready) p 0)))) c (eqb-yes (b .slot) (p + 1) (e ∙ sym (add-one p)))
 
   early : (p : ℕ) → b .slot ≡ suc p → b .clock < 2 ^ 62
   unfolding view
-  early p e = true-le (suc (b .clock)) (2 ^ 62) (ap (λ (t : ℕ). slotInTime (slotBy t) (b .clock)) (sym e) ∙ kept .1 .1 .1 .1 .1 .1 .1 .1 .1 .1 .1 .1 .1 .1 .1 .1 .1 .0)
+  early p e = omega (arith, tidy .time, ap busy (slot-as p e))
 
   slot-rule : SlotRule b lens
   unfolding chargeOf largestCharge
@@ -246,15 +244,15 @@ module _ (b : struct.Board) (ids lens : List ℕ) (z : Sized b) (s : Sound b ids
       go p h (inr f) = inr (λ q l e. tidy .shape .names p q (f .1) (named p q h l (f .0) e (tidy .shape .placeOk q .named)) (number-at b ids lens p h ∙ e ∙ sym (number-at b ids lens q l)))
 
   pub rules-of : Rules b lens
-  unfolding view sizeInRange clockInRange sharesFit heldWhileWaiting noneHeld
+  unfolding view spent sizeInRange clockInRange sharesFit heldWhileWaiting noneHeld
   rules-of = record {
-    size = kept .1 .0;
-    clock = kept .1 .1 .0;
+    size = and-both (leb 64 (b .largest)) (leb (b .largest) 2048) (leb-yes 64 (b .largest) (tidy .shape .least)) (leb-yes (b .largest) 2048 (tidy .shape .most));
+    clock = leb-yes (b .clock) (2 ^ 62) (omega (arith, tidy .time));
     apart = apart;
     places = place-rules;
-    lanes = λ p h. lengths-to b ids lens p (at-place (λ x. lengthsIn (b .largest) (x .lane)) (kept .1 .1 .1 .1 .1 .1 .1 .0) p h);
-    shares = ap (λ (n : ℕ). leb n 65536) (sym (spent-is b ids lens z)) ∙ kept .1 .1 .1 .1 .1 .1 .1 .1 .1 .1 .0;
-    held = ap (λ (t : Bool). not t || allBelow 17 (λ k. eqb (getD (b .held) k 0) 0)) (ap (λ (n : ℕ). eqb n 0) active-field ∙ sym (quiet-is b ids lens ordered)) ∙ kept .1 .1 .1 .1 .1 .1 .1 .1 .1 .1 .1 .0;
+    lanes = λ p h. lengths-to b ids lens p (passes p h .lengths);
+    shares = ap (λ (n : ℕ). leb n 65536) (sym (spent-is b ids lens z)) ∙ leb-yes (spent v) 65536 (tidy .shape .spent);
+    held = ap (λ (t : Bool). not t || allBelow 17 (λ k. eqb (getD (b .held) k 0) 0)) (ap (λ (n : ℕ). eqb n 0) active-field ∙ sym (quiet-is b ids lens ordered)) ∙ d-held v .no (λ q k _. tidy .calm q k);
     slot = slot-rule;
     orders = λ k h. omega (arith, walks k h, follow-length (b .next) 64 (getD (b .heads) k 0));
     listed = all-listed;
