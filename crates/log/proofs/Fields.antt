@@ -12,7 +12,7 @@ use Rattle.log.specs.declared.Stage.{Stage}
 use Rattle.log.specs.declared.Event.{Event}
 use Rattle.log.specs.declared.Field.the-variants.{Whole, Broken}
 use Rattle.log.specs.declared.Frame.the-variants.{Framed, Cut}
-use Rattle.log.specs.Format.{tagAt, lengthAt, isFramed, frameAt, lengthOf, rightLength, eventOf, inTurn, isWhole, fieldAt}
+use Rattle.log.specs.Format.{tagAt, lengthAt, isFramed, frameAt, lengthOf, lastTag, rightLength, eventOf, inTurn, isWhole, fieldAt}
 
 pub differ : {A : Type 0} → true ≡ false → A
 differ e = absurd (let z : _≡_ {A = ℕ} 0 1 = cc in omega arith)
@@ -63,9 +63,10 @@ pub right-room : (tag n : ℕ) → rightLength tag n ≡ true → lengthOf tag �
 unfolding rightLength
 right-room tag n h = go (leb 128 tag) refl h
   where
-    go : (t : Bool) → leb 128 tag ≡ t → t || ((leb 1 tag) && ((leb tag 6) && (eqb n (lengthOf tag)))) ≡ true → lengthOf tag ≤ n
+    go : (t : Bool) → leb 128 tag ≡ t → t || ((leb 1 tag) && ((leb tag lastTag) && (eqb n (lengthOf tag)))) ≡ true
+        → lengthOf tag ≤ n
     go true e h = omega (arith, passed-length tag (leb-true 128 tag e))
-    go false e h = omega (arith, eqb-true n (lengthOf tag) (and-right (leb tag 6) _ (and-right (leb 1 tag) _ h)))
+    go false e h = omega (arith, eqb-true n (lengthOf tag) (and-right (leb tag lastTag) _ (and-right (leb 1 tag) _ h)))
 
 -- ---- the field, by what it is made of
 

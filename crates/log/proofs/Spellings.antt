@@ -15,7 +15,7 @@ use Rattle.log.specs.declared.Stage.{Stage}
 use Rattle.log.specs.declared.Stage.the-variants.{BeforeL}
 use Rattle.log.specs.declared.Event.{Event}
 use Rattle.log.specs.declared.Event.the-variants.{Largest, Open, Close, Rename, Arrive, Serve, Passed}
-use Rattle.log.specs.Format.{numberAt, tagAt, lengthAt, tagOf, isPassed, lengthOf, rightLength, eventOf, stageAfter}
+use Rattle.log.specs.Format.{numberAt, tagAt, lengthAt, tagOf, isPassed, lengthOf, lastTag, rightLength, eventOf, stageAfter}
 use Rattle.log.specs.declared.End.{End}
 use Rattle.log.specs.declared.End.the-variants.{Whole as whole}
 use Rattle.log.specs.declared.Next.the-variants.{Ends}
@@ -207,14 +207,14 @@ fit-of : (os : List Operand) (s : List ℕ) (at : ℕ) → ((i : ℕ) → getD s
 fit-of [] s at b h = tt
 fit-of (o ∷ os) s at b h = (omega (arith, number-lt s at (o .width) b, h .0), fit-of os s (at + o .width) b (h .1))
 
--- a tag from 1 to 6 with its length says an event of that tag, with its numbers
+-- a tag that says something, with its length, says an event of that tag, with its numbers
 record Told (s : List ℕ) (at tag n : ℕ) : Type 0 where
   taken : isPassed (eventOf s tag at) ≡ false
   tagged : tag ≡ tagOf (eventOf s tag at)
   sized : n ≡ widthOf (operandsOf (eventOf s tag at))
   held : Holds s at (operandsOf (eventOf s tag at))
 
-told : (s : List ℕ) (at tag n : ℕ) → 1 ≤ tag → tag ≤ 6 → n ≡ lengthOf tag → Told s at tag n
+told : (s : List ℕ) (at tag n : ℕ) → 1 ≤ tag → tag ≤ lastTag → n ≡ lengthOf tag → Told s at tag n
 unfolding eventOf lengthOf
 told s at zero n a b e = absurd (omega arith)
 told s at (suc zero) n a b e = record { taken = refl; tagged = refl; sized = e; held = (refl, (refl, tt)) }
@@ -234,8 +234,10 @@ unfolding rightLength
 says-if true s at tag n b p r l m k =
     rw (passed-event s tag at (leb-true 128 tag p)) ((leb-true 128 tag p, k), omega (arith, length-take n (drop at s)))
 says-if false s at tag n b p r l m h =
-    let k : (leb 1 tag) && ((leb tag 6) && (eqb n (lengthOf tag))) ≡ true = rw p at r in
-    let w = told s at tag n (leb-true 1 tag (and-left _ _ k)) (leb-true tag 6 (and-left _ _ (and-right (leb 1 tag) _ k))) (eqb-true n (lengthOf tag) (and-right (leb tag 6) _ (and-right (leb 1 tag) _ k))) in
+    let k : (leb 1 tag) && ((leb tag lastTag) && (eqb n (lengthOf tag))) ≡ true = rw p at r in
+    let j = and-right (leb 1 tag) _ k in
+    let sized = eqb-true n (lengthOf tag) (and-right (leb tag lastTag) _ j) in
+    let w = told s at tag n (leb-true 1 tag (and-left _ _ k)) (leb-true tag lastTag (and-left _ _ j)) sized in
     let os = operandsOf (eventOf s tag at) in
     rw (w .taken) (w .tagged, (ap (λ (k : ℕ). take k (drop at s)) (w .sized) ∙ sym (value-of os s at b (omega (arith, w .sized)) (w .held)), fit-of os s at b (w .held)))
 

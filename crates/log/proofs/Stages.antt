@@ -1,6 +1,7 @@
 -- Laws of the stages of a log: what may come before L, what after it, and that L has been read after every whole field.
-use mathlib.Core.Path.{_≡_, refl, sym, ap, _∙_}
-use mathlib.Core.Bool.{true, false, not}
+use mathlib.Core.Path.{_≡_, refl, sym, ap, subst, _∙_}
+use mathlib.Core.Bool.{true, false, not, _&&_}
+use mathlib.Core.Logic.{_⊎_, inl, inr, ⊎-elim}
 use mathlib.Core.List.{List, [], _∷_}
 use Prim.Native.Nat.{ℕ, _≤_}
 use borrow.Author.Tests.{leb-true}
@@ -17,59 +18,54 @@ use Rattle.log.specs.Laws.{PastAfter}
 use Rattle.log.proofs.Event.{the-type}
 use Rattle.log.proofs.Fields.{differ}
 
+-- An event is L, or it is in turn once L has been read. The laws here go by this, so that an event more is one line.
+abbrev pub LOrLater : Event → Type 0
+LOrLater e = ((l : ℕ) × (e ≡ Largest l)) ⊎ ((isL e ≡ false) × ((stage : Stage) → pastL stage ≡ inTurn e stage))
+
+l-or-later : (e : Event) → LOrLater e
+unfolding inTurn
+l-or-later (Largest l) = inl (l, refl)
+l-or-later (Open o) = inr (refl, λ stage. refl)
+l-or-later (Close a) = inr (refl, λ stage. refl)
+l-or-later (Rename a b) = inr (refl, λ stage. refl)
+l-or-later (Arrive a b n) = inr (refl, λ stage. refl)
+l-or-later Serve = inr (refl, λ stage. refl)
+l-or-later Passed = inr (refl, λ stage. refl)
+
 -- the positions of the variants that are not L
 abbrev pub later : List ℕ
 later = 1 ∷ 2 ∷ 3 ∷ 4 ∷ 5 ∷ 6 ∷ []
 
 pub no-l-by-place : (e : Event) → OneOf later (tagOf the-type e) → isL e ≡ false
-no-l-by-place (Largest l) k = absurd (miss later 0 tt k)
-no-l-by-place (Open o) k = refl
-no-l-by-place (Close a) k = refl
-no-l-by-place (Rename a b) k = refl
-no-l-by-place (Arrive a b n) k = refl
-no-l-by-place Serve k = refl
-no-l-by-place Passed k = refl
+no-l-by-place e k =
+    ⊎-elim (λ w. absurd (miss later 0 tt (subst (λ (x : Event). OneOf later (tagOf the-type x)) (w .1) k)))
+    (λ w. w .0) (l-or-later e)
 
 -- a field that is not L is in turn once L has been read
 pub turn-other : (e : Event) (stage : Stage) → isL e ≡ false → pastL stage ≡ inTurn e stage
+turn-other e stage k = ⊎-elim (λ w. differ (sym (ap isL (w .1)) ∙ k)) (λ w. w .1 stage) (l-or-later e)
+
+-- what is asked of L
+turn-l : (l : ℕ) (e : Event) (stage : Stage) → e ≡ Largest l → inTurn e stage ≡ true
+    → (not (pastL stage) ≡ true) × ((64 ≤ l) × (l ≤ 2048))
 unfolding inTurn
-turn-other (Largest l) stage k = differ k
-turn-other (Open o) stage k = refl
-turn-other (Close a) stage k = refl
-turn-other (Rename a b) stage k = refl
-turn-other (Arrive a b n) stage k = refl
-turn-other Serve stage k = refl
-turn-other Passed stage k = refl
+turn-l l e stage q h =
+    let t : not (pastL stage) && (leb 64 l && leb l 2048) ≡ true = subst (λ (x : Event). inTurn x stage ≡ true) q h in
+    let r = and-right (not (pastL stage)) _ t in
+    let least = leb-true 64 l (and-left _ (leb l 2048) r) in
+    (and-left _ (leb 64 l && leb l 2048) t, (least, leb-true l 2048 (and-right (leb 64 l) _ r)))
 
 -- L is not in turn once it has been read
 pub turn-later : (e : Event) (stage : Stage) → pastL stage ≡ true → inTurn e stage ≡ true → isL e ≡ false
-unfolding inTurn
-turn-later (Largest l) stage p h = differ (sym (and-left (not (pastL stage)) _ h) ∙ ap not p)
-turn-later (Open o) stage p h = refl
-turn-later (Close a) stage p h = refl
-turn-later (Rename a b) stage p h = refl
-turn-later (Arrive a b n) stage p h = refl
-turn-later Serve stage p h = refl
-turn-later Passed stage p h = refl
+turn-later e stage p h =
+    ⊎-elim (λ w. differ (sym (turn-l (w .0) e stage (w .1) h .0) ∙ ap not p)) (λ w. w .0) (l-or-later e)
 
 -- and before it nothing else is
 pub turn-first : (e : Event) → inTurn e BeforeL ≡ true → (l : ℕ) × ((e ≡ Largest l) × ((64 ≤ l) × (l ≤ 2048)))
-unfolding inTurn
-turn-first (Largest l) h =
-    (l, (refl, (leb-true 64 l (and-left _ (leb l 2048) h), leb-true l 2048 (and-right (leb 64 l) _ h))))
-turn-first (Open o) h = differ (sym h)
-turn-first (Close a) h = differ (sym h)
-turn-first (Rename a b) h = differ (sym h)
-turn-first (Arrive a b n) h = differ (sym h)
-turn-first Serve h = differ (sym h)
-turn-first Passed h = differ (sym h)
+turn-first e h =
+    ⊎-elim (λ w. (w .0, (w .1, turn-l (w .0) e BeforeL (w .1) h .1)))
+    (λ w. differ (sym (w .1 BeforeL ∙ h))) (l-or-later e)
 
 pub past-after : PastAfter
-unfolding inTurn stageAfter
-past-after (Largest l) stage h = refl
-past-after (Open o) stage h = h
-past-after (Close a) stage h = h
-past-after (Rename a b) stage h = h
-past-after (Arrive a b n) stage h = h
-past-after Serve stage h = h
-past-after Passed stage h = h
+unfolding stageAfter
+past-after e stage h = ⊎-elim (λ w. rw (w .1)) (λ w. rw (w .0) (w .1 stage ∙ h)) (l-or-later e)

@@ -43,9 +43,13 @@ lengthOf tag =
     (cond (eqb tag 4) 10
     0))))
 
+-- The tags that say something are 1 to 6.
+abbrev pub lastTag : ℕ
+lastTag = 6
+
 -- Tags 128 to 255, any length. Another tag, or a wrong length, is none of the log's.
 unfoldable pub rightLength : ℕ → ℕ → Bool
-rightLength tag n = leb 128 tag || (leb 1 tag && (leb tag 6 && eqb n (lengthOf tag)))
+rightLength tag n = leb 128 tag || (leb 1 tag && (leb tag lastTag && eqb n (lengthOf tag)))
 
 -- Tag 6: L. Tag 1: open, block and share. Tag 2: close. Tag 3: rename, old and new. Tag 4: record, block, number, length.
 -- Tag 5: serve once. Tags 128 to 255 are passed over.
