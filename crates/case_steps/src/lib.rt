@@ -3,6 +3,6 @@
 pub mod answers;
 mod digest;
 pub mod fields;
-pub mod operands;
+pub mod operand;
 pub mod steps;
 pub mod tables;

@@ -18,7 +18,7 @@ pub fn number(most: u64, whole: &mut bool) -> u64
 {
     let mut bytes = [0u8; 8];
     let n = io::read_full(STDIN_FILENO, &mut bytes);
-    let v = case_steps::operands::number(&bytes);
+    let v = case_steps::operand::number(&bytes);
     if n < 8 || most < v {
         *whole = false;
         return 0;
