@@ -107,9 +107,13 @@ module _ (m : Board.Board) (g : Tidy m) (p : ℕ) (inL : p < length (m .places))
         link j (yes q) = rw q (behind-none p (m .orders (blockClass (at m p))) (gone (blockClass (at m p))) ∙ sym (behind-none p (m .orders (blockClass (pl (set l p y) p))) (gone (blockClass (pl (set l p y) p)))))
         link j (no q) = ap (λ (w : Place). behind j (m .orders (blockClass w))) (sym (getD-set-other l p j y freePlace q))
 
+    -- a field that is 0 already, set to 0
+    zero-kept : (f : Place → ℕ) → f freePlace ≡ 0 → f (at m p) ≡ 0 → set (map f l) p 0 ≡ map f l
+    zero-kept f e z = ap (set (map f l) p) (sym (ap (getD (map f l) p) (sym e) ∙ List·getD-map f l p freePlace ∙ z)) ∙ set-getD (map f l) p 0
+
     start-kept : at m p .start ≡ 0 → set (encode m .starts) p 0 ≡ encode m .starts
     unfolding encode
-    start-kept z = ap (set (map (λ (w : Place). w .start) l) p) (sym (List·getD-map (λ (w : Place). w .start) l p freePlace ∙ z)) ∙ set-getD (map (λ (w : Place). w .start) l) p 0
+    start-kept = zero-kept (λ w. w .start) refl
 
     -- OPEN
     pub open-is : (o : Opening) → at m p .start ≡ 0

@@ -27,23 +27,23 @@ use Rattle.board.proofs.Reading.{Fit, view-encode}
 
 -- what a value that is alike in each field gives
 alike-same : (a b : struct.Board) → Each (alikeInEach a b) → Same a b
-alike-same a b (e1, (e2, (e3, (e4, (e5, (e6, (e7, (e8, (e9, (e10, (e11, (e12, (e13, (e14, (e15, (e16, e17)))))))))))))))) = record {
-  numbers = d-list (a .numbers) (b .numbers) .yes e1;
-  shares = d-list (a .shares) (b .shares) .yes e2;
-  deficits = d-list (a .deficits) (b .deficits) .yes e3;
-  starts = d-list (a .starts) (b .starts) .yes e4;
-  counts = d-list (a .counts) (b .counts) .yes e5;
-  ready = d-list (a .ready) (b .ready) .yes e6;
-  next = d-list (a .next) (b .next) .yes e7;
-  heads = d-list (a .heads) (b .heads) .yes e8;
-  tails = d-list (a .tails) (b .tails) .yes e9;
-  held = d-list (a .held) (b .held) .yes e10;
-  largest = eqb-true (a .largest) (b .largest) e11;
-  clock = eqb-true (a .clock) (b .clock) e12;
-  active = eqb-true (a .active) (b .active) e13;
-  pending = eqb-true (a .pending) (b .pending) e14;
-  slot = eqb-true (a .slot) (b .slot) e15;
-  left = eqb-true (a .left .0) (b .left .0) e16;
+alike-same a b (numbers, (shares, (deficits, (starts, (counts, (ready, (next, (heads, (tails, (held, (largest, (clock, (active, (pending, (slot, (left, _)))))))))))))))) = record {
+  numbers = d-list (a .numbers) (b .numbers) .yes numbers;
+  shares = d-list (a .shares) (b .shares) .yes shares;
+  deficits = d-list (a .deficits) (b .deficits) .yes deficits;
+  starts = d-list (a .starts) (b .starts) .yes starts;
+  counts = d-list (a .counts) (b .counts) .yes counts;
+  ready = d-list (a .ready) (b .ready) .yes ready;
+  next = d-list (a .next) (b .next) .yes next;
+  heads = d-list (a .heads) (b .heads) .yes heads;
+  tails = d-list (a .tails) (b .tails) .yes tails;
+  held = d-list (a .held) (b .held) .yes held;
+  largest = eqb-true (a .largest) (b .largest) largest;
+  clock = eqb-true (a .clock) (b .clock) clock;
+  active = eqb-true (a .active) (b .active) active;
+  pending = eqb-true (a .pending) (b .pending) pending;
+  slot = eqb-true (a .slot) (b .slot) slot;
+  left = eqb-true (a .left .0) (b .left .0) left;
 }
 
 own-list : (xs : List ℕ) → sameList xs xs ≡ true

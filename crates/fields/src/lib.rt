@@ -135,9 +135,10 @@ fn play_serve(
     );
     let charge = s.bytes;
     let rest = s.left;
+    let total = sent.0 + charge.0;
     Moved {
         shown: shown,
-        sent: Bytes(sent.0 + charge.0),
+        sent: Bytes(total),
         clock: s.clock,
         active: s.active,
         pending: s.pending,

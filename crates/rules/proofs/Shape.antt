@@ -23,7 +23,7 @@ use Rattle.units.specs.Credit.{charged, largestCharge, creditOf}
 use Rattle.units.proofs.Credits.{credit-least, credit-under}
 use Rattle.rules.specs.Spoilt.{isQueued, readyNum, inClass, count}
 use Rattle.lanes.proofs.Lanes.{depth-positive}
-use Rattle.rules.specs.Board.{Record, noRecord, charge, Stand, out, queued, serving, Place, freePlace, depth, blockClass, anyDue}
+use Rattle.rules.specs.Board.{Record, noRecord, charge, Stand, out, queued, serving, Place, moved, freePlace, depth, blockClass, anyDue}
 use Rattle.rules.specs.Choice.{upd, readyOf, lesser, leastReady, isNone, release, settle, started}
 use Rattle.rules.proofs.Line.{Kept}
 use Rattle.rules.proofs.Orders.{pl, ready, Listed, listed-same, listed-join, listed-leave, Rising, rising-away, rising-kept, rising-snoc, first-due, due-any, upd-same, upd-other, in-head, count-head, rising-tail}
@@ -306,7 +306,7 @@ shape-same {L} {c} {l} {o} {H} p x h e q r dis new f =
 
 -- a block joins its order
 abbrev pub joinedAs : ℕ → ℕ → List Record → ℕ → Place → Place
-joinedAs c start lane owed x = record { number = x .number; share = x .share; start = start; lane = lane; deficit = owed; stand = queued (nextStart (blockClass x) c) }
+joinedAs c start lane owed x = moved x start lane owed (queued (nextStart (blockClass x) c))
 
 pub shape-join : {L c : ℕ} {l : List Place} {o : ℕ → List ℕ} {H : ℕ → ℕ} (p start : ℕ) (lane : List Record) (owed : ℕ) → p < length l
     → isQueued (pl l p .stand) ≡ false → PlaceOk L (joinedAs c start lane owed (pl l p))

@@ -73,7 +73,11 @@ d-ring x = d-and (d-leb (suc (x .start)) (depth x)) (d-leb (length (x .lane)) (d
 d-deficit : (L : ℕ) (x : Place) → Decides (deficitInRange L x) ((x .deficit < largestCharge L * 65536) × ((isQueued (x .stand) ≡ true) ⊎ (x .deficit ≡ 0)))
 d-deficit L x = d-and (d-leb (suc (x .deficit)) (largestCharge L * 65536)) (d-or (d-true (isQueued (x .stand))) (d-eqb (x .deficit) 0))
 
-d-free : (x : Place) → Decides (freeIsZero x) ((1 ≤ x .share) ⊎ ((x .number ≡ 0) × ((x .start ≡ 0) × ((1 ≤ length (x .lane) → ⊥) × (x .deficit ≡ 0)))))
+-- a free place has nothing else
+abbrev Zeros : Place → Type 0
+Zeros x = (x .number ≡ 0) × ((x .start ≡ 0) × ((1 ≤ length (x .lane) → ⊥) × (x .deficit ≡ 0)))
+
+d-free : (x : Place) → Decides (freeIsZero x) ((1 ≤ x .share) ⊎ Zeros x)
 d-free x = d-or (d-leb 1 (x .share)) (d-and (d-eqb (x .number) 0) (d-and (d-eqb (x .start) 0) (d-and (d-not (d-leb 1 (length (x .lane)))) (d-eqb (x .deficit) 0))))
 
 d-number : (x : Place) → Decides (numberInRange x) (isOpen x ≡ true → 1 ≤ x .number)
@@ -108,7 +112,7 @@ place-ok L x h = record {
     empty [] e = refl
     empty (r ∷ rs) e = absurd (omega arith)
 
-    named : (1 ≤ x .share) ⊎ (x .share < 1) → (1 ≤ x .share) ⊎ ((x .number ≡ 0) × ((x .start ≡ 0) × ((1 ≤ length (x .lane) → ⊥) × (x .deficit ≡ 0)))) → (x ≡ freePlace) ⊎ ((1 ≤ x .number) × (1 ≤ x .share))
+    named : (1 ≤ x .share) ⊎ (x .share < 1) → (1 ≤ x .share) ⊎ Zeros x → (x ≡ freePlace) ⊎ ((1 ≤ x .number) × (1 ≤ x .share))
     named (inl o) z = inr (d-number x .yes (h .number) (leb-yes 1 (x .share) o), o)
     named (inr o) (inl z) = absurd (omega arith)
     named (inr o) (inr (number, (start, (full, deficit)))) =
@@ -135,7 +139,7 @@ place-passes L x ok = record {
     clear true f = inl refl
     clear false f = inr (f refl)
 
-    free : (x ≡ freePlace) ⊎ ((1 ≤ x .number) × (1 ≤ x .share)) → (1 ≤ x .share) ⊎ ((x .number ≡ 0) × ((x .start ≡ 0) × ((1 ≤ length (x .lane) → ⊥) × (x .deficit ≡ 0))))
+    free : (x ≡ freePlace) ⊎ ((1 ≤ x .number) × (1 ≤ x .share)) → (1 ≤ x .share) ⊎ Zeros x
     free (inl e) = inr (ap (λ (y : Place). y .number) e, (ap (λ (y : Place). y .start) e, (λ l. omega (arith, ap (λ (y : Place). length (y .lane)) e), ap (λ (y : Place). y .deficit) e)))
     free (inr o) = inl (o .1)
 

@@ -47,6 +47,11 @@ pub record Place : Type 0 where
 abbrev pub freePlace : Place
 freePlace = record { number = 0; share = 0; start = 0; lane = []; deficit = 0; stand = out }
 
+-- What a record that comes, a send and a slot change of a place; the block's number and share stay.
+abbrev pub moved : Place → (start : ℕ) (lane : List Record) (deficit : ℕ) (stand : Stand) → Place
+moved x start lane deficit stand =
+    record { number = x .number; share = x .share; start = start; lane = lane; deficit = deficit; stand = stand }
+
 -- The board: L, the clock, the places, the order of each class (places, first to last), the place that has the open slot,
 -- and the held share of each class.
 pub record Board : Type 0 where

@@ -8,7 +8,7 @@ use lib.ListN.{length, getD, set, drop}
 use Rattle.base.specs.Tests.{least}
 use Rattle.units.specs.Classes.{nextStart}
 use Rattle.units.specs.Credit.{creditOf}
-use Rattle.rules.specs.Board.{Record, noRecord, charge, Stand, out, queued, serving, Place, Board, at, depth, entry, onward, front, blockClass, isOpen, anyDue}
+use Rattle.rules.specs.Board.{Record, noRecord, charge, Stand, out, queued, serving, Place, moved, Board, at, depth, entry, onward, front, blockClass, isOpen, anyDue}
 
 -- ---- What a call does: what comes of it, and the next board
 
@@ -117,11 +117,11 @@ joining b p x =
 
 -- It goes to the end of its lane.
 abbrev pub more : Place → Record → Place
-more x r = record { number = x .number; share = x .share; start = x .start; lane = x .lane ++ (r ∷ []); deficit = x .deficit; stand = x .stand }
+more x r = moved x (x .start) (x .lane ++ (r ∷ [])) (x .deficit) (x .stand)
 
 -- If the lane was empty, the block joins the end of its class's order, with ready time the next start of its class above the present clock.
 abbrev pub joins : ℕ → Place → Record → Place
-joins clock x r = record { number = x .number; share = x .share; start = x .start; lane = r ∷ []; deficit = x .deficit; stand = queued (nextStart (blockClass x) clock) }
+joins clock x r = moved x (x .start) (r ∷ []) (x .deficit) (queued (nextStart (blockClass x) clock))
 
 unfoldable pub takenIn : Board → ℕ → Record → Board
 takenIn b p r = cond (leb (length (at b p .lane)) 0) (joining b p (joins (b .clock) (at b p) r)) (goOn b p (more (at b p) r))
@@ -204,16 +204,16 @@ leftAfter x = leftOf (x .stand) - charge (front x) * 65536
 
 -- If the lane is now empty, the slot ends and the deficit is 0.
 abbrev pub emptied : Place → Place
-emptied x = record { number = x .number; share = x .share; start = onward x; lane = []; deficit = 0; stand = out }
+emptied x = moved x (onward x) [] 0 out
 
 -- If the new front needs more than is left, the slot ends and the deficit is what is left;
 -- its block still waits, so it joins the end of its class's order with ready time the next start above t.
 abbrev pub short : ℕ → Place → Place
-short t x = record { number = x .number; share = x .share; start = onward x; lane = drop 1 (x .lane); deficit = leftAfter x; stand = queued (nextStart (blockClass x) t) }
+short t x = moved x (onward x) (drop 1 (x .lane)) (leftAfter x) (queued (nextStart (blockClass x) t))
 
 -- Otherwise the slot stays open.
 abbrev pub going : Place → Place
-going x = record { number = x .number; share = x .share; start = onward x; lane = drop 1 (x .lane); deficit = 0; stand = serving (leftAfter x) }
+going x = moved x (onward x) (drop 1 (x .lane)) 0 (serving (leftAfter x))
 
 unfoldable pub sendFrom : Board → ℕ → Board
 sendFrom b p =
@@ -248,7 +248,7 @@ chosen b t = getD (b .orders (lowest b t)) 0 0
 
 -- What is left of the slot is its deficit plus its credit; the deficit then reads 0 until the slot ends.
 abbrev pub started : ℕ → Place → Place
-started L x = record { number = x .number; share = x .share; start = x .start; lane = x .lane; deficit = 0; stand = serving (x .deficit + creditOf L (x .share)) }
+started L x = moved x (x .start) (x .lane) 0 (serving (x .deficit + creditOf L (x .share)))
 
 -- Its slot begins at that clock; it leaves the order.
 unfoldable pub begin : Board → ℕ → Board

@@ -208,6 +208,7 @@ pub fn places_in_range<'a>(
 {
     let mut p: usize = 0;
     while p < PLACES {
+        let owed = deficits[p];
         if !place_in_range(
             largest,
             slot,
@@ -216,7 +217,7 @@ pub fn places_in_range<'a>(
             shares[p],
             starts[p],
             counts[p],
-            Parts(deficits[p]),
+            Parts(owed),
             ready[p],
             next[p],
         ) {

@@ -21,8 +21,8 @@ show-serve-requires c κs = (
   ),
 )
 
-add-t35 : tie.Need-add-t35
-add-t35 c =
+add-total : tie.Need-add-total
+add-total c =
     omega (
       arith,
       serve-small (memory _ _ _ 0)
@@ -41,4 +41,4 @@ returns c =
     (c .before .before .before .before .show-serve .ensures .0)
 
 pub play-serve-spec : {M : Type 1} → statement M
-play-serve-spec = tie.close (tie.spec serve-within-requires show-serve-requires add-t35 returns)
+play-serve-spec = tie.close (tie.spec serve-within-requires show-serve-requires add-total returns)

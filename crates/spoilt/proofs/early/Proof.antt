@@ -24,15 +24,29 @@ sound-requires : tie.Need-sound-requires
 sound-requires c κs = search needs
 
 -- the arrays of a value have their lengths by type
+sized : (c : tie.Start) → Sized (c .args .b)
+sized c = record {
+  numbers = search needs;
+  shares = search needs;
+  deficits = search needs;
+  starts = search needs;
+  counts = search needs;
+  ready = search needs;
+  next = search needs;
+  heads = search needs;
+  tails = search needs;
+  held = search needs;
+}
+
 returns-3 : tie.Need-returns-3
 returns-3 c =
-    let z : Sized (c .before .before .before .before .before .before .args .b) = record { numbers = search needs; shares = search needs; deficits = search needs; starts = search needs; counts = search needs; ready = search needs; next = search needs; heads = search needs; tails = search needs; held = search needs } in
+    let z = sized (c .before .before .before .before .before .before) in
     let code = early-by _ _ _ z (c .before .before .before .if1 .left) (c .before .before .if2 .left) true (sym (c .before .sound .ensures) ∙ c .if3 .taken) in
     (code, λ q. known-by _ _ _ (sym code))
 
 returns-4 : tie.Need-returns-4
 returns-4 c =
-    let z : Sized (c .before .before .before .before .before .before .args .b) = record { numbers = search needs; shares = search needs; deficits = search needs; starts = search needs; counts = search needs; ready = search needs; next = search needs; heads = search needs; tails = search needs; held = search needs } in
+    let z = sized (c .before .before .before .before .before .before) in
     (early-by _ _ _ z (c .before .before .before .if1 .left) (c .before .before .if2 .left) false (sym (c .before .sound .ensures) ∙ c .if3 .left), λ z. absurd (omega arith))
 
 pub early-spec : {M : Type 1} → statement M

@@ -23,6 +23,12 @@ abbrev μ-loop : tie.MeasureT-loop
 loop-holds : tie.Need-loop-holds Inv-loop μ-loop
 loop-holds c = (omega arith, all-none _)
 
+mul-owed : tie.Need-mul-owed Inv-loop μ-loop
+mul-owed c = search needs
+
+element-copy-out-owed : tie.Need-element-copy-out-owed Inv-loop μ-loop
+element-copy-out-owed c = search needs
+
 mul-place-in-range : tie.Need-mul-place-in-range Inv-loop μ-loop
 mul-place-in-range c = search needs
 
@@ -46,12 +52,6 @@ mul-place-in-range-4 c = search needs
 
 element-copy-out-place-in-range-4 : tie.Need-element-copy-out-place-in-range-4 Inv-loop μ-loop
 element-copy-out-place-in-range-4 c = search needs
-
-mul-t28 : tie.Need-mul-t28 Inv-loop μ-loop
-mul-t28 c = search needs
-
-element-copy-out-t31 : tie.Need-element-copy-out-t31 Inv-loop μ-loop
-element-copy-out-t31 c = search needs
 
 mul-place-in-range-5 : tie.Need-mul-place-in-range-5 Inv-loop μ-loop
 mul-place-in-range-5 c = search needs
@@ -89,6 +89,8 @@ places-in-range-spec =
     Inv-loop
     μ-loop
     loop-holds
+    mul-owed
+    element-copy-out-owed
     mul-place-in-range
     element-copy-out-place-in-range
     mul-place-in-range-2
@@ -97,8 +99,6 @@ places-in-range-spec =
     element-copy-out-place-in-range-3
     mul-place-in-range-4
     element-copy-out-place-in-range-4
-    mul-t28
-    element-copy-out-t31
     mul-place-in-range-5
     element-copy-out-place-in-range-5
     element-copy-out-place-in-range-6
