@@ -12,11 +12,12 @@ use lib.Seq.{getD-set-same, getD-set-other}
 use Rattle.base.proofs.Numbers.{true-le}
 use Rattle.rules.specs.Board
 use Rattle.rules.specs.Board.{Record, Place, freePlace, at, depth, entry}
-use Rattle.rules.specs.Choice.{Turn, refused, goOn, joining, joins, more, takenIn}
+use Rattle.rules.specs.Choice.{Turn, goOn, joining, joins, more, takenIn}
 use Rattle.rules.specs.Blocks.{opened, freeAt, renamed, closed}
-use Rattle.rules.specs.Calls.{Single, open!, rename!, close!, record!, serve!, step, codeOf, told, kept, writes}
+use Rattle.rules.specs.Calls.{Single, step, codeOf, told}
 use Rattle.rules.specs.Runs.{isServe}
 use Rattle.rules.proofs.Cases.{refusal-not0, CallCases, call-cases}
+use Rattle.rules.proofs.Refusals.{writes-refused}
 use Rattle.rules.proofs.Frame.{seventeen-step}
 use Rattle.rules.proofs.Orders.{pl}
 use Rattle.rules.proofs.TidyCalls.{tidy-step}
@@ -109,13 +110,6 @@ only-one A w r s ids lens ids′ lens′ e f = let g = e ∙ sym f in (ap (λ (x
 fit-step : (m : Board.Board) (x : Single) → Fit m → Fit (step m x .next)
 fit-step m x f = record { tidy = tidy-step m x (f .tidy); classes = seventeen-step m x (f .classes) }
 
-no-writes : (x : Single) (code : ℕ) → writes x (refused code) ≡ kept
-no-writes (open! o) code = refl
-no-writes (rename! old new) code = refl
-no-writes (close! n) code = refl
-no-writes (record! n r) code = refl
-no-writes serve! code = refl
-
 module _ (b : struct.Board) (ids lens : List ℕ) (k : Known b ids lens) where
   abbrev m : Board.Board
   m = view b ids lens
@@ -136,7 +130,7 @@ module _ (b : struct.Board) (ids lens : List ℕ) (k : Known b ids lens) where
   cases : CallCases m Goal
   unfolding closed
   cases = record {
-    refused = λ x code r fit e. rw (no-writes x code, refusal-not0 code r) (record { code = refl; same = λ ne. refl; reads = refl; good = k });
+    refused = λ x code r fit e. rw (writes-refused x code, refusal-not0 code r) (record { code = refl; same = λ ne. refl; reads = refl; good = k });
     opens = λ o can fit e. next-good _ ids lens refl fit (holds-idle m ids lens f holds (freeAt m) (can .inside) (opened o) refl) (k .ids-all) (k .lens-all);
     renames = λ p old new can fit e. next-good _ ids lens refl fit (holds-renamed m ids lens f holds p (can .has .inside) new) (k .ids-all) (k .lens-all);
     closes = λ p n can fit e. next-good _ ids lens refl fit (holds-idle m ids lens f holds p (can .has .inside) freePlace refl) (k .ids-all) (k .lens-all);

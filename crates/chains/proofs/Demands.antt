@@ -23,7 +23,7 @@ use Rattle.rules.specs.Promises.{OfRun, Accounted, bound}
 use Rattle.rules.proofs.Tidy.{Tidy}
 use Rattle.rules.proofs.TidyCalls.{tidy-step}
 use Rattle.rules.proofs.Conserve.{sentOne, flow-step}
-use Rattle.rules.proofs.Cases.{call-cases}
+use Rattle.rules.proofs.Cases.{serve-cases}
 use Rattle.rules.proofs.Stories.{opened-by}
 use Rattle.rules.proofs.Names.{follows, has-find, has-lane, has-share}
 use Rattle.rules.proofs.Promises
@@ -101,7 +101,7 @@ record FromOpening (L : ℕ) (given : Opening) (st : Story) (b : Board.Board) : 
 opening-lives : (L : ℕ) (given : Opening) (st : Story) (b : Board.Board) → FromOpening L given st b → Lives given st b
 opening-lives L given st b o = rw (o .is, o .tale) (record {
   accounted = Promises.conserved-all L (o .from) (o .run) given (o .xs) (o .opens);
-  seat = λ c. let w = opened-by (o .from) (o .tidy) (open! given) (o .opens) in
+  seat = λ c. let w = opened-by (o .from) (o .tidy) given (o .opens) in
       (w .0, seat-story (given .share) (begins (given .number)) (step (o .from) (open! given) .next) (w .0) (o .xs) (tidy-step (o .from) (open! given) (o .tidy)) (λ _. (w .1, ap (λ (x : Place). x .share) (w .2))));
 })
 
@@ -167,9 +167,13 @@ Named b done = Unit {0}
 Named b (taken a) = Unit {0}
 Named b (sent s) = Has b (s .place) (at b (s .place) .number)
 
-named : (b : Board.Board) → Tidy b → (x : Single) → Named b (step b x .out)
-unfolding send
-named b g = call-cases b g (λ x t. Named b (t .out)) (record { refused = λ x code r. tt; opens = λ o c. tt; renames = λ p old new c. tt; closes = λ p n c. tt; takes = λ p n r c. tt; goesOn = λ p c. record { inside = c .inside; bought = c .bought; named = refl }; begins = λ r t p c e. record { inside = c .inside; bought = c .bought; named = refl } })
+named : (b : Board.Board) → Tidy b → Named b (step b serve! .out)
+unfolding step send
+named b g = serve-cases b g (λ t. Named b (t .out)) (record {
+  unserved = λ code u r. tt;
+  goesOn = λ p c. record { inside = c .inside; bought = c .bought; named = refl };
+  begins = λ r t p c e. record { inside = c .inside; bought = c .bought; named = refl };
+})
 
 abbrev sentBy : Sent → Answer → Sent
 sentBy s (gives code) = s
@@ -184,7 +188,7 @@ isSend (sends a) = true
 isSend (bursts r) = false
 
 pub sends-front : SendsFront
-sends-front L s f g cs told′ a made! chain d = subst (λ (z : Board.Board). laneOf b (a .block) ≡ record { number = a .number; bytes = a .bytes } ∷ laneOf z (a .block)) (sym (w .after)) (go (step b serve! .out) refl (named b tidy serve!) (w .told!))
+sends-front L s f g cs told′ a made! chain d = subst (λ (z : Board.Board). laneOf b (a .block) ≡ record { number = a .number; bytes = a .bytes } ∷ laneOf z (a .block)) (sym (w .after)) (go (step b serve! .out) refl (named b tidy) (w .told!))
   where
     h : At L f
     h = at-on L (at-made L s made!) chain

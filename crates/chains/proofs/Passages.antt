@@ -8,19 +8,18 @@ use lib.Seq.{getD-append-seam}
 use Rattle.units.specs.Classes.{classOf}
 use Rattle.rules.specs.Board
 use Rattle.rules.specs.Board.{fresh}
-use Rattle.rules.specs.Choice.{refused, Turn}
 use Rattle.rules.specs.Burst.{burst}
-use Rattle.rules.specs.Calls.{Single, open!, rename!, close!, record!, serve!, step, Call, one, Answer, gives, told, codeOf}
+use Rattle.rules.specs.Blocks.{Opening}
+use Rattle.rules.specs.Calls.{Single, open!, serve!, step, Call, one, Answer, gives, told, codeOf}
 use Rattle.rules.specs.Runs
 use Rattle.rules.specs.Runs.{runs, answer, Story, begins, tells}
 use Rattle.rules.specs.Promises.{serves}
-use Rattle.rules.proofs.Tidy.{Tidy}
-use Rattle.rules.proofs.Cases.{Refusal, call-cases}
+use Rattle.rules.proofs.Cases.{open-cases}
 use Rattle.chains.specs.Chains.{Holding, Did, Chain, stops, goes, Made, answersOf}
 use Rattle.chains.specs.Demands.{reads, Spelt, over, single, asServes, Row, story, lastSlot, slotAfter, Life, Chained, Parting, Passage}
 use Rattle.chains.specs.Demands.{HasPassage, PassageLives, tale, lastOf, laterLast, ByteBound, SentInTime, SlotOnce, NeverTwice, slotsIn, HasLife}
 use Rattle.chains.proofs.Chains.{did-agrees, chain-from, chain-is-run}
-use Rattle.chains.proofs.Rows.{map-join, at-made, at-tidy, at-on, along, story-said, chain-join, row-from}
+use Rattle.chains.proofs.Rows.{map-join, at-made, at-on, along, story-said, chain-join, row-from}
 use Rattle.chains.proofs.Demands.{byte-bound-from, sent-in-time-from, slot-once-from, never-twice-from, countBy, has-did, chain-of, has-chain}
 
 -- ---- a row is parted
@@ -216,30 +215,8 @@ never-twice L c w p lo still =
 -- ---- no promise is empty: stories with bursts
 
 -- an opening that is done is answered 0
-abbrev SaysDone : Board.Board → Single → Turn → Type 0
-SaysDone b (open! o) t = codeOf (told b (t .out)) ≡ 0 → told b (t .out) ≡ gives 0
-SaysDone b (rename! old new) t = Unit {0}
-SaysDone b (close! n) t = Unit {0}
-SaysDone b (record! n r) t = Unit {0}
-SaysDone b serve! t = Unit {0}
-
-says-done : (b : Board.Board) → Tidy b → (x : Single) → SaysDone b x (step b x)
-says-done b g = call-cases b g (SaysDone b) (record {
-  refused = says;
-  opens = λ o c e. refl;
-  renames = λ p old new c. tt;
-  closes = λ p n c. tt;
-  takes = λ p n r c. tt;
-  goesOn = λ p c. tt;
-  begins = λ r t p c e. tt;
-})
-  where
-    says : (x : Single) (code : ℕ) → Refusal code → SaysDone b x (record { out = refused code; next = b })
-    says (open! o) code r = λ e. ap gives e
-    says (rename! old new) code r = tt
-    says (close! n) code r = tt
-    says (record! n x) code r = tt
-    says serve! code r = tt
+says-done : (b : Board.Board) (o : Opening) → codeOf (told b (step b (open! o) .out)) ≡ 0 → told b (step b (open! o) .out) ≡ gives 0
+says-done b o = open-cases b o (λ u. codeOf (told b (u .out)) ≡ 0 → told b (u .out) ≡ gives 0) (λ code r e. ap gives e) (λ c e. refl)
 
 -- the row of a chain is the rules' row of its calls
 pub spelt-row : (b : Board.Board) {cs : List Call} {told said : List Answer} {xs : List Single} → Spelt cs told xs said → told ≡ answersOf b cs
@@ -269,7 +246,7 @@ has-life L range before given after e = go (has-chain L range before)
         let d = has-did m (one (open! given)) in
         let g = did-agrees m (d .1) (one (open! given)) (d .0) (h .good) (d .2) in
         let code = subst (λ (z : Board.Board). codeOf (answer z (open! given)) ≡ 0) (sym q) e in
-        let zero! = g .told! ∙ says-done (reads m) (at-tidy L m h) (open! given) code in
+        let zero! = g .told! ∙ says-done (reads m) given code in
         let opened! : reads (d .1) ≡ o = g .after ∙ ap (λ (z : Board.Board). step z (open! given) .next) q in
         let c = chain-of (d .1) after in
         let t = chain-from (g .good) (c .2) in

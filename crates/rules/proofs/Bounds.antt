@@ -10,8 +10,8 @@ use lib.ListN.{length, length-append}
 use lib.Seq.{getD-set-same}
 use Rattle.base.proofs.Numbers.{eqb-true, eqb-yes}
 use Rattle.rules.specs.Board.{Record, Board, at, charge, freePlace, Has}
-use Rattle.rules.specs.Choice.{Out, refused, done, taken, sent, Turn, send, takenIn, joining, joins, goOn, more, tookAt}
-use Rattle.rules.specs.Calls.{Single, open!, rename!, close!, record!, serve!, step, told}
+use Rattle.rules.specs.Choice.{Out, refused, done, taken, sent, whereIs, send, takenIn, joining, joins, goOn, more}
+use Rattle.rules.specs.Calls.{Single, record!, serve!, step, told}
 use Rattle.rules.specs.Runs.{answer, isDone, numberAfter, closes, isFor, classAt, bytesOf, bytesIn, Unsent, ComesToFront, intoEmpty, nextUp, NotSpent, servesIn}
 use Rattle.rules.specs.Promises.{bound}
 use Rattle.rules.proofs.Turns.{Good, inLine, bytesSent, fromPlace, most, Keeps, lane-some, isSent}
@@ -19,7 +19,7 @@ use Rattle.rules.proofs.Run.{keeps-step, sentBytes, UnsentAt, ToFront, 
 use Rattle.rules.proofs.Live.{bound-serves}
 use Rattle.rules.proofs.Tidy.{Tidy}
 use Rattle.rules.proofs.TidyCalls.{tidy-step}
-use Rattle.rules.proofs.Cases.{Refusal, refusal-not0, CanTake, call-cases}
+use Rattle.rules.proofs.Cases.{refusal-not0, take-cases, serve-cases}
 use Rattle.rules.proofs.Names.{Follows, follows, has-lane, has-share}
 
 -- what is told of a send is what was sent
@@ -71,27 +71,21 @@ taken-length b p r h = go (leb (length (at b p .lane)) 0)
     go true = rw (getD-set-same (b .places) p (joins (b .clock) (at b p) r) freePlace h) (omega arith)
     go false = rw (getD-set-same (b .places) p (more (at b p) r) freePlace h, length-append (at b p .lane) (r ∷ [])) (omega arith)
 
--- a record that is taken has its block's place
-abbrev TookBy : Board → Single → Turn → Type 0
-TookBy b (open! o) t = Unit {0}
-TookBy b (rename! old new) t = Unit {0}
-TookBy b (close! n) t = Unit {0}
-TookBy b (record! n r) t = isDone (told b (t .out)) ≡ true → (p : ℕ) × (Has b p n) × (1 ≤ length (at (t .next) p .lane))
-TookBy b serve! t = isSent (t .out) ≡ true → (p : ℕ) × (Has b p (at b p .number)) × (fromPlace p (t .out) ≡ true)
+-- a record that is taken has its block's place, and so has one that is sent
+took-by : (b : Board) → Tidy b → (n : ℕ) (r : Record) → isDone (answer b (record! n r)) ≡ true
+    → (p : ℕ) × (Has b p n) × (1 ≤ length (at (step b (record! n r) .next) p .lane))
+took-by b g n r = take-cases b n r (λ u. isDone (told b (u .out)) ≡ true → (p : ℕ) × (Has b p n) × (1 ≤ length (at (u .next) p .lane)))
+    (λ code k e. absurd (true≢false (sym e ∙ refusal-not0 code k)))
+    (λ c e. let p = whereIs b n in (p, c .has, taken-length b p r (omega (arith, c .has .inside, g .shape .all64))))
 
-took-by : (b : Board) → Tidy b → (x : Single) → TookBy b x (step b x)
-unfolding send
-took-by b g = call-cases b g (TookBy b) (record { refused = none!; opens = λ o c. tt; renames = λ p old new c. tt; closes = λ p n c. tt; takes = takes; goesOn = λ p c e. (p, record { inside = c .inside; bought = c .bought; named = refl }, eqb-yes p p refl); begins = λ r t p c q e. (p, record { inside = c .inside; bought = c .bought; named = refl }, eqb-yes p p refl) })
-  where
-    none! : (x : Single) (code : ℕ) → Refusal code → TookBy b x (record { out = refused code; next = b })
-    none! (open! o) code r = tt
-    none! (rename! old new) code r = tt
-    none! (close! n) code r = tt
-    none! (record! n x) code r = λ e. absurd (true≢false (sym e ∙ refusal-not0 code r))
-    none! serve! code r = λ e. absurd (false≢true e)
-
-    takes : (p n : ℕ) (r : Record) → CanTake b p n r → TookBy b (record! n r) (tookAt b p r)
-    takes p n r c e = (p, c .has, taken-length b p r (omega (arith, c .has .inside, g .shape .all64)))
+sent-by : (b : Board) → Tidy b → isSent (step b serve! .out) ≡ true
+    → (p : ℕ) × (Has b p (at b p .number)) × (fromPlace p (step b serve! .out) ≡ true)
+unfolding step send
+sent-by b g = serve-cases b g (λ u. isSent (u .out) ≡ true → (p : ℕ) × (Has b p (at b p .number)) × (fromPlace p (u .out) ≡ true)) (record {
+  unserved = λ code u k e. absurd (false≢true e);
+  goesOn = λ p c e. (p, record { inside = c .inside; bought = c .bought; named = refl }, eqb-yes p p refl);
+  begins = λ r t p c q e. (p, record { inside = c .inside; bought = c .bought; named = refl }, eqb-yes p p refl);
+})
 
 for-sent : (n : ℕ) (b : Board) (o : Out) → isFor n (told b o) ≡ true → isSent o ≡ true
 for-sent n b (refused code) e = absurd (false≢true e)
@@ -106,11 +100,11 @@ for-number n p b (taken a) e f = absurd (false≢true e)
 for-number n p b (sent s) e f = let q = s .place in ap (λ (z : ℕ). at b z .number) (eqb-true p q f) ∙ sym (eqb-true n (at b q .number) e)
 
 fronted : (b : Board) (n : ℕ) (x : Single) → Tidy b → ComesToFront b n x → (p : ℕ) × Fronted b n p x
-fronted b n x t (intoEmpty r d e) = go (took-by b t (record! n r) d)
+fronted b n x t (intoEmpty r d e) = go (took-by b t n r d)
   where
     go : (p : ℕ) × (Has b p n) × (1 ≤ length (at (step b (record! n r) .next) p .lane)) → (p : ℕ) × Fronted b n p (record! n r)
     go (p, h, l) = (p, record { has = h; after = follows b p n t h (record! n r) .stays refl .0; front = (l, inl (ap length (sym (has-lane b p n t h) ∙ e))) })
-fronted b n x t (nextUp e l) = go (took-by b t serve! (for-sent n b (step b serve! .out) e))
+fronted b n x t (nextUp e l) = go (sent-by b t (for-sent n b (step b serve! .out) e))
   where
     nb : Board
     nb = step b serve! .next

@@ -190,6 +190,21 @@ can-take b n r (e4, (e6, (e9, _))) = record {
 
 -- ---- THE CASES OF A CALL, on any board
 
+checked : (b : Board) (checks : List Check) (u : Turn) (P : Turn → Type 0) → allRefuse checks ≡ true → ((code : ℕ) → Refusal code → P (refuse b code))
+    → (Fail checks → P u) → P (guarded b checks u)
+checked b checks u P a refused = guarded-cases b checks u P (λ code f. refused code (first-refuses checks a code f))
+
+-- the cases of one call: a law of that call alone names no other
+pub open-cases : (b : Board) (o : Opening) (P : Turn → Type 0) → ((code : ℕ) → Refusal code → P (refuse b code))
+    → (CanOpen b o → P (record { out = done; next = goOn b (freeAt b) (opened o) })) → P (step b (open! o))
+unfolding step openBlock
+open-cases b o P refused opens = checked b (openChecks b o) _ P refl refused (λ f. opens (can-open b o f))
+
+pub take-cases : (b : Board) (n : ℕ) (r : Record) (P : Turn → Type 0) → ((code : ℕ) → Refusal code → P (refuse b code))
+    → (let p = whereIs b n in CanTake b p n r → P (tookAt b p r)) → P (step b (record! n r))
+unfolding step takeRecord
+take-cases b n r P refused takes = checked b (recordChecks b n r) _ P refl refused (λ f. takes (can-take b n r f))
+
 -- the cases of every call but a serve
 pub record OtherCases (b : Board) (P : Single → Turn → Type 0) : Type 0 where
   pub refused : (x : Single) (code : ℕ) → Refusal code → P x (refuse b code)
@@ -200,17 +215,17 @@ pub record OtherCases (b : Board) (P : Single → Turn → Type 0) : Type 0 wher
   pub takes : (n : ℕ) (r : Record) → let p = whereIs b n in CanTake b p n r → P (record! n r) (tookAt b p r)
 
 pub other-cases : (b : Board) (P : Single → Turn → Type 0) → OtherCases b P → P serve! (serve b) → (x : Single) → P x (step b x)
-unfolding step openBlock renameBlock closeBlock takeRecord
+unfolding step renameBlock closeBlock
 other-cases b P cs serves = go
   where
     by : (x : Single) (checks : List Check) (u : Turn) → allRefuse checks ≡ true → (Fail checks → P x u) → P x (guarded b checks u)
-    by x checks u a = guarded-cases b checks u (P x) (λ code f. cs .refused x code (first-refuses checks a code f))
+    by x checks u a = checked b checks u (P x) a (cs .refused x)
 
     go : (x : Single) → P x (step b x)
-    go (open! o) = by (open! o) (openChecks b o) _ refl (λ f. cs .opens o (can-open b o f))
+    go (open! o) = open-cases b o (P (open! o)) (cs .refused (open! o)) (cs .opens o)
     go (rename! old new) = by (rename! old new) (renameChecks b old new) _ refl (λ f. cs .renames old new (can-rename b old new f))
     go (close! n) = by (close! n) (closeChecks b n) _ refl (λ f. cs .closes n (can-close b n f))
-    go (record! n r) = by (record! n r) (recordChecks b n r) _ refl (λ f. cs .takes n r (can-take b n r f))
+    go (record! n r) = take-cases b n r (P (record! n r)) (cs .refused (record! n r)) (cs .takes n r)
     go serve! = serves
 
 -- a serve is refused: none waits, or the slot would begin too late

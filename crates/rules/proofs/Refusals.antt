@@ -31,7 +31,7 @@ kind-step b = other-cases b (λ x u. Kind b u) (record {
 }) (serve-turns b (Kind b) (λ code u. inl (code, refl)) (λ p e. inr refl) (λ r m. inr refl))
 
 -- no refusal writes an entry
-writes-refused : (x : Single) (code : ℕ) → writes x (refused code) ≡ kept
+pub writes-refused : (x : Single) (code : ℕ) → writes x (refused code) ≡ kept
 writes-refused (open! o) code = refl
 writes-refused (rename! old new) code = refl
 writes-refused (close! n) code = refl

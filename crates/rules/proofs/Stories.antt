@@ -10,14 +10,14 @@ use Rattle.base.proofs.Numbers.{eqb-yes}
 use Rattle.rules.specs.Board.{Record, Place, freePlace, Board, at, Has}
 use Rattle.rules.specs.Choice.{Out, refused, done, taken, sent, Turn, goOn}
 use Rattle.rules.specs.Blocks.{Opening, opened, freeAt}
-use Rattle.rules.specs.Calls.{Single, open!, rename!, close!, record!, serve!, step, told, codeOf}
+use Rattle.rules.specs.Calls.{Single, open!, step, told, codeOf}
 use Rattle.rules.specs.Runs.{play, answer, closes, takenFor, isFor, sentFor, Story, begins, goesOn, tells, story}
 use Rattle.rules.specs.Promises.{Accounted}
 use Rattle.rules.proofs.Turns.{fromPlace}
 use Rattle.rules.proofs.Tidy.{Tidy}
 use Rattle.rules.proofs.TidyCalls.{tidy-step}
 use Rattle.rules.proofs.Conserve.{tookOne, sentOne, flow-step}
-use Rattle.rules.proofs.Cases.{Refusal, refusal-not0, CanOpen, call-cases}
+use Rattle.rules.proofs.Cases.{refusal-not0, CanOpen, open-cases}
 use Rattle.rules.proofs.Names.{Follows, follows, has-find, has-lane}
 use Rattle.rules.proofs.Unspoilt.{tidy-play}
 
@@ -69,32 +69,21 @@ told-story s b p [] g t = t
 told-story s b p (x ∷ xs) g t = told-story (tells (s .closed) s x (answer b x)) (step b x .next) p xs (tidy-step b x g) (told-step s b p x g t)
 
 -- an opening that is done gives the block a place with an empty lane
-abbrev pub OpenedBy : Board → Single → Turn → Type 0
-OpenedBy b (open! o) t = codeOf (told b (t .out)) ≡ 0 → (p : ℕ) × (Has (t .next) p (o .number)) × (at (t .next) p ≡ opened o)
-OpenedBy b (rename! old new) t = Unit {0}
-OpenedBy b (close! n) t = Unit {0}
-OpenedBy b (record! n r) t = Unit {0}
-OpenedBy b serve! t = Unit {0}
+abbrev pub OpenedBy : Board → Opening → Turn → Type 0
+OpenedBy b o t = codeOf (told b (t .out)) ≡ 0 → (p : ℕ) × (Has (t .next) p (o .number)) × (at (t .next) p ≡ opened o)
 
-pub opened-by : (b : Board) → Tidy b → (x : Single) → OpenedBy b x (step b x)
-opened-by b g = call-cases b g (OpenedBy b) (record { refused = no-open; opens = opens; renames = λ p old new c. tt; closes = λ p n c. tt; takes = λ p n r c. tt; goesOn = λ p c. tt; begins = λ r t p c e. tt })
+pub opened-by : (b : Board) → Tidy b → (o : Opening) → OpenedBy b o (step b (open! o))
+opened-by b g o = open-cases b o (OpenedBy b o) (λ code r e. absurd (true≢false (sym (eqb-yes code 0 e) ∙ refusal-not0 code r))) opens
   where
-    no-open : (x : Single) (code : ℕ) → Refusal code → OpenedBy b x (record { out = refused code; next = b })
-    no-open (open! o) code r = λ e. absurd (true≢false (sym (eqb-yes code 0 e) ∙ refusal-not0 code r))
-    no-open (rename! old new) code r = tt
-    no-open (close! n) code r = tt
-    no-open (record! n x) code r = tt
-    no-open serve! code r = tt
-
-    opens : (o : Opening) → CanOpen b o → OpenedBy b (open! o) (record { out = done; next = goOn b (freeAt b) (opened o) })
-    opens o c e = (freeAt b, record { inside = c .inside; bought = rw (ap (λ (x : Place). x .share) here) (c .share); named = ap (λ (x : Place). x .number) here }, here)
+    opens : CanOpen b o → OpenedBy b o (record { out = done; next = goOn b (freeAt b) (opened o) })
+    opens c e = (freeAt b, record { inside = c .inside; bought = rw (ap (λ (x : Place). x .share) here) (c .share); named = ap (λ (x : Place). x .number) here }, here)
       where
         here : getD (set (b .places) (freeAt b) (opened o)) (freeAt b) freePlace ≡ opened o
         here = getD-set-same (b .places) (freeAt b) (opened o) freePlace (omega (arith, c .inside, g .shape .all64))
 
 pub conserved : (b : Board) → Tidy b → (o : Opening) (after : List Single) → codeOf (answer b (open! o)) ≡ 0
     → Accounted (story (begins (o .number)) (step b (open! o) .next) after) (play (step b (open! o) .next) after)
-conserved b g o after e = go (opened-by b g (open! o) e)
+conserved b g o after e = go (opened-by b g o e)
   where
     nb : Board
     nb = step b (open! o) .next
