@@ -112,12 +112,11 @@ module _ (b : struct.Board) (ids lens : List ℕ) (r : Rules b lens) where
 
   pub open-at : (p : ℕ) → p < 64 → eqb (getD (b .counts) p 0) 0 ≡ false → 1 ≤ getD (b .shares) p 0
   unfolding freeIsZero
-  open-at p h e = go (d-or (d-leb 1 (getD (b .shares) p 0)) (d-true _) .yes (r .places p h .1 .1 .1 .1 .0))
+  open-at p h e = go (d-or (d-leb 1 (getD (b .shares) p 0)) (d-and (d-true (eqb (getD (b .numbers) p 0) 0)) (d-and (d-true (eqb (getD (b .starts) p 0) 0)) (d-and (d-true (eqb (getD (b .counts) p 0) 0)) (d-true (eqb (getD (b .deficits) p 0) 0))))) .yes (r .places p h .1 .1 .1 .1 .0))
     where
-      -- whatever else a free place has not, it has no record
-      go : {rest : Bool} → (1 ≤ getD (b .shares) p 0) ⊎ (eqb (getD (b .numbers) p 0) 0 && (eqb (getD (b .starts) p 0) 0 && (eqb (getD (b .counts) p 0) 0 && rest)) ≡ true) → 1 ≤ getD (b .shares) p 0
+      go : (1 ≤ getD (b .shares) p 0) ⊎ ((eqb (getD (b .numbers) p 0) 0 ≡ true) × ((eqb (getD (b .starts) p 0) 0 ≡ true) × ((eqb (getD (b .counts) p 0) 0 ≡ true) × (eqb (getD (b .deficits) p 0) 0 ≡ true)))) → 1 ≤ getD (b .shares) p 0
       go (inl l) = l
-      go (inr f) = absurd (true≢false (sym (and-left (eqb (getD (b .counts) p 0) 0) _ (and-right (eqb (getD (b .starts) p 0) 0) _ (and-right (eqb (getD (b .numbers) p 0) 0) _ f))) ∙ e))
+      go (inr f) = absurd (true≢false (sym (f .1 .1 .0) ∙ e))
 
   in-order-count : (p : ℕ) → inOrder p (getD (b .counts) p 0) (b .slot) ≡ true → eqb (getD (b .counts) p 0) 0 ≡ false
   unfolding inOrder
