@@ -26,13 +26,6 @@ abbrev μ-loop : tie.MeasureT-loop
 μ-loop log ids₀ lens₀ out₀ s b numbers₀ shares₀ starts₀ counts₀ deficits₀ ready₀ next₀ heads₀ tails₀ held₀ clock₀ active₀ pending₀ slot₀ left₀ stage₀ at₀ sent₀ used₀ line₀ ids lens out numbers shares starts counts deficits ready next heads tails held clock active pending slot left stage at sent used line =
     length log - at
 
--- from the loop back to the start, and from a field that is about to be played back to where it was read: past every array
-start-of : tie.At-loop Inv-loop μ-loop → tie.Start Inv-loop μ-loop
-start-of c = c .before .before .before .before .before .before .before .before .before .before .before .before .before .before .before .before .before .before
-
-here2-of : tie.After-line3 Inv-loop μ-loop → tie.After-here2 Inv-loop μ-loop
-here2-of c = c .before .before .before .before .before .before .before .before .before .before .before .before .before .before
-
 loop-holds : tie.Need-loop-holds Inv-loop μ-loop
 loop-holds c =
     let start = c .before .before .before .before .before .before .before .before .before .before .before .before .before .before .before .before .before in
@@ -44,13 +37,13 @@ sub-if1 c = omega (arith, c .loop .inv .fits, c .loop .inv .same)
 same-length : tie.Need-same-length Inv-loop μ-loop
 same-length c =
     let at-loop = c .before in
-    let start = start-of at-loop in
+    let start = at-loop .before .before .before .before .before .before .before .before .before .before .before .before .before .before .before .before .before .before in
     at-loop .loop .inv .good .ids-all ∙ sym (start .pre .good .ids-all)
 
 same-length-2 : tie.Need-same-length-2 Inv-loop μ-loop
 same-length-2 c =
     let at-loop = c .before in
-    let start = start-of at-loop in
+    let start = at-loop .before .before .before .before .before .before .before .before .before .before .before .before .before .before .before .before .before .before in
     at-loop .loop .inv .good .lens-all ∙ sym (start .pre .good .lens-all)
 
 same-length-3 : tie.Need-same-length-3 Inv-loop μ-loop
@@ -59,7 +52,7 @@ same-length-3 c = c .before .loop .inv .same
 returns : tie.Need-returns Inv-loop μ-loop
 returns c =
     let at-loop = c .before in
-    let start = start-of at-loop in
+    let start = at-loop .before .before .before .before .before .before .before .before .before .before .before .before .before .before .before .before .before .before in
     under-more _ _ _ _ _ _ _ _ _ (at-loop .loop .inv) _ _ _ (left-is _ (start .pre .past) _ _ _) (long-anywhere _ _ _ _ _ ∙ start .pre .short) (read-is (start .args .s) (start .pre .past)) (c .if1 .taken)
 
 next-at-requires : tie.Need-next-at-requires Inv-loop μ-loop
@@ -87,13 +80,13 @@ last-piece-requires c κs = search needs
 same-length-4 : tie.Need-same-length-4 Inv-loop μ-loop
 same-length-4 c =
     let at-loop = c .before .before .before .before .before .before .before .before .before .before .before .before .before .before .before in
-    let start = start-of at-loop in
+    let start = at-loop .before .before .before .before .before .before .before .before .before .before .before .before .before .before .before .before .before .before in
     at-loop .loop .inv .good .ids-all ∙ sym (start .pre .good .ids-all)
 
 same-length-5 : tie.Need-same-length-5 Inv-loop μ-loop
 same-length-5 c =
     let at-loop = c .before .before .before .before .before .before .before .before .before .before .before .before .before .before .before in
-    let start = start-of at-loop in
+    let start = at-loop .before .before .before .before .before .before .before .before .before .before .before .before .before .before .before .before .before .before in
     at-loop .loop .inv .good .lens-all ∙ sym (start .pre .good .lens-all)
 
 same-length-6 : tie.Need-same-length-6 Inv-loop μ-loop
@@ -111,7 +104,7 @@ returns-2 c =
     let at-next-at = at-here .before .before in
     let at-if1 = at-next-at .before in
     let at-loop = at-if1 .before in
-    let start = start-of at-loop in
+    let start = at-loop .before .before .before .before .before .before .before .before .before .before .before .before .before .before .before .before .before .before in
     let shown = at-show-end .show-end .ensures in
     let room = under-room _ _ _ _ _ _ _ _ _ (at-loop .loop .inv) (at-if1 .if1 .left) in
     let read = sym (at-next-at .next-at .ensures) ∙ at-here .here .given .1 in
@@ -124,17 +117,17 @@ enum-known-here-2 c = search needs
 
 play-field-requires : tie.Need-play-field-requires Inv-loop μ-loop
 play-field-requires c κs =
-    let at-here2 = here2-of c in
+    let at-here2 = c .before .before .before .before .before .before .before .before .before .before .before .before .before .before in
     let at-next-at = at-here2 .before .before in
     let at-loop = at-next-at .before .before in
-    let start = start-of at-loop in
+    let start = at-loop .before .before .before .before .before .before .before .before .before .before .before .before .before .before .before .before .before .before in
     let f = sym (at-next-at .next-at .ensures) ∙ at-here2 .here2 .given .1 in
     (at-loop .loop .inv .good, (under-small _ _ _ _ _ _ _ _ _ (at-loop .loop .inv) _ _ f, turn-later _ _ (at-loop .loop .inv .past) (whole-is _ _ _ _ _ (goes-only _ _ _ _ _ f .0) .turn)))
 
 append-requires-2 : tie.Need-append-requires-2 Inv-loop μ-loop
 append-requires-2 c κs =
     let at-play-field = c .before .before .before .before .before .before in
-    let at-if1 = here2-of (at-play-field .before) .before .before .before in
+    let at-if1 = at-play-field .before .before .before .before .before .before .before .before .before .before .before .before .before .before .before .before .before .before in
     let at-loop = at-if1 .before in
     let short = at-play-field .play-field .ensures .short in
     (short, under-fits _ _ _ _ _ _ _ _ _ (at-loop .loop .inv) (at-if1 .if1 .left) _ short)
@@ -144,8 +137,7 @@ stage-after-requires c κs = search needs
 
 loop-less : tie.Need-loop-less Inv-loop μ-loop
 loop-less c =
-    let at-play-field = c .before .before .before .before .before .before .before .before .before .before .before .before in
-    let at-here2 = here2-of (at-play-field .before) in
+    let at-here2 = c .before .before .before .before .before .before .before .before .before .before .before .before .before .before .before .before .before .before .before .before .before .before .before .before .before .before .before in
     let at-next-at = at-here2 .before .before in
     let f = goes-next _ _ _ _ _ (sym (at-next-at .next-at .ensures) ∙ at-here2 .here2 .given .1) in
     omega (arith, f .0, f .1)
@@ -155,7 +147,7 @@ loop-again c =
     let at-stage-after = c .before .before in
     let at-append2 = at-stage-after .before .before .before in
     let at-play-field = at-append2 .before .before .before .before .before .before .before in
-    let at-here2 = here2-of (at-play-field .before) in
+    let at-here2 = at-play-field .before .before .before .before .before .before .before .before .before .before .before .before .before .before .before in
     let at-next-at = at-here2 .before .before in
     let at-if1 = at-next-at .before in
     let at-loop = at-if1 .before in
