@@ -2,7 +2,7 @@
 use mathlib.Core.Path.{_≡_, refl, sym, ap, _∙_}
 use mathlib.Core.Bool.{Bool, true, false, cond, _&&_}
 use mathlib.Core.List.{List}
-use Prim.Native.Nat.{ℕ, _≤_}
+use Prim.Native.Nat.{ℕ, _+_, _≤_}
 use native.Mathlib.Omega.{arith}
 use borrow.Author.Tests.{eqb-true, eq-eqb, ne-eqb, lt-ltb, le-ltb}
 use lib.Dec.{eqb}
@@ -10,13 +10,11 @@ use lib.ListN.{length}
 use Rattle.base.proofs.Numbers.{false-lt}
 use Rattle.base.proofs.Tests.{and-left, and-right, and-both}
 use Rattle.log.specs.declared.Stage.{Stage}
-use Rattle.log.specs.declared.Event.{Event}
-use Rattle.log.specs.declared.Field.{Field}
-use Rattle.log.specs.declared.Field.the-variants.{Whole, Broken}
 use Rattle.log.specs.declared.End.the-variants.{Whole as whole, Broken as broken, Long as long}
+use Rattle.log.specs.declared.Next.{Next}
 use Rattle.log.specs.declared.Next.the-variants.{GoesOn, Ends}
-use Rattle.log.specs.Format.{pastL, fieldAt, isLong}
-use Rattle.log.specs.Rows.{atEnd, nextOf, nextAt, endsLong}
+use Rattle.log.specs.Format.{tagAt, lengthAt, eventOf, isWhole, pastL, fieldAt, isLong}
+use Rattle.log.specs.Rows.{atEnd, nextAt, endsLong}
 use Rattle.log.specs.Laws.{Ahead, BeforeAll, NextLong, LongExactly, NextWhole, NextEnd, NextBroken, GoesOnly, EndsOnly, BreaksOnly}
 use Rattle.log.proofs.Fields.{whole-next, broken-at}
 
@@ -66,13 +64,9 @@ module _ (s : List ℕ) (at : ℕ) (stage : Stage) where
     found-end t = rw (short, t)
 
     module _ (t : atEnd s at stage ≡ false) where
-      pub found-broken : (n : ℕ) → fieldAt s at stage ≡ Broken n → Ends (broken at) ≡ nextAt s at stage
+      pub found-field : fieldAt s at stage ≡ nextAt s at stage
       unfolding nextAt
-      found-broken n f = rw (short, t, f) (ap (λ (i : ℕ). Ends (broken i)) (sym (broken-at s at stage n f)))
-
-      pub found-field : (e : Event) (next : ℕ) → fieldAt s at stage ≡ Whole e next → GoesOn e next ≡ nextAt s at stage
-      unfolding nextAt
-      found-field e next f = rw (short, t, f)
+      found-field = rw (short, t)
 
 -- ---- the same by the length of the log
 
@@ -83,23 +77,36 @@ next-long s at stage l = sym (found-long s at stage (lt-ltb 32768 (length s) l))
 pub next-whole : NextWhole
 next-whole s at stage e next l h =
     let on = whole-next s at stage e next h in
-    sym (found-field s at stage (short-no (length s) l) (ahead s at stage (omega (arith, on))) e next h)
+    sym (found-field s at stage (short-no (length s) l) (ahead s at stage (omega (arith, on)))) ∙ h
 
 pub next-end : NextEnd
 next-end s stage l p = sym (found-end s (length s) stage (short-no (length s) l) (at-end-here s stage p))
 
 pub next-broken : NextBroken
-next-broken s at stage n l t h = sym (found-broken s at stage (short-no (length s) l) t n h)
+next-broken s at stage n l t h =
+    sym (found-field s at stage (short-no (length s) l) t) ∙ h
+    ∙ ap (λ (i : ℕ). Ends (broken i)) (broken-at s at stage n h)
+
+-- a field ends no log whole, and none as a long one
+field-ends : (s : List ℕ) (at : ℕ) (stage : Stage) → (fieldAt s at stage ≡ Ends whole → ⊥) × (endsLong (fieldAt s at stage) ≡ false)
+unfolding fieldAt
+field-ends s at stage = go (isWhole s at stage)
+  where
+    here : Bool → Next
+    here t = cond t (GoesOn (eventOf s (tagAt s at) (at + 3)) (at + 3 + lengthAt s at)) (Ends (broken at))
+
+    go : (t : Bool) → (here t ≡ Ends whole → ⊥) × (endsLong (here t) ≡ false)
+    go true = (λ h. absurd (let z : _≡_ {A = ℕ} 0 1 = cc in omega arith), refl)
+    go false = (λ h. absurd (let z : _≡_ {A = ℕ} 0 1 = cc in omega arith), refl)
 
 pub long-exactly : LongExactly
 unfolding nextAt
-long-exactly s at stage = go (isLong (length s)) (atEnd s at stage) (fieldAt s at stage)
+long-exactly s at stage = go (isLong (length s)) (atEnd s at stage)
   where
-    go : (a b : Bool) (f : Field) → endsLong (cond a (Ends long) (cond b (Ends whole) (nextOf f))) ≡ a
-    go true b f = refl
-    go false true f = refl
-    go false false (Whole e next) = refl
-    go false false (Broken n) = refl
+    go : (a b : Bool) → endsLong (cond a (Ends long) (cond b (Ends whole) (fieldAt s at stage))) ≡ a
+    go true b = refl
+    go false true = refl
+    go false false = field-ends s at stage .1
 
 -- it is long wherever it is asked
 pub long-anywhere : (s : List ℕ) (at at′ : ℕ) (stage stage′ : Stage) → endsLong (nextAt s at stage) ≡ endsLong (nextAt s at′ stage′)
@@ -109,37 +116,31 @@ long-anywhere s at at′ stage stage′ = long-exactly s at stage ∙ sym (long-
 
 pub goes-only : GoesOnly
 unfolding nextAt
-goes-only s at stage e next h = go (isLong (length s)) (atEnd s at stage) (fieldAt s at stage) refl refl h
+goes-only s at stage e next h = go (isLong (length s)) (atEnd s at stage) refl h
   where
-    go : (a b : Bool) (f : Field) → isLong (length s) ≡ a → fieldAt s at stage ≡ f
-        → cond a (Ends long) (cond b (Ends whole) (nextOf f)) ≡ GoesOn e next
-        → (fieldAt s at stage ≡ Whole e next) × (next ≤ 32768)
-    go true b f p r h = absurd (let z : _≡_ {A = ℕ} 0 1 = cc in omega arith)
-    go false true f p r h = absurd (let z : _≡_ {A = ℕ} 0 1 = cc in omega arith)
-    go false false (Whole e′ next′) p r h =
-        let same : next′ ≡ next = cc in
-        (cc, omega (arith, same, whole-next s at stage e′ next′ r, short-only (length s) p))
-    go false false (Broken n) p r h = absurd (let z : _≡_ {A = ℕ} 0 1 = cc in omega arith)
+    go : (a b : Bool) → isLong (length s) ≡ a
+        → cond a (Ends long) (cond b (Ends whole) (fieldAt s at stage)) ≡ GoesOn e next
+        → (fieldAt s at stage ≡ GoesOn e next) × (next ≤ 32768)
+    go true b p h = absurd (let z : _≡_ {A = ℕ} 0 1 = cc in omega arith)
+    go false true p h = absurd (let z : _≡_ {A = ℕ} 0 1 = cc in omega arith)
+    go false false p h = (h, omega (arith, whole-next s at stage e next h, short-only (length s) p))
 
 pub ends-only : EndsOnly
 unfolding nextAt
-ends-only s at stage h = go (isLong (length s)) (atEnd s at stage) (fieldAt s at stage) refl h
+ends-only s at stage h = go (isLong (length s)) (atEnd s at stage) refl h
   where
-    go : (a b : Bool) (f : Field) → atEnd s at stage ≡ b → cond a (Ends long) (cond b (Ends whole) (nextOf f)) ≡ Ends whole
+    go : (a b : Bool) → atEnd s at stage ≡ b → cond a (Ends long) (cond b (Ends whole) (fieldAt s at stage)) ≡ Ends whole
         → (pastL stage ≡ true) × (at ≡ length s)
-    go true b f q h = absurd (let z : _≡_ {A = ℕ} 0 1 = cc in omega arith)
-    go false true f q h = at-end-only s at stage q
-    go false false (Whole e next) q h = absurd (let z : _≡_ {A = ℕ} 0 1 = cc in omega arith)
-    go false false (Broken n) q h = absurd (let z : _≡_ {A = ℕ} 0 1 = cc in omega arith)
+    go true b q h = absurd (let z : _≡_ {A = ℕ} 0 1 = cc in omega arith)
+    go false true q h = at-end-only s at stage q
+    go false false q h = absurd (field-ends s at stage .0 h)
 
 pub breaks-only : BreaksOnly
 unfolding nextAt
-breaks-only s at stage n h = go (isLong (length s)) (atEnd s at stage) (fieldAt s at stage) refl refl h
+breaks-only s at stage n h = go (isLong (length s)) (atEnd s at stage) refl h
   where
-    go : (a b : Bool) (f : Field) → atEnd s at stage ≡ b → fieldAt s at stage ≡ f
-        → cond a (Ends long) (cond b (Ends whole) (nextOf f)) ≡ Ends (broken n)
-        → (atEnd s at stage ≡ false) × (fieldAt s at stage ≡ Broken n)
-    go true b f q r h = absurd (let z : _≡_ {A = ℕ} 0 1 = cc in omega arith)
-    go false true f q r h = absurd (let z : _≡_ {A = ℕ} 0 1 = cc in omega arith)
-    go false false (Whole e next) q r h = absurd (let z : _≡_ {A = ℕ} 0 1 = cc in omega arith)
-    go false false (Broken m) q r h = (q, cc)
+    go : (a b : Bool) → atEnd s at stage ≡ b → cond a (Ends long) (cond b (Ends whole) (fieldAt s at stage)) ≡ Ends (broken n)
+        → (atEnd s at stage ≡ false) × (fieldAt s at stage ≡ Ends (broken n))
+    go true b q h = absurd (let z : _≡_ {A = ℕ} 0 1 = cc in omega arith)
+    go false true q h = absurd (let z : _≡_ {A = ℕ} 0 1 = cc in omega arith)
+    go false false q h = (q, h)

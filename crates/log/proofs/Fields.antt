@@ -10,7 +10,8 @@ use lib.ListN.{length}
 use Rattle.base.proofs.Tests.{and-left, and-right, and-both}
 use Rattle.log.specs.declared.Stage.{Stage}
 use Rattle.log.specs.declared.Event.{Event}
-use Rattle.log.specs.declared.Field.the-variants.{Whole, Broken}
+use Rattle.log.specs.declared.End.the-variants.{Broken as broken}
+use Rattle.log.specs.declared.Next.the-variants.{GoesOn, Ends}
 use Rattle.log.specs.declared.Frame.the-variants.{Framed, Cut}
 use Rattle.log.specs.Format.{tagAt, lengthAt, isFramed, frameAt, lengthOf, lastTag, rightLength, eventOf, inTurn, isWhole, fieldAt}
 
@@ -71,27 +72,27 @@ right-room tag n h = go (leb 128 tag) refl h
 -- ---- the field, by what it is made of
 
 pub made-whole : (s : List ℕ) (at tag n : ℕ) (stage : Stage) (e : Event) → FrameIs s at tag n → rightLength tag n ≡ true → eventOf s tag (at + 3) ≡ e → inTurn e stage ≡ true
-    → fieldAt s at stage ≡ Whole e (at + 3 + n)
+    → fieldAt s at stage ≡ GoesOn e (at + 3 + n)
 unfolding fieldAt isWhole
 made-whole s at tag n stage e f r q t = rw (f .there, f .tagged, f .sized, r, q, t)
 
 pub frame-fits : (s : List ℕ) (at tag n : ℕ) → frameAt s at ≡ Framed tag n → at + 3 + n ≤ length s
 frame-fits s at tag n e = omega (arith, framed-fits s at (frame-is s at tag n e .there), frame-is s at tag n e .sized)
 
-pub field-cut : (s : List ℕ) (at : ℕ) (stage : Stage) → frameAt s at ≡ Cut → Broken at ≡ fieldAt s at stage
+pub field-cut : (s : List ℕ) (at : ℕ) (stage : Stage) → frameAt s at ≡ Cut → Ends (broken at) ≡ fieldAt s at stage
 unfolding fieldAt isWhole
 field-cut s at stage e = rw (frame-cut s at e)
 
 module _ (s : List ℕ) (at tag n : ℕ) (stage : Stage) (e : frameAt s at ≡ Framed tag n) where
-  pub field-wrong : rightLength tag n ≡ false → Broken at ≡ fieldAt s at stage
+  pub field-wrong : rightLength tag n ≡ false → Ends (broken at) ≡ fieldAt s at stage
   unfolding fieldAt isWhole
   field-wrong r = rw (frame-is s at tag n e .there, frame-is s at tag n e .tagged, frame-is s at tag n e .sized, r)
 
-  pub field-early : rightLength tag n ≡ true → inTurn (eventOf s tag (at + 3)) stage ≡ false → Broken at ≡ fieldAt s at stage
+  pub field-early : rightLength tag n ≡ true → inTurn (eventOf s tag (at + 3)) stage ≡ false → Ends (broken at) ≡ fieldAt s at stage
   unfolding fieldAt isWhole
   field-early r t = rw (frame-is s at tag n e .there, frame-is s at tag n e .tagged, frame-is s at tag n e .sized, r, t)
 
-  pub field-whole : rightLength tag n ≡ true → inTurn (eventOf s tag (at + 3)) stage ≡ true → Whole (eventOf s tag (at + 3)) (at + 3 + n) ≡ fieldAt s at stage
+  pub field-whole : rightLength tag n ≡ true → inTurn (eventOf s tag (at + 3)) stage ≡ true → GoesOn (eventOf s tag (at + 3)) (at + 3 + n) ≡ fieldAt s at stage
   field-whole r t = sym (made-whole s at tag n stage (eventOf s tag (at + 3)) (frame-is s at tag n e) r refl t)
 
 -- ---- what a whole and a broken field are
@@ -103,7 +104,7 @@ pub record WholeIs (s : List ℕ) (at : ℕ) (stage : Stage) (e : Event) (next :
   pub says : eventOf s (tagAt s at) (at + 3) ≡ e
   pub ends : next ≡ at + 3 + lengthAt s at
 
-pub whole-is : (s : List ℕ) (at : ℕ) (stage : Stage) (e : Event) (next : ℕ) → fieldAt s at stage ≡ Whole e next → WholeIs s at stage e next
+pub whole-is : (s : List ℕ) (at : ℕ) (stage : Stage) (e : Event) (next : ℕ) → fieldAt s at stage ≡ GoesOn e next → WholeIs s at stage e next
 unfolding fieldAt isWhole
 whole-is s at stage e next h = go (isFramed s at) (rightLength (tagAt s at) (lengthAt s at)) (inTurn said stage) refl refl refl h
   where
@@ -111,7 +112,7 @@ whole-is s at stage e next h = go (isFramed s at) (rightLength (tagAt s at) (len
     said = eventOf s (tagAt s at) (at + 3)
 
     go : (a b c : Bool) → isFramed s at ≡ a → rightLength (tagAt s at) (lengthAt s at) ≡ b → inTurn said stage ≡ c
-        → cond (a && (b && (c && true))) (Whole said (at + 3 + lengthAt s at)) (Broken at) ≡ Whole e next → WholeIs s at stage e next
+        → cond (a && (b && (c && true))) (GoesOn said (at + 3 + lengthAt s at)) (Ends (broken at)) ≡ GoesOn e next → WholeIs s at stage e next
     go true true true p q r h =
         let u : said ≡ e = cc in
         record { framed = p; right = q; turn = rw (← u) r; says = u; ends = cc }
@@ -119,14 +120,14 @@ whole-is s at stage e next h = go (isFramed s at) (rightLength (tagAt s at) (len
     go true false c p q r h = absurd (let z : _≡_ {A = ℕ} 0 1 = cc in omega arith)
     go false b c p q r h = absurd (let z : _≡_ {A = ℕ} 0 1 = cc in omega arith)
 
-pub broken-at : (s : List ℕ) (at : ℕ) (stage : Stage) (n : ℕ) → fieldAt s at stage ≡ Broken n → n ≡ at
+pub broken-at : (s : List ℕ) (at : ℕ) (stage : Stage) (n : ℕ) → fieldAt s at stage ≡ Ends (broken n) → n ≡ at
 unfolding fieldAt
 broken-at s at stage n h = go (isWhole s at stage) h
   where
-    go : (t : Bool) → cond t (Whole (eventOf s (tagAt s at) (at + 3)) (at + 3 + lengthAt s at)) (Broken at) ≡ Broken n → n ≡ at
+    go : (t : Bool) → cond t (GoesOn (eventOf s (tagAt s at) (at + 3)) (at + 3 + lengthAt s at)) (Ends (broken at)) ≡ Ends (broken n) → n ≡ at
     go true h = absurd (let z : _≡_ {A = ℕ} 0 1 = cc in omega arith)
     go false h = cc
 
 -- a field has three bytes before its value, and ends within the log
-pub whole-next : (s : List ℕ) (at : ℕ) (stage : Stage) (e : Event) (next : ℕ) → fieldAt s at stage ≡ Whole e next → (at + 3 ≤ next) × (next ≤ length s)
+pub whole-next : (s : List ℕ) (at : ℕ) (stage : Stage) (e : Event) (next : ℕ) → fieldAt s at stage ≡ GoesOn e next → (at + 3 ≤ next) × (next ≤ length s)
 whole-next s at stage e next h = let w = whole-is s at stage e next h in (omega (arith, w .ends), omega (arith, w .ends, framed-fits s at (w .framed)))

@@ -9,7 +9,6 @@ use lib.ListN.{length}
 use Rattle.log.specs.declared.Stage.{Stage}
 use Rattle.log.specs.declared.Stage.the-variants.{BeforeL}
 use Rattle.log.specs.declared.Event.{Event}
-use Rattle.log.specs.declared.Field.the-variants.{Broken}
 use Rattle.log.specs.declared.End.{End}
 use Rattle.log.specs.declared.End.the-variants.{Whole as whole, Broken as broken, Long as long}
 use Rattle.log.specs.declared.Next.{Next}
@@ -112,7 +111,7 @@ reached-end s l at stage [] e r p h =
 reached-end s l at stage (f ∷ fs) e r p h = reached-end s l (f .next) (stageAfter stage (f .event)) fs e (r .1 .1) p h
 
 stopped-at : (s : List ℕ) (at : ℕ) (stage : Stage) (fs : List WholeField) (e : End) (n : ℕ) → Reads s at stage fs e
-    → e ≡ broken n → (n ≡ endOf at fs) × (fieldAt s n (stageOf stage fs) ≡ Broken n)
+    → e ≡ broken n → (n ≡ endOf at fs) × (fieldAt s n (stageOf stage fs) ≡ Ends (broken n))
 stopped-at s at stage [] e n r h =
     let f = breaks-only s at stage n (r ∙ ap Ends h) .1 in
     let same = broken-at s at stage n f in

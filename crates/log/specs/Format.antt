@@ -9,8 +9,9 @@ use Rattle.log.specs.declared.Event.{Event}
 use Rattle.log.specs.declared.Event.the-variants.{Largest, Open, Close, Rename, Arrive, Serve, Passed}
 use Rattle.log.specs.declared.Stage.{Stage}
 use Rattle.log.specs.declared.Stage.the-variants.{BeforeL, AfterL}
-use Rattle.log.specs.declared.Field.{Field}
-use Rattle.log.specs.declared.Field.the-variants.{Whole, Broken}
+use Rattle.log.specs.declared.End.the-variants.{Broken as broken}
+use Rattle.log.specs.declared.Next.{Next}
+use Rattle.log.specs.declared.Next.the-variants.{GoesOn, Ends}
 use Rattle.log.specs.declared.Frame.{Frame}
 use Rattle.log.specs.declared.Frame.the-variants.{Framed, Cut}
 
@@ -108,10 +109,10 @@ isWhole s at stage =
     ∷ inTurn (eventOf s (tagAt s at) (at + 3)) stage
     ∷ [])
 
--- The broken offset is that of the field's first byte.
-unfoldable pub fieldAt : List ℕ → ℕ → Stage → Field
+-- The log goes on with a whole field. The broken offset is that of the field's first byte.
+unfoldable pub fieldAt : List ℕ → ℕ → Stage → Next
 fieldAt s at stage =
-    cond (isWhole s at stage) (Whole (eventOf s (tagAt s at) (at + 3)) (at + 3 + lengthAt s at)) (Broken at)
+    cond (isWhole s at stage) (GoesOn (eventOf s (tagAt s at) (at + 3)) (at + 3 + lengthAt s at)) (Ends (broken at))
 
 -- A log over 32,768 bytes gives the one line `long`.
 unfoldable pub isLong : ℕ → Bool

@@ -7,7 +7,6 @@ use lib.ListN.{length, drop}
 use Rattle.log.specs.declared.Stage.{Stage}
 use Rattle.log.specs.declared.Stage.the-variants.{BeforeL}
 use Rattle.log.specs.declared.Event.{Event}
-use Rattle.log.specs.declared.Field.the-variants.{Whole, Broken}
 use Rattle.log.specs.declared.End.{End}
 use Rattle.log.specs.declared.End.the-variants.{Whole as whole, Broken as broken, Long as long}
 use Rattle.log.specs.declared.Next.the-variants.{GoesOn, Ends}
@@ -23,13 +22,13 @@ use Rattle.log.specs.Spelling.{fieldOf, valueAt, Says, AllBytes, Spelt, 
 abbrev pub FieldBack : Type 0
 FieldBack = (e : Event) (tag : ℕ) (value pre rest : List ℕ) (stage : Stage) → Says e tag value → inTurn e stage ≡ true
     → fieldAt (pre ++ (fieldOf tag value ++ rest)) (length pre) stage
-    ≡ Whole e (length pre + length (fieldOf tag value))
+    ≡ GoesOn e (length pre + length (fieldOf tag value))
 
 -- A field that is read whole says that event in its turn, and the log from its offset on is the field's bytes and what
 -- follows them.
 abbrev pub FieldOnly : Type 0
 FieldOnly = (s : List ℕ) (at : ℕ) (stage : Stage) (e : Event) (next : ℕ)
-    → AllBytes s → fieldAt s at stage ≡ Whole e next
+    → AllBytes s → fieldAt s at stage ≡ GoesOn e next
     → (Says e (tagAt s at) (valueAt s at) × (inTurn e stage ≡ true))
     × (drop at s ≡ fieldOf (tagAt s at) (valueAt s at) ++ drop next s)
 
@@ -49,19 +48,19 @@ LongExactly = (s : List ℕ) (at : ℕ) (stage : Stage) → endsLong (nextAt s a
 -- Any other goes on with a whole field, and ends where there is none: whole after L at its last byte, else broken.
 abbrev pub NextWhole : Type 0
 NextWhole = (s : List ℕ) (at : ℕ) (stage : Stage) (e : Event) (next : ℕ) → length s ≤ 32768
-    → fieldAt s at stage ≡ Whole e next → nextAt s at stage ≡ GoesOn e next
+    → fieldAt s at stage ≡ GoesOn e next → nextAt s at stage ≡ GoesOn e next
 
 abbrev pub NextEnd : Type 0
 NextEnd = (s : List ℕ) (stage : Stage) → length s ≤ 32768 → pastL stage ≡ true → nextAt s (length s) stage ≡ Ends whole
 
 abbrev pub NextBroken : Type 0
 NextBroken = (s : List ℕ) (at : ℕ) (stage : Stage) (n : ℕ) → length s ≤ 32768 → atEnd s at stage ≡ false
-    → fieldAt s at stage ≡ Broken n → nextAt s at stage ≡ Ends (broken at)
+    → fieldAt s at stage ≡ Ends (broken n) → nextAt s at stage ≡ Ends (broken at)
 
 -- And only so. A log that goes on is not long, so that its offsets are bounded.
 abbrev pub GoesOnly : Type 0
 GoesOnly = (s : List ℕ) (at : ℕ) (stage : Stage) (e : Event) (next : ℕ) → nextAt s at stage ≡ GoesOn e next
-    → (fieldAt s at stage ≡ Whole e next) × (next ≤ 32768)
+    → (fieldAt s at stage ≡ GoesOn e next) × (next ≤ 32768)
 
 abbrev pub EndsOnly : Type 0
 EndsOnly = (s : List ℕ) (at : ℕ) (stage : Stage) → nextAt s at stage ≡ Ends whole
@@ -69,7 +68,7 @@ EndsOnly = (s : List ℕ) (at : ℕ) (stage : Stage) → nextAt s at stage ≡ E
 
 abbrev pub BreaksOnly : Type 0
 BreaksOnly = (s : List ℕ) (at : ℕ) (stage : Stage) (n : ℕ) → nextAt s at stage ≡ Ends (broken n)
-    → (atEnd s at stage ≡ false) × (fieldAt s at stage ≡ Broken n)
+    → (atEnd s at stage ≡ false) × (fieldAt s at stage ≡ Ends (broken n))
 
 -- ---- The whole log
 

@@ -9,8 +9,6 @@ use Rattle.log.specs.declared.Event.{Event}
 use Rattle.log.specs.declared.Event.the-variants.{Largest}
 use Rattle.log.specs.declared.Stage.{Stage}
 use Rattle.log.specs.declared.Stage.the-variants.{BeforeL}
-use Rattle.log.specs.declared.Field.{Field}
-use Rattle.log.specs.declared.Field.the-variants.{Whole, Broken}
 use Rattle.log.specs.declared.End.{End}
 use Rattle.log.specs.declared.End.the-variants.{Whole as whole, Broken as broken, Long as long}
 use Rattle.log.specs.declared.Next.{Next}
@@ -37,18 +35,13 @@ andThen f r = record { fields = f ∷ r .fields; ends = r .ends }
 unfoldable pub atEnd : List ℕ → ℕ → Stage → Bool
 atEnd s at stage = pastL stage && eqb at (length s)
 
--- A field that is not whole ends the log.
-abbrev pub nextOf : Field → Next
-nextOf (Whole e next) = GoesOn e next
-nextOf (Broken n) = Ends (broken n)
-
 -- THE END OF A LOG: whether it ends at an offset, in a stage, and how; or else the field there. A log over 32,768 bytes
 -- is long wherever this is asked. No other definition asks how a log ends, or for its whole length.
 unfoldable pub nextAt : List ℕ → ℕ → Stage → Next
 nextAt s at stage =
     cond (isLong (length s)) (Ends long)
     (cond (atEnd s at stage) (Ends whole)
-    (nextOf (fieldAt s at stage)))
+    (fieldAt s at stage))
 
 -- That is the end of a long log.
 abbrev pub endsLong : Next → Bool
@@ -119,5 +112,5 @@ pub record RowOf (s : List ℕ) (r : Reading) : Type 0 where
   pub ended : r .ends ≡ whole → (pastL (stageOf BeforeL (r .fields)) ≡ true) × (endOf 0 (r .fields) ≡ length s)
   pub reached : pastL (stageOf BeforeL (r .fields)) ≡ true → endOf 0 (r .fields) ≡ length s → r .ends ≡ whole
   pub stopped : (n : ℕ) → r .ends ≡ broken n
-      → (n ≡ endOf 0 (r .fields)) × (fieldAt s n (stageOf BeforeL (r .fields)) ≡ Broken n)
+      → (n ≡ endOf 0 (r .fields)) × (fieldAt s n (stageOf BeforeL (r .fields)) ≡ Ends (broken n))
   pub short : r .ends ≡ long → ⊥

@@ -34,12 +34,6 @@ pub enum Stage {
     AfterL,
 }
 
-// A field is whole, with the offset after it, or it ends the reading at its own offset.
-pub enum Field {
-    Whole(Event, usize),
-    Broken(usize),
-}
-
 // How a log ends: where its last field ends, at a broken field's offset, or it is long.
 pub enum End {
     Whole,
@@ -196,23 +190,23 @@ fn in_turn(event: Event, stage: Stage) -> bool
     LEAST_LARGEST <= largest && largest <= GREATEST_LARGEST
 }
 
-// The field at an offset, in a stage.
-pub fn field_at(log: &[u8], at: usize, stage: Stage) -> Field
+// The field at an offset, in a stage: the log goes on with it, or it is broken and ends the log.
+fn field_at(log: &[u8], at: usize, stage: Stage) -> Next
     ensures { λ r. ⌜ r ≡ fieldAt (now (log .entry)) at stage ⌝ }
 {
     let Frame::Framed(tag, n) = frame_at(log, at) else {
-        return Field::Broken(at);
+        return Next::Ends(End::Broken(at));
     };
     if !right_length(tag, n) {
-        return Field::Broken(at);
+        return Next::Ends(End::Broken(at));
     }
     let value = at + HEADER;
     let next = value + n;
     let event = event_at(log, tag, value);
     if in_turn(event, stage) {
-        return Field::Whole(event, next);
+        return Next::GoesOn(event, next);
     }
-    Field::Broken(at)
+    Next::Ends(End::Broken(at))
 }
 
 // Whether a log of this many bytes is over 32,768, and so is not read.
@@ -242,10 +236,7 @@ pub fn next_at(log: &[u8], at: usize, stage: Stage) -> Next
     if at_end(log, at, stage) {
         return Next::Ends(End::Whole);
     }
-    let Field::Whole(event, next) = field_at(log, at, stage) else {
-        return Next::Ends(End::Broken(at));
-    };
-    Next::GoesOn(event, next)
+    field_at(log, at, stage)
 }
 
 // Whether what stands there is the end of a long log.
