@@ -24,6 +24,7 @@ use Rattle.operands.specs.declared.Opening.{Opening}
 use Rattle.board.specs.declared.Board as struct
 use Rattle.board.specs.declared.Reply.{Reply}
 use Rattle.board.specs.Reading.{encode, tab, view}
+use Rattle.board.specs.Memory.{blocksOf, withBlocks}
 use Rattle.board.specs.Leaving.{Returned, returned, replied, written, Known, ruled}
 use Rattle.board.proofs.Lists.{length-tab, getD-tab}
 use Rattle.board.proofs.Reading.{Fit}
@@ -32,7 +33,8 @@ use Rattle.board.proofs.Fields.{share-is, count-is}
 use Rattle.board.proofs.Bounds.{bought, within, held-most}
 use Rattle.board.proofs.Agrees.{turned, agrees, by-spelling}
 use Rattle.finding.proofs.Finding.{free-is, none-is, free-le, known-by, unknown-by}
-use Rattle.blocks.specs.Blocks.{Renaming, renaming, renamedAt, renamedIn, withRenaming, AfterOpening, afterOpening, openedIn, withOpening, heldWith, Closing, closing, closedAt, closedIn, withClosing, CloseNeeds}
+use Rattle.blocks.specs.Blocks.{Renaming, renaming, renamedAt, renamedIn, withRenaming}
+use Rattle.blocks.specs.Blocks.{Answered, answered, openAt, openedIn, closeAt, closedAt, closedIn, CloseNeeds}
 use Rattle.blocks.proofs.Blocks.{rename-is, open-is, close-is, quiet-active}
 
 module _ (m : Board.Board) (f : Fit m) where
@@ -82,37 +84,34 @@ module _ (m : Board.Board) (f : Fit m) (ids lens : List ℕ) (o : Opening) where
   abbrev s : ℕ
   s = o .share
 
-  abbrev openedTo : AfterOpening → Returned Reply
-  openedTo x = returned (replied (x .code) (withOpening (encode m) x)) ids lens
-
-  abbrev openedAt : ℕ → AfterOpening
-  openedAt i = afterOpening 0 (set (encode m .numbers) i n) (set (encode m .shares) i s)
+  abbrev openedTo : Answered → Returned Reply
+  openedTo x = returned (replied (x .code) (withBlocks (encode m) (x .blocks))) ids lens
 
   abbrev by-open : Turn → Returned Reply
   by-open = turned (encode m) ids lens m (open! (meant o))
 
-  opened-at : leb 64 (freeAt m) ≡ false → withOpening (encode m) (openedAt (freeAt m)) ≡ encode (goOn m (freeAt m) (opened (meant o)))
+  opened-at : leb 64 (freeAt m) ≡ false → withBlocks (encode m) (openAt (freeAt m) o (blocksOf (encode m))) ≡ encode (goOn m (freeAt m) (opened (meant o)))
   opened-at e = go (f .tidy .shape .placeOk p .named)
     where
       p : ℕ
       p = freeAt m
 
-      go : (at m p ≡ freePlace) ⊎ ((1 ≤ at m p .number) × (1 ≤ at m p .share)) → withOpening (encode m) (openedAt p) ≡ encode (goOn m p (opened (meant o)))
+      go : (at m p ≡ freePlace) ⊎ ((1 ≤ at m p .number) × (1 ≤ at m p .share)) → withBlocks (encode m) (openAt p o (blocksOf (encode m))) ≡ encode (goOn m p (opened (meant o)))
       go (inl q) =
           open-is m (f .tidy) p (inside m f p (false-lt 64 p e)) (ap (λ (y : Place). y .stand) q) (ap (λ (y : Place). length (y .lane)) q)
-          (ap (λ (y : Place). y .deficit) q) (meant o) (ap (λ (y : Place). y .start) q)
+          (ap (λ (y : Place). y .deficit) q) o (ap (λ (y : Place). y .start) q)
       go (inr h) = absurd (omega (arith, free-found m (false-lt 64 (freeAt m) e)))
 
-  pub opened-is : openedTo (openedIn (encode m .numbers) (encode m .shares) (encode m .held) o) ≡ written (encode m) ids lens (done! m (one (open! (meant o))))
+  pub opened-is : openedTo (openedIn (blocksOf (encode m)) o) ≡ written (encode m) ids lens (done! m (one (open! (meant o))))
   unfolding openedIn step openBlock
   opened-is =
       agrees openedTo by-open m _ (numberOutside n || shareOutside s) 4 _ _ _ refl refl λ e4.
       let taken = ap (λ (i : ℕ). eqb i 64) (free-is m (f .tidy)) ∙ none-is (freeAt m) (free-le m) in
       let pos = in-range s 65536 (or-right (numberOutside n) (shareOutside s) e4) .0 in
-      unknown-by m (f .tidy) openedTo by-open n (λ j. afterOpening 5 (encode m .numbers) (encode m .shares)) _ _ refl
+      unknown-by m (f .tidy) openedTo by-open n (λ j. answered 5 (blocksOf (encode m))) _ _ refl
       (agrees openedTo by-open m _ (allTaken m) 7 _ _ _ taken refl λ e7.
       agrees openedTo by-open m _ (overFree m s) 8 _ _ _ (room-is m f s pos) refl λ e8.
-      ap (λ (i : ℕ). openedTo (openedAt i)) (free-is m (f .tidy))
+      ap (λ (i : ℕ). openedTo (answered 0 (openAt i o (blocksOf (encode m))))) (free-is m (f .tidy))
       ∙ ap (λ (c : struct.Board). returned (replied 0 c) ids lens) (opened-at e7))
 
 -- ---- CLOSE
@@ -120,19 +119,14 @@ module _ (m : Board.Board) (f : Fit m) (ids lens : List ℕ) (n : ℕ) where
   abbrev b : struct.Board
   b = encode m
 
-  abbrev closedTo : Closing → Returned Reply
-  closedTo x = returned (replied (x .code) (withClosing (encode m) x)) ids lens
-
-  abbrev closedNow : ℕ → ℕ → Closing
-  closedNow i share =
-      closing 0 (set (encode m .numbers) i 0) (set (encode m .shares) i 0) (set (encode m .starts) i 0)
-      (heldWith (encode m .active) share (encode m .held))
+  abbrev closedTo : Answered → Returned Reply
+  closedTo x = returned (replied (x .code) (withBlocks b (x .blocks))) ids lens
 
   abbrev by-close : Turn → Returned Reply
   by-close = turned (encode m) ids lens m (close! n)
 
   closed-at : CanClose m (whereIs m n) n
-      → withClosing (encode m) (closedNow (whereIs m n) (at m (whereIs m n) .share)) ≡ encode (closed m (whereIs m n))
+      → withBlocks b (closeAt (b .active) (at m (whereIs m n) .share) (whereIs m n) (blocksOf b)) ≡ encode (closed m (whereIs m n))
   closed-at can =
       let owed = f .tidy .shape .placeOk p .clear (ap (λ s. isQueued s) was) in
       close-is m (f .tidy) p (in-places m (f .tidy .shape) p (can .has .inside)) was (can .empty) owed (quiet-active m (f .tidy))
@@ -143,16 +137,14 @@ module _ (m : Board.Board) (f : Fit m) (ids lens : List ℕ) (n : ℕ) where
       was : at m (whereIs m n) .stand ≡ out
       was = empty-out m (f .tidy .shape) (whereIs m n) (omega (arith, can .empty))
 
-  pub closed-is : closedTo (closedIn (encode m .active) (encode m .numbers) (encode m .shares) (encode m .starts) (encode m .counts) (encode m .held) n) ≡ written (encode m) ids lens (done! m (one (close! n)))
+  pub closed-is : closedTo (closedIn (b .active) (b .counts) (blocksOf b) n) ≡ written (encode m) ids lens (done! m (one (close! n)))
   unfolding closedIn step closeBlock
   closed-is =
-      let closes = closedAt (b .active) (b .numbers) (b .shares) (b .starts) (b .counts) (b .held) in
-      let stays = closing 6 (b .numbers) (b .shares) (b .starts) (b .held) in
-      known-by m (f .tidy) closedTo by-close n closes stays _ refl λ h.
+      known-by m (f .tidy) closedTo by-close n (closedAt (b .active) (b .counts) (blocksOf b)) (answered 6 (blocksOf b)) _ refl λ h.
       let waiting = ap (ltb 0) (count-is m (whereIs m n)) in
       agrees closedTo by-close m _ (waits (at m (whereIs m n))) 10 _ _ _ waiting refl λ e10.
       let can = can-close m n (ap not (leb-yes (suc (whereIs m n)) 64 h), (e10, tt)) in
-      ap (λ (s : ℕ). closedTo (closedNow (whereIs m n) s)) (share-is m (whereIs m n))
+      ap (λ (s : ℕ). closedTo (answered 0 (closeAt (b .active) s (whereIs m n) (blocksOf b)))) (share-is m (whereIs m n))
       ∙ ap (λ (c : struct.Board). returned (replied 0 c) ids lens) (closed-at can)
 
 module _ (m : Board.Board) (f : Fit m) where
@@ -173,8 +165,15 @@ module _ (b : struct.Board) (ids lens : List ℕ) (k : Known b ids lens) where
   pub rename-known : (old new : ℕ) (x : Renaming) → x ≡ renamedIn (b .numbers) old new → returned (replied (x .code) (withRenaming b x)) ids lens ≡ ruled b ids lens (rename! old new)
   rename-known old new x e = rw e (by-spelling b ids lens k (rename! old new) (λ c. returned (replied (renamedIn (c .numbers) old new .code) (withRenaming c (renamedIn (c .numbers) old new))) ids lens) (renamed-is m f ids lens old new))
 
-  pub open-known : (o : Opening) (x : AfterOpening) → x ≡ openedIn (b .numbers) (b .shares) (b .held) o → returned (replied (x .code) (withOpening b x)) ids lens ≡ ruled b ids lens (open! (meant o))
-  open-known o x e = rw e (by-spelling b ids lens k (open! (meant o)) (λ c. let x = openedIn (c .numbers) (c .shares) (c .held) o in returned (replied (x .code) (withOpening c x)) ids lens) (opened-is m f ids lens o))
+  -- the board with what was answered on its arrays
+  abbrev in-board : struct.Board → Answered → Returned Reply
+  in-board c x = returned (replied (x .code) (withBlocks c (x .blocks))) ids lens
 
-  pub close-known : (n : ℕ) (x : Closing) → x ≡ closedIn (b .active) (b .numbers) (b .shares) (b .starts) (b .counts) (b .held) n → returned (replied (x .code) (withClosing b x)) ids lens ≡ ruled b ids lens (close! n)
-  close-known n x e = rw e (by-spelling b ids lens k (close! n) (λ c. let x = closedIn (c .active) (c .numbers) (c .shares) (c .starts) (c .counts) (c .held) n in returned (replied (x .code) (withClosing c x)) ids lens) (closed-is m f ids lens n))
+  pub open-known : (o : Opening) (x : Answered) → x ≡ openedIn (blocksOf b) o → in-board b x ≡ ruled b ids lens (open! (meant o))
+  open-known o x e =
+      rw e (by-spelling b ids lens k (open! (meant o)) (λ c. in-board c (openedIn (blocksOf c) o)) (opened-is m f ids lens o))
+
+  pub close-known : (n : ℕ) (x : Answered) → x ≡ closedIn (b .active) (b .counts) (blocksOf b) n
+      → in-board b x ≡ ruled b ids lens (close! n)
+  close-known n x e =
+      rw e (by-spelling b ids lens k (close! n) (λ c. in-board c (closedIn (c .active) (c .counts) (blocksOf c) n)) (closed-is m f ids lens n))

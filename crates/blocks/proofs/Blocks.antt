@@ -19,7 +19,8 @@ use Rattle.units.proofs.Classes.{class-le}
 use Rattle.rules.specs.Board
 use Rattle.rules.specs.Board.{out, Place, freePlace, at, blockClass, waits, someWait, anyWaits, dueBy}
 use Rattle.rules.specs.Choice.{upd, goOn}
-use Rattle.rules.specs.Blocks.{Opening, opened, renamed, quiet, closed}
+use Rattle.operands.specs.declared.Opening.{Opening}
+use Rattle.rules.specs.Blocks.{meant, opened, renamed, quiet, closed}
 use Rattle.rules.specs.Spoilt.{isQueued, isServing, readyNum, count}
 use Rattle.rules.proofs.Orders.{pl, map-set, upd-same, upd-other}
 use Rattle.rules.proofs.Shape.{listed-out}
@@ -27,12 +28,12 @@ use Rattle.rules.proofs.Turns.{lit}
 use Rattle.rules.proofs.Calls.{set-field}
 use Rattle.rules.proofs.Waiting.{some-quiet}
 use Rattle.rules.proofs.Tidy.{Tidy}
-use Rattle.board.specs.Memory.{withBlocks}
+use Rattle.board.specs.Memory.{blocksNow, blocksOf, withBlocks}
 use Rattle.board.specs.Reading.{tab, behind, encode}
 use Rattle.board.proofs.Lists.{getD-tab, tab-ext, tab-set, behind-none}
 use Rattle.board.proofs.Moves.{due-ext, due-away, active-here, active-set, left-away, left-same}
 use Rattle.board.proofs.Same.{same, kept}
-use Rattle.blocks.specs.Blocks.{heldWith}
+use Rattle.blocks.specs.Blocks.{openAt, heldWith, closeAt}
 
 held-of : (m : Board.Board) → encode m .held ≡ tab 17 (m .held)
 unfolding encode
@@ -47,7 +48,7 @@ module _ (m : Board.Board) (g : Tidy m) (p : ℕ) (inL : p < length (m .places))
   l = m .places
 
   -- RENAME
-  pub rename-is : (n : ℕ) → withBlocks (encode m) (set (encode m .numbers) p n) (encode m .shares) (encode m .starts) (encode m .held)
+  pub rename-is : (n : ℕ) → withBlocks (encode m) (blocksNow (set (encode m .numbers) p n) (encode m .shares) (encode m .starts) (encode m .held))
       ≡ encode (goOn m p (renamed n (at m p)))
   unfolding encode
   rename-is n = same (record {
@@ -78,7 +79,7 @@ module _ (m : Board.Board) (g : Tidy m) (p : ℕ) (inL : p < length (m .places))
     gone j = listed-out (m .places) (m .orders) (g .shape .listed) j p (ap isQueued was)
 
     idle-is : (n s st : ℕ) (H : ℕ → ℕ) (held′ : List ℕ) → held′ ≡ tab 17 H
-        → withBlocks (encode m) (set (encode m .numbers) p n) (set (encode m .shares) p s) (set (encode m .starts) p st) held′
+        → withBlocks (encode m) (blocksNow (set (encode m .numbers) p n) (set (encode m .shares) p s) (set (encode m .starts) p st) held′)
         ≡ encode (lit (m .largest) (m .clock) (set (m .places) p (record { number = n; share = s; start = st; lane = []; deficit = 0; stand = out })) (m .orders) (m .slot) H)
     unfolding encode
     idle-is n s st H held′ e = same (record {
@@ -117,10 +118,9 @@ module _ (m : Board.Board) (g : Tidy m) (p : ℕ) (inL : p < length (m .places))
 
     -- OPEN
     pub open-is : (o : Opening) → at m p .start ≡ 0
-        → withBlocks (encode m) (set (encode m .numbers) p (o .number)) (set (encode m .shares) p (o .share)) (encode m .starts) (encode m .held)
-        ≡ encode (goOn m p (opened o))
+        → withBlocks (encode m) (openAt p o (blocksOf (encode m))) ≡ encode (goOn m p (opened (meant o)))
     open-is o z =
-        ap (λ (st : List ℕ). withBlocks (encode m) (set (encode m .numbers) p (o .number)) (set (encode m .shares) p (o .share)) st (encode m .held)) (sym (start-kept z))
+        ap (λ (st : List ℕ). let x = openAt p o (blocksOf (encode m)) in withBlocks (encode m) (blocksNow (x .numbers) (x .shares) st (x .held))) (sym (start-kept z))
         ∙ idle-is (o .number) (o .share) 0 (m .held) (encode m .held) (held-of m)
 
     -- CLOSE: the share is held, unless nobody waits
@@ -138,7 +138,7 @@ module _ (m : Board.Board) (g : Tidy m) (p : ℕ) (inL : p < length (m .places))
         k17 = omega (arith, class-le (at m p .share))
 
     pub close-is : eqb (encode m .active) 0 ≡ quiet m
-        → withBlocks (encode m) (set (encode m .numbers) p 0) (set (encode m .shares) p 0) (set (encode m .starts) p 0) (heldWith (encode m .active) (at m p .share) (encode m .held)) ≡ encode (closed m p)
+        → withBlocks (encode m) (closeAt (encode m .active) (at m p .share) p (blocksOf (encode m))) ≡ encode (closed m p)
     unfolding closed
     close-is q = idle-is 0 0 0 (H (quiet m)) _ (held-eq (encode m .active) (at m p .share) (encode m .held) (quiet m) q ∙ held-close (quiet m))
 

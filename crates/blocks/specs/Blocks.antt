@@ -11,7 +11,7 @@ use Rattle.units.specs.Classes.{classOf}
 use Rattle.board.specs.declared.Board.{Board}
 use Rattle.operands.specs.declared.Opening.{Opening}
 use Rattle.board.specs.Reading.{encode}
-use Rattle.board.specs.Memory.{withBlocks}
+use Rattle.board.specs.Memory.{Blocks, blocksNow, withBlocks}
 use Rattle.board.specs.Leaving.{Returned, returned}
 use Rattle.finding.specs.Finding.{foundIn, byFound, lowestFree}
 
@@ -41,61 +41,50 @@ renamedIn numbers old new =
     (byFound (foundIn numbers old) (renamedAt numbers new) (renaming 6 numbers))
 
 abbrev pub withRenaming : Board → Renaming → Board
-withRenaming b r = withBlocks b (r .numbers) (b .shares) (b .starts) (b .held)
+withRenaming b r = withBlocks b (blocksNow (r .numbers) (b .shares) (b .starts) (b .held))
 
 -- ---- OPEN
 
-pub record AfterOpening : Type 0 where
+-- what opening and closing leave: the code, and the arrays
+pub record Answered : Type 0 where
   pub code : ℕ
-  pub numbers : List ℕ
-  pub shares : List ℕ
+  pub blocks : Blocks
 
-abbrev pub afterOpening : ℕ → List ℕ → List ℕ → AfterOpening
-afterOpening code numbers shares = record { code = code; numbers = numbers; shares = shares }
+abbrev pub answered : ℕ → Blocks → Answered
+answered code x = record { code = code; blocks = x }
 
-unfoldable pub openedIn : List ℕ → List ℕ → List ℕ → Opening → AfterOpening
-openedIn numbers shares held o =
+-- a block opens at place p
+abbrev pub openAt : ℕ → Opening → Blocks → Blocks
+openAt p o x = blocksNow (set (x .numbers) p (o .number)) (set (x .shares) p (o .share)) (x .starts) (x .held)
+
+unfoldable pub openedIn : Blocks → Opening → Answered
+openedIn x o =
     let n = o .number in
     let s = o .share in
-    let p = lowestFree numbers in
-    cond (eqb n 0 || (eqb s 0 || ltb 65536 s)) (afterOpening 4 numbers shares)
-    (byFound (foundIn numbers n) (λ j. afterOpening 5 numbers shares)
-    (cond (eqb p 64) (afterOpening 7 numbers shares)
-    (cond (ltb 65536 (totalOf shares + totalOf held + s)) (afterOpening 8 numbers shares)
-    (afterOpening 0 (set numbers p n) (set shares p s)))))
-
-abbrev pub withOpening : Board → AfterOpening → Board
-withOpening b o = withBlocks b (o .numbers) (o .shares) (b .starts) (b .held)
+    let p = lowestFree (x .numbers) in
+    cond (eqb n 0 || (eqb s 0 || ltb 65536 s)) (answered 4 x)
+    (byFound (foundIn (x .numbers) n) (λ j. answered 5 x)
+    (cond (eqb p 64) (answered 7 x)
+    (cond (ltb 65536 (totalOf (x .shares) + totalOf (x .held) + s)) (answered 8 x)
+    (answered 0 (openAt p o x)))))
 
 -- ---- CLOSE
-
-pub record Closing : Type 0 where
-  pub code : ℕ
-  pub numbers : List ℕ
-  pub shares : List ℕ
-  pub starts : List ℕ
-  pub held : List ℕ
-
-abbrev pub closing : ℕ → List ℕ → List ℕ → List ℕ → List ℕ → Closing
-closing code numbers shares starts held = record { code = code; numbers = numbers; shares = shares; starts = starts; held = held }
 
 -- a share is held with its class's, unless no class is active
 unfoldable pub heldWith : ℕ → ℕ → List ℕ → List ℕ
 heldWith active share held = let k = classOf share in cond (eqb active 0) held (set held k (getD held k 0 + share))
 
--- the block at place i
-abbrev pub closedAt : ℕ → List ℕ → List ℕ → List ℕ → List ℕ → List ℕ → ℕ → Closing
-closedAt active numbers shares starts counts held i =
-    cond (ltb 0 (getD counts i 0)) (closing 10 numbers shares starts held)
-    (closing 0 (set numbers i 0) (set shares i 0) (set starts i 0) (heldWith active (getD shares i 0) held))
+-- the block at place i, which has this share, closes
+abbrev pub closeAt : (active share i : ℕ) → Blocks → Blocks
+closeAt active share i x =
+    blocksNow (set (x .numbers) i 0) (set (x .shares) i 0) (set (x .starts) i 0) (heldWith active share (x .held))
 
-unfoldable pub closedIn : ℕ → List ℕ → List ℕ → List ℕ → List ℕ → List ℕ → ℕ → Closing
-closedIn active numbers shares starts counts held n =
-    let at = closedAt active numbers shares starts counts held in
-    byFound (foundIn numbers n) at (closing 6 numbers shares starts held)
+abbrev pub closedAt : (active : ℕ) (counts : List ℕ) → Blocks → ℕ → Answered
+closedAt active counts x i =
+    cond (ltb 0 (getD counts i 0)) (answered 10 x) (answered 0 (closeAt active (getD (x .shares) i 0) i x))
 
-abbrev pub withClosing : Board → Closing → Board
-withClosing b c = withBlocks b (c .numbers) (c .shares) (c .starts) (c .held)
+unfoldable pub closedIn : (active : ℕ) (counts : List ℕ) → Blocks → ℕ → Answered
+closedIn active counts x n = byFound (foundIn (x .numbers) n) (closedAt active counts x) (answered 6 x)
 
 -- what must hold of the lists for any number: a place with a number has a share, and the sums fit
 pub record CloseNeeds (numbers shares held : List ℕ) : Type 0 where

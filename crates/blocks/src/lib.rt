@@ -1,11 +1,14 @@
 // Blocks: a fresh board, and a block that is renamed, opened or closed. Arrays are lent one by one, so that no board is copied.
 ghost use mathlib.Core.Path.{_≡_};
 ghost use Prim.Native.Nat.{ℕ, _+_, _-_, _*_, _^_, _<_, _≤_};
+ghost use mathlib.Core.List.{List};
 ghost use lib.ListN.{length, getD};
 ghost use Rattle.rules.specs.Board.{fresh};
 ghost use Rattle.board.specs.Reading.{encode};
+ghost use Rattle.board.specs.Memory.{blocksNow};
 ghost use Rattle.board.specs.Leaving.{returned};
-ghost use Rattle.blocks.specs.Blocks.{freshIn, renaming, renamedIn, afterOpening, openedIn, heldWith, closing, closedIn, CloseNeeds};
+ghost use Rattle.blocks.specs.Blocks.{freshIn, renaming, renamedIn, answered, openedIn};
+ghost use Rattle.blocks.specs.Blocks.{heldWith, closedIn, CloseNeeds};
 use board::Board;
 use finding::Found;
 use numbers::CLASSES;
@@ -89,7 +92,10 @@ pub fn open_in(
     shares: &mut [u32; PLACES],
     held: &[u32; CLASSES],
 ) -> u8
-    ensures { λ r. ⌜ afterOpening r (now (numbers .exit)) (now (shares .exit)) ≡ openedIn (now (numbers .entry)) (now (shares .entry)) (now (held .entry)) opening ⌝ }
+    ensures { λ r. ⌜
+        ((starts : List ℕ)
+        → answered r (blocksNow (now (numbers .exit)) (now (shares .exit)) starts (now (held .entry)))
+        ≡ openedIn (blocksNow (now (numbers .entry)) (now (shares .entry)) starts (now (held .entry))) opening) ⌝ }
 {
     let block = opening.number;
     let share = opening.share;
@@ -135,7 +141,10 @@ pub fn close_in(
     held: &mut [u32; CLASSES],
 ) -> u8
     requires { ⌜ CloseNeeds (now numbers) (now shares) (now held) ⌝ }
-    ensures { λ r. ⌜ closing r (now (numbers .exit)) (now (shares .exit)) (now (starts .exit)) (now (held .exit)) ≡ closedIn active (now (numbers .entry)) (now (shares .entry)) (now (starts .entry)) (now (counts .entry)) (now (held .entry)) block ⌝ }
+    ensures { λ r. ⌜
+        (let before = blocksNow (now (numbers .entry)) (now (shares .entry)) (now (starts .entry)) (now (held .entry)) in
+        let after = blocksNow (now (numbers .exit)) (now (shares .exit)) (now (starts .exit)) (now (held .exit)) in
+        answered r after ≡ closedIn active (now (counts .entry)) before block) ⌝ }
 {
     let Found::OpenAt(i) = finding::find(numbers, block) else {
         return codes::UNKNOWN_BLOCK;

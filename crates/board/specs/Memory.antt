@@ -34,10 +34,24 @@ boardNow numbers shares starts counts deficits ready next heads tails held large
       left = now .left;
     }
 
--- what opening, renaming and closing change
-abbrev pub withBlocks : Board → (numbers shares starts held : List ℕ) → Board
-withBlocks b numbers shares starts held =
-    boardNow numbers shares starts (b .counts) (b .deficits) (b .ready) (b .next) (b .heads) (b .tails) held (b .largest) (numbersOf b)
+-- ---- What opening, renaming and closing change
+
+pub record Blocks : Type 0 where
+  pub numbers : List ℕ
+  pub shares : List ℕ
+  pub starts : List ℕ
+  pub held : List ℕ
+
+abbrev pub blocksNow : (numbers shares starts held : List ℕ) → Blocks
+blocksNow numbers shares starts held = record { numbers = numbers; shares = shares; starts = starts; held = held }
+
+abbrev pub blocksOf : Board → Blocks
+blocksOf b = blocksNow (b .numbers) (b .shares) (b .starts) (b .held)
+
+abbrev pub withBlocks : Board → Blocks → Board
+withBlocks b x =
+    boardNow (x .numbers) (x .shares) (x .starts) (b .counts) (b .deficits) (b .ready) (b .next) (b .heads) (b .tails)
+    (x .held) (b .largest) (numbersOf b)
 
 -- ---- What serving changes
 
@@ -105,14 +119,14 @@ withTaking b t =
     let now = numbersNow (b .clock) (o .active) (b .pending) (b .slot) (b .left .0) in
     withEngine b (engineNow (b .starts) (t .counts) (b .deficits) (o .ready) (o .next) (o .heads) (o .tails) (b .held) now)
 
--- what it reads and leaves as it is
-pub record Blocks : Type 0 where
+-- what it sees and leaves as it is
+pub record Seen : Type 0 where
   pub numbers : List ℕ
   pub shares : List ℕ
   pub starts : List ℕ
 
-abbrev pub blocks : (numbers shares starts : List ℕ) → Blocks
-blocks numbers shares starts = record { numbers = numbers; shares = shares; starts = starts }
+abbrev pub seen : (numbers shares starts : List ℕ) → Seen
+seen numbers shares starts = record { numbers = numbers; shares = shares; starts = starts }
 
-abbrev pub blocksOf : Board → Blocks
-blocksOf b = blocks (b .numbers) (b .shares) (b .starts)
+abbrev pub seenOf : Board → Seen
+seenOf b = seen (b .numbers) (b .shares) (b .starts)

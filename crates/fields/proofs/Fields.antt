@@ -26,9 +26,9 @@ use Rattle.log.specs.declared.Event.{Event}
 use Rattle.log.specs.declared.Event.the-variants.{Open, Close, Rename, Arrive, Serve, Passed}
 use Rattle.lines.specs.Text.{Line}
 use Rattle.lines.specs.Listing.{openLine, closeLine, nameLine, inLine}
-use Rattle.board.specs.Memory.{takingOf, withTaking, blocksOf, engineOf, withEngine}
+use Rattle.board.specs.Memory.{takingOf, withTaking, seenOf, blocksOf, withBlocks, engineOf, withEngine}
 use Rattle.taking.specs.Taking.{Recording, recordedIn}
-use Rattle.blocks.specs.Blocks.{Renaming, renamedIn, withRenaming, AfterOpening, openedIn, withOpening, Closing, closedIn, withClosing}
+use Rattle.blocks.specs.Blocks.{Renaming, renamedIn, withRenaming, Answered, openedIn, closedIn}
 use Rattle.serving.specs.Serving.{Within, engineAfter}
 use Rattle.board.proofs.Fields.{number-is}
 use Rattle.serving.proofs.Within.{fit-serve, Stops, Goes}
@@ -91,22 +91,25 @@ module _ (s : Memory) (k : KnownMemory s) (before : List ℕ) (count : ℕ) (lin
       same : s .sent ≡ s .sent + bytesOf (answer m x)
       same = rw (none-sent m (fit-view (s .board) (s .ids) (s .lens) (k .sound) .tidy) x quiet) (sym (add-zero (s .sent)))
 
-  pub open-plays : (o : Opening) (x : AfterOpening) → x ≡ openedIn (s .board .numbers) (s .board .shares) (s .board .held) o
+  pub open-plays : (o : Opening) (x : Answered) → x ≡ openedIn (blocksOf (s .board)) o
       → Line before (openLine (o .number) (x .code)) count line
-      → FieldPlayed s (Open o) (memory (withOpening (s .board) x) (s .ids) (s .lens) (s .sent)) before count line
+      → FieldPlayed s (Open o) (memory (withBlocks (s .board) (x .blocks)) (s .ids) (s .lens) (s .sent)) before count line
   open-plays o x e l =
-      by-call (open! (meant o)) refl (x .code) (withOpening (s .board) x) (s .ids) (s .lens)
+      by-call (open! (meant o)) refl (x .code) (withBlocks (s .board) (x .blocks)) (s .ids) (s .lens)
       (open-known (s .board) (s .ids) (s .lens) k o x e) (Open o) refl (openLine (o .number)) refl l
 
-  pub close-plays : (block : ℕ) (x : Closing) → x ≡ closedIn (s .board .active) (s .board .numbers) (s .board .shares) (s .board .starts) (s .board .counts) (s .board .held) block → Line before (closeLine block (x .code)) count line
-      → FieldPlayed s (Close block) (memory (withClosing (s .board) x) (s .ids) (s .lens) (s .sent)) before count line
-  close-plays block x e l = by-call (close! block) refl (x .code) (withClosing (s .board) x) (s .ids) (s .lens) (close-known (s .board) (s .ids) (s .lens) k block x e) (Close block) refl (closeLine block) refl l
+  pub close-plays : (block : ℕ) (x : Answered) → x ≡ closedIn (s .board .active) (s .board .counts) (blocksOf (s .board)) block
+      → Line before (closeLine block (x .code)) count line
+      → FieldPlayed s (Close block) (memory (withBlocks (s .board) (x .blocks)) (s .ids) (s .lens) (s .sent)) before count line
+  close-plays block x e l =
+      by-call (close! block) refl (x .code) (withBlocks (s .board) (x .blocks)) (s .ids) (s .lens)
+      (close-known (s .board) (s .ids) (s .lens) k block x e) (Close block) refl (closeLine block) refl l
 
   pub rename-plays : (old new : ℕ) (x : Renaming) → x ≡ renamedIn (s .board .numbers) old new → Line before (nameLine old new (x .code)) count line
       → FieldPlayed s (Rename old new) (memory (withRenaming (s .board) x) (s .ids) (s .lens) (s .sent)) before count line
   rename-plays old new x e l = by-call (rename! old new) refl (x .code) (withRenaming (s .board) x) (s .ids) (s .lens) (rename-known (s .board) (s .ids) (s .lens) k old new x e) (Rename old new) refl (nameLine old new) refl l
 
-  pub record-plays : (block number bytes : ℕ) (x : Recording) → x ≡ recordedIn (blocksOf (s .board)) (s .board .largest) (s .board .clock) block number bytes (takingOf (s .board)) (s .ids) (s .lens) → Line before (inLine number (x .code)) count line
+  pub record-plays : (block number bytes : ℕ) (x : Recording) → x ≡ recordedIn (seenOf (s .board)) (s .board .largest) (s .board .clock) block number bytes (takingOf (s .board)) (s .ids) (s .lens) → Line before (inLine number (x .code)) count line
       → FieldPlayed s (Arrive block number bytes) (memory (withTaking (s .board) (x .taking)) (x .ids) (x .lens) (s .sent)) before count line
   record-plays block number bytes x e l = by-call (record! block (record { number = number; bytes = bytes })) refl (x .code) (withTaking (s .board) (x .taking)) (x .ids) (x .lens) (record-known (s .board) (s .ids) (s .lens) k block number bytes x e) (Arrive block number bytes) refl (inLine number) refl l
 

@@ -23,7 +23,7 @@ use Rattle.board.proofs.Fields.{count-is, start-is}
 use Rattle.board.proofs.Bounds.{bought, within, linked}
 use Rattle.board.proofs.Agrees.{turned, agrees, by-spelling}
 use Rattle.finding.proofs.Finding.{known-by}
-use Rattle.board.specs.Memory.{Taking, takingOf, withTaking, blocksOf}
+use Rattle.board.specs.Memory.{Taking, takingOf, withTaking, seenOf}
 use Rattle.taking.specs.Taking.{takenAt, RecordNeeds, Recording, recording, noTaken, recordedAt, recordedIn}
 use Rattle.taking.proofs.Taking.{take-is}
 
@@ -63,7 +63,7 @@ module _ (m : Board.Board) (f : Fit m) (ids lens : List ℕ) (n id len : ℕ) wh
       recording 0 tells next (set ids (behind p) id) (set lens (behind p) len)
 
   abbrev here : Recording
-  here = recordedIn (blocksOf (encode m)) (encode m .largest) (encode m .clock) n id len left ids lens
+  here = recordedIn (seenOf (encode m)) (encode m .largest) (encode m .clock) n id len left ids lens
 
   -- by its checks: what is read of a refusal and of a taking
   record-by : {R : Type 0} (shown : Recording → R) (came : Turn → R)
@@ -74,7 +74,7 @@ module _ (m : Board.Board) (f : Fit m) (ids lens : List ℕ) (n id len : ℕ) wh
       → shown here ≡ came (takeRecord m n r)
   unfolding recordedIn takeRecord encode
   record-by shown came s4 s6 s9 goes =
-      let comes = recordedAt (blocksOf (encode m)) (encode m .clock) id len left ids lens in
+      let comes = recordedAt (seenOf (encode m)) (encode m .clock) id len left ids lens in
       agrees shown came m _ (numberOutside n || lengthOutside m len) 4 _ _ _ refl s4 λ e4.
       known-by m (f .tidy) shown came n comes (recording 6 noTaken left ids lens) _ s6 λ h.
       agrees shown came m _ (laneFull (at m p)) 9 _ _ _ (ap (leb laneDepth) (count-is m p)) s9 λ e9.
@@ -96,7 +96,7 @@ module _ (m : Board.Board) (f : Fit m) (ids lens : List ℕ) (n id len : ℕ) wh
       λ j. taken (record { place = p; entry = entry-is p j; before = count-is m p j })
 
 module _ (m : Board.Board) (f : Fit m) where
-  written-record-needs : (ids lens : List ℕ) → length ids ≡ 2048 → length lens ≡ 2048 → RecordNeeds (blocksOf (encode m)) (encode m .tails) (encode m .clock) ids lens
+  written-record-needs : (ids lens : List ℕ) → length ids ≡ 2048 → length lens ≡ 2048 → RecordNeeds (seenOf (encode m)) (encode m .tails) (encode m .clock) ids lens
   unfolding encode
   written-record-needs ids lens a d = record { low = bought m f; high = within m f; time = omega (arith, f .tidy .time); last = linked m f; ids-all = a; lens-all = d }
 
@@ -108,20 +108,20 @@ module _ (b : struct.Board) (ids lens : List ℕ) (k : Known b ids lens) where
   f : Fit (view b ids lens)
   f = fit-view b ids lens (k .sound)
 
-  pub record-needs : RecordNeeds (blocksOf b) (b .tails) (b .clock) ids lens
-  record-needs = subst (λ (c : struct.Board). RecordNeeds (blocksOf c) (c .tails) (c .clock) ids lens) (k .sound .spells) (written-record-needs m f ids lens (k .ids-all) (k .lens-all))
+  pub record-needs : RecordNeeds (seenOf b) (b .tails) (b .clock) ids lens
+  record-needs = subst (λ (c : struct.Board). RecordNeeds (seenOf c) (c .tails) (c .clock) ids lens) (k .sound .spells) (written-record-needs m f ids lens (k .ids-all) (k .lens-all))
 
-  pub record-known : (n id len : ℕ) (x : Recording) → x ≡ recordedIn (blocksOf b) (b .largest) (b .clock) n id len (takingOf b) ids lens
+  pub record-known : (n id len : ℕ) (x : Recording) → x ≡ recordedIn (seenOf b) (b .largest) (b .clock) n id len (takingOf b) ids lens
       → returned (replied (x .code) (withTaking b (x .taking))) (x .ids) (x .lens) ≡ ruled b ids lens (record! n (record { number = id; bytes = len }))
-  record-known n id len x e = rw e (by-spelling b ids lens k (record! n (record { number = id; bytes = len })) (λ c. let x = recordedIn (blocksOf c) (c .largest) (c .clock) n id len (takingOf c) ids lens in returned (replied (x .code) (withTaking c (x .taking))) (x .ids) (x .lens)) (record-is m f ids lens n id len))
+  record-known n id len x e = rw e (by-spelling b ids lens k (record! n (record { number = id; bytes = len })) (λ c. let x = recordedIn (seenOf c) (c .largest) (c .clock) n id len (takingOf c) ids lens in returned (replied (x .code) (withTaking c (x .taking))) (x .ids) (x .lens)) (record-is m f ids lens n id len))
 
   -- and what it tells is what the rules tell
   pub record-told : (n id len : ℕ) (x : Recording)
-      → x ≡ recordedIn (blocksOf b) (b .largest) (b .clock) n id len (takingOf b) ids lens
+      → x ≡ recordedIn (seenOf b) (b .largest) (b .clock) n id len (takingOf b) ids lens
       → outOf x ≡ step m (record! n (record { number = id; bytes = len })) .out
   record-told n id len x e = rw e (subst told (k .sound .spells) (record-tells m f ids lens n id len))
     where
       told : struct.Board → Type 0
       told c =
-          outOf (recordedIn (blocksOf c) (c .largest) (c .clock) n id len (takingOf c) ids lens)
+          outOf (recordedIn (seenOf c) (c .largest) (c .clock) n id len (takingOf c) ids lens)
           ≡ step m (record! n (record { number = id; bytes = len })) .out

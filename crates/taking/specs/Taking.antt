@@ -9,7 +9,7 @@ use lib.ListN.{getD, set, length}
 use Rattle.bits.specs.Sets.{withBit}
 use Rattle.units.specs.Classes.{classOf, nextStart}
 use Rattle.lanes.specs.Lanes.{laneDepth, laneEntry}
-use Rattle.board.specs.Memory.{Orders, ordersNow, Taking, taking, Blocks}
+use Rattle.board.specs.Memory.{Orders, ordersNow, Taking, taking, Seen}
 use Rattle.rules.specs.Choice.{Taken}
 use Rattle.finding.specs.Finding.{foundIn, byFound}
 use Rattle.taking.specs.declared.Took.{Took}
@@ -47,7 +47,7 @@ pub record TakeNeeds (shares counts tails : List ℕ) (clock i : ℕ) : Type 0 w
 -- ---- A RECORD COMES, with its codes
 
 -- what must hold of the lists for any number: a place with a number has a share
-pub record RecordNeeds (x : Blocks) (tails : List ℕ) (clock : ℕ) (ids lens : List ℕ) : Type 0 where
+pub record RecordNeeds (x : Seen) (tails : List ℕ) (clock : ℕ) (ids lens : List ℕ) : Type 0 where
   pub low : (i : ℕ) → 1 ≤ getD (x .numbers) i 0 → 1 ≤ getD (x .shares) i 0
   pub high : (i : ℕ) → getD (x .shares) i 0 ≤ 65536
   pub time : clock ≤ 2 ^ 62
@@ -77,7 +77,7 @@ abbrev pub notTaken : (code active : ℕ) → Took
 notTaken code active = record { code = code; active = active; place = 0; entry = 0; before = 0 }
 
 -- it comes for the block at place i, and goes to the entry behind the last record there
-abbrev pub recordedAt : Blocks → ℕ → ℕ → ℕ → Taking → List ℕ → List ℕ → ℕ → Recording
+abbrev pub recordedAt : Seen → ℕ → ℕ → ℕ → Taking → List ℕ → List ℕ → ℕ → Recording
 recordedAt x clock id len t ids lens i =
     let before = getD (t .counts) i 0 in
     let e = laneEntry i (getD (x .starts) i 0) before in
@@ -85,7 +85,7 @@ recordedAt x clock id len t ids lens i =
     cond (leb laneDepth before) (recording 9 noTaken t ids lens)
     (recording 0 tells (takenAt (x .shares) clock i t) (set ids e id) (set lens e len))
 
-unfoldable pub recordedIn : Blocks → ℕ → ℕ → ℕ → ℕ → ℕ → Taking → List ℕ → List ℕ → Recording
+unfoldable pub recordedIn : Seen → ℕ → ℕ → ℕ → ℕ → ℕ → Taking → List ℕ → List ℕ → Recording
 recordedIn x largest clock number id len t ids lens =
     cond (eqb number 0 || (eqb len 0 || ltb largest len)) (recording 4 noTaken t ids lens)
     (byFound (foundIn (x .numbers) number) (recordedAt x clock id len t ids lens) (recording 6 noTaken t ids lens))

@@ -2,7 +2,7 @@
 ghost use mathlib.Core.Path.{_≡_};
 ghost use Prim.Native.Nat.{_+_, _-_, _*_, _<_, _≤_};
 ghost use lib.ListN.{length, getD, set};
-ghost use Rattle.board.specs.Memory.{ordersNow, taking, blocks};
+ghost use Rattle.board.specs.Memory.{ordersNow, taking, seen};
 ghost use Rattle.taking.specs.Taking.{joinedOrders, takenAt, TakeNeeds, RecordNeeds, notTaken, tookTells, recording, recordedIn};
 use finding::Found;
 use numbers::CLASSES;
@@ -105,13 +105,13 @@ pub fn record_in(
     ids: &mut [u32],
     lens: &mut [u16],
 ) -> Took
-    requires { ⌜ RecordNeeds (blocks (now numbers) (now shares) (now starts)) (now tails) clock (now ids) (now lens) ⌝ }
+    requires { ⌜ RecordNeeds (seen (now numbers) (now shares) (now starts)) (now tails) clock (now ids) (now lens) ⌝ }
     ensures { λ r. ⌜
         recording (r .code) (tookTells r)
         (taking (now (counts .exit))
         (ordersNow (now (next .exit)) (now (heads .exit)) (now (tails .exit)) (now (ready .exit)) (r .active)))
         (now (ids .exit)) (now (lens .exit))
-        ≡ recordedIn (blocks (now (numbers .entry)) (now (shares .entry)) (now (starts .entry)))
+        ≡ recordedIn (seen (now (numbers .entry)) (now (shares .entry)) (now (starts .entry)))
         largest clock block id length
         (taking (now (counts .entry))
         (ordersNow (now (next .entry)) (now (heads .entry)) (now (tails .entry)) (now (ready .entry)) active))

@@ -11,7 +11,7 @@ outside-requires c κs = search needs
 
 returns : tie.Need-returns
 unfolding openedIn
-returns c = rw (sym (c .before .outside .ensures) ∙ c .if1 .taken)
+returns c starts = rw (sym (c .before .outside .ensures) ∙ c .if1 .taken)
 
 find-requires : tie.Need-find-requires
 find-requires c κs = search needs
@@ -24,14 +24,14 @@ enum-told-2 c = search needs
 
 returns-2 : tie.Need-returns-2
 unfolding openedIn
-returns-2 c = rw (sym (c .before .before .before .before .before .outside .ensures) ∙ c .before .before .before .before .if1 .left, ← c .before .before .find .ensures, c .enum-told2 .given .1)
+returns-2 c starts = rw (sym (c .before .before .before .before .before .outside .ensures) ∙ c .before .before .before .before .if1 .left, ← c .before .before .find .ensures, c .enum-told2 .given .1)
 
 lowest-free-requires : tie.Need-lowest-free-requires
 lowest-free-requires c κs = search needs
 
 returns-3 : tie.Need-returns-3
 unfolding openedIn
-returns-3 c = rw (sym (c .before .before .before .before .before .before .before .before .outside .ensures) ∙ c .before .before .before .before .before .before .before .if1 .left, ← c .before .before .before .before .before .find .ensures, c .before .before .before .enum-told .given .1, ← c .before .lowest-free .ensures, eq-eqb _ _ (c .if2 .taken))
+returns-3 c starts = rw (sym (c .before .before .before .before .before .before .before .before .outside .ensures) ∙ c .before .before .before .before .before .before .before .if1 .left, ← c .before .before .before .before .before .find .ensures, c .before .before .before .enum-told .given .1, ← c .before .lowest-free .ensures, eq-eqb _ _ (c .if2 .taken))
 
 sum-requires : tie.Need-sum-requires
 sum-requires c κs = search needs
@@ -50,7 +50,7 @@ add-if3-2 c = search needs
 
 returns-4 : tie.Need-returns-4
 unfolding openedIn
-returns-4 c = rw (sym (c .before .before .before .before .before .before .before .before .before .before .before .before .before .before .outside .ensures) ∙ c .before .before .before .before .before .before .before .before .before .before .before .before .before .if1 .left, ← c .before .before .before .before .before .before .before .before .before .before .before .find .ensures, c .before .before .before .before .before .before .before .before .before .enum-told .given .1, ← c .before .before .before .before .before .before .before .lowest-free .ensures, ne-eqb _ _ (c .before .before .before .before .before .before .if2 .left), ← c .before .before .before .sum .ensures .0, ← c .before .sum2 .ensures .0, lt-ltb _ _ (c .if3 .taken))
+returns-4 c starts = rw (sym (c .before .before .before .before .before .before .before .before .before .before .before .before .before .before .outside .ensures) ∙ c .before .before .before .before .before .before .before .before .before .before .before .before .before .if1 .left, ← c .before .before .before .before .before .before .before .before .before .before .before .find .ensures, c .before .before .before .before .before .before .before .before .before .enum-told .given .1, ← c .before .before .before .before .before .before .before .lowest-free .ensures, ne-eqb _ _ (c .before .before .before .before .before .before .if2 .left), ← c .before .before .before .sum .ensures .0, ← c .before .sum2 .ensures .0, lt-ltb _ _ (c .if3 .taken))
 
 mul-numbers : tie.Need-mul-numbers
 mul-numbers c = let h = free-in _ _ (c .before .before .before .before .before .before .before .lowest-free .ensures) (c .before .before .before .before .before .before .if2 .left) in search needs
@@ -66,7 +66,7 @@ element-write-shares c = free-in _ _ (c .before .before .before .before .before 
 
 returns-5 : tie.Need-returns-5
 unfolding openedIn
-returns-5 c = rw (sym (c .before .before .before .before .before .before .before .before .before .before .before .before .before .before .outside .ensures) ∙ c .before .before .before .before .before .before .before .before .before .before .before .before .before .if1 .left, ← c .before .before .before .before .before .before .before .before .before .before .before .find .ensures, c .before .before .before .before .before .before .before .before .before .enum-told .given .1, ← c .before .before .before .before .before .before .before .lowest-free .ensures, ne-eqb _ _ (c .before .before .before .before .before .before .if2 .left), ← c .before .before .before .sum .ensures .0, ← c .before .sum2 .ensures .0, le-ltb _ _ (c .if3 .left))
+returns-5 c starts = rw (sym (c .before .before .before .before .before .before .before .before .before .before .before .before .before .before .outside .ensures) ∙ c .before .before .before .before .before .before .before .before .before .before .before .before .before .if1 .left, ← c .before .before .before .before .before .before .before .before .before .before .before .find .ensures, c .before .before .before .before .before .before .before .before .before .enum-told .given .1, ← c .before .before .before .before .before .before .before .lowest-free .ensures, ne-eqb _ _ (c .before .before .before .before .before .before .if2 .left), ← c .before .before .before .sum .ensures .0, ← c .before .sum2 .ensures .0, le-ltb _ _ (c .if3 .left))
 
 pub open-in-spec : {M : Type 1} → statement M
 open-in-spec =

@@ -7,7 +7,7 @@ open-in-requires : tie.Need-open-in-requires
 open-in-requires c κs = search needs
 
 returns : tie.Need-returns
-returns c = open-known _ _ _ (c .before .before .before .before .before .before .before .before .before .pre) _ _ (c .open-in .ensures)
+returns c = open-known _ _ _ (c .before .before .before .before .before .before .before .before .before .pre) _ _ (c .open-in .ensures _)
 
 pub open-block-spec : {M : Type 1} → statement M
 open-block-spec = tie.close (tie.spec open-in-requires returns)

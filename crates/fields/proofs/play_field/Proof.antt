@@ -69,7 +69,7 @@ enum-told-3 : tie.Need-enum-told-3
 enum-told-3 c = search needs
 
 returns-2 : tie.Need-returns-2
-returns-2 c = rw (c .before .before .before .before .before .before .before .event .given .1) (open-plays _ (c .before .before .before .before .before .before .before .before .before .before .before .pre .0) _ _ _ (c .put-open .ensures .1) _ _ (c .before .before .open-in .ensures) (c .put-open .ensures .0))
+returns-2 c = rw (c .before .before .before .before .before .before .before .event .given .1) (open-plays _ (c .before .before .before .before .before .before .before .before .before .before .before .pre .0) _ _ _ (c .put-open .ensures .1) _ _ (c .before .before .open-in .ensures _) (c .put-open .ensures .0))
 
 returns-3 : tie.Need-returns-3
 returns-3 c = rw (c .before .before .before .before .before .before .before .before .before .event2 .given .1) (close-plays _ (c .before .before .before .before .before .before .before .before .before .before .before .before .before .pre .0) _ _ _ (c .put-close .ensures .1) _ _ (c .before .before .close-in .ensures) (c .put-close .ensures .0))
