@@ -6,7 +6,8 @@ ghost use Rattle.lanes.specs.Lanes.{ringEntry, ringOn, laneDepth, laneFi
 // Lane depth: the most records that wait in one lane.
 const DEPTH: u16 = 32;
 
-// The entry of the j-th record from the front of a ring. Its depth is a constant where it is called: no division is left.
+// The entry of the j-th record from the front of a ring. Its depth is a constant where it is called: no division is
+// left.
 fn ring_entry(first: u16, depth: u16, start: u16, j: u16) -> usize
     requires { ⌜ 1 ≤ depth ⌝ }
     ensures { λ r. ⌜ r ≡ ringEntry first depth start j ⌝ }

@@ -5,7 +5,8 @@ ghost use lib.ListN.{getD};
 ghost use Rattle.units.specs.Classes.{classOf};
 ghost use Rattle.board.specs.Memory.{queuesNow, engineNow, numbersNow};
 ghost use Rattle.slots.specs.Slots.{beginningNow, CanBegin, openedSlot, opened};
-ghost use Rattle.serving.specs.Serving.{sentFrom, lostFrom, CanSend, enacted, CanEnact, stayed, withinNow, servedWithin, CanServe};
+ghost use Rattle.serving.specs.Serving.{sentFrom, lostFrom, CanSend, enacted, CanEnact, stayed, withinNow};
+ghost use Rattle.serving.specs.Serving.{servedWithin, CanServe};
 use board::After;
 use numbers::CLASSES;
 use numbers::NO_LINK;
@@ -16,8 +17,8 @@ use slots::Choice;
 use units::Bytes;
 use units::Parts;
 
-// What a send leaves besides the arrays: the numbers after it, and what was left of the slot where the lane emptied, which
-// is lost.
+// What a send leaves besides the arrays: the numbers after it, and what was left of the slot where the lane emptied,
+// which is lost.
 pub struct Sent {
     pub after: After,
     pub lost: Parts,
@@ -40,7 +41,7 @@ pub struct Step {
     pub left: Parts,
 }
 
-// The front record of the open slot's block is sent.
+// Rules 2 and 4: the front record of the open slot's block is sent, and the slot ends or stays open.
 fn send(
     place: usize,
     clock: u64,
@@ -58,7 +59,10 @@ fn send(
     held: &mut [u32; CLASSES],
     lens: &[u16],
 ) -> Sent
-    requires { ⌜ CanSend (now shares) (now lens) place (engineNow (now starts) (now counts) (now deficits) (now ready) (now next) (now heads) (now tails) (now held) (numbersNow clock active pending (place + 1) (left .0))) ⌝ }
+    requires { ⌜
+        (let before = engineNow (now starts) (now counts) (now deficits) (now ready) (now next)
+        (now heads) (now tails) (now held) (numbersNow clock active pending (place + 1) (left .0)) in
+        CanSend (now shares) (now lens) place before) ⌝ }
     ensures { λ r. ⌜
         (let before =
         engineNow (now (starts .entry)) (now (counts .entry)) (now (deficits .entry)) (now (ready .entry))
@@ -120,7 +124,7 @@ fn send(
     }
 }
 
-// The slot that serves: the open one, or one that begins.
+// Rules 2 and 3: the slot that serves: the open one, or one that begins.
 fn open_slot(
     place: usize,
     time: u64,
@@ -137,8 +141,16 @@ fn open_slot(
     tails: &mut [u8; CLASSES],
     held: &mut [u32; CLASSES],
 ) -> Begun
-    requires { ⌜ (slot ≡ 0 → CanBegin (now shares) largest place (classOf (getD (now shares) place 0)) (queuesNow (now deficits) (now ready) (now next) (now heads) (now tails) (now held))) ⌝ }
-    ensures { λ r. ⌜ beginningNow r (queuesNow (now (deficits .exit)) (now (ready .exit)) (now (next .exit)) (now (heads .exit)) (now (tails .exit)) (now (held .exit))) ≡ openedSlot (now (shares .entry)) largest place time clock pending slot (left .0) (queuesNow (now (deficits .entry)) (now (ready .entry)) (now (next .entry)) (now (heads .entry)) (now (tails .entry)) (now (held .entry))) ⌝ }
+    requires { ⌜
+        (let before = queuesNow (now deficits) (now ready) (now next) (now heads) (now tails) (now held) in
+        slot ≡ 0 → CanBegin (now shares) largest place (classOf (getD (now shares) place 0)) before) ⌝ }
+    ensures { λ r. ⌜
+        (let before = queuesNow (now (deficits .entry)) (now (ready .entry)) (now (next .entry))
+        (now (heads .entry)) (now (tails .entry)) (now (held .entry)) in
+        let after = queuesNow (now (deficits .exit)) (now (ready .exit)) (now (next .exit))
+        (now (heads .exit)) (now (tails .exit)) (now (held .exit)) in
+        beginningNow r after
+        ≡ openedSlot (now (shares .entry)) largest place time clock pending slot (left .0) before) ⌝ }
 {
     if slot != NO_LINK {
         return Begun {
@@ -164,7 +176,7 @@ fn open_slot(
     )
 }
 
-// The slot that serves sends its front record.
+// Rules 2 to 5: the slot that serves sends its front record.
 fn enact(
     place: usize,
     time: u64,
@@ -185,7 +197,10 @@ fn enact(
     held: &mut [u32; CLASSES],
     lens: &[u16],
 ) -> Sent
-    requires { ⌜ CanEnact (now shares) (now lens) largest place time (engineNow (now starts) (now counts) (now deficits) (now ready) (now next) (now heads) (now tails) (now held) (numbersNow clock active pending slot (left .0))) ⌝ }
+    requires { ⌜
+        (let before = engineNow (now starts) (now counts) (now deficits) (now ready) (now next)
+        (now heads) (now tails) (now held) (numbersNow clock active pending slot (left .0)) in
+        CanEnact (now shares) (now lens) largest place time before) ⌝ }
     ensures { λ r. ⌜
         (let before =
         engineNow (now (starts .entry)) (now (counts .entry)) (now (deficits .entry)) (now (ready .entry))
@@ -236,7 +251,7 @@ fn enact(
 // More bytes than any record is charged.
 pub const ANY_LENGTH: u64 = 65536;
 
-// One record is served, if it is no longer than so many bytes and a list has room for it.
+// Rules 2 to 5: one record is served, if it is no longer than so many bytes and a list has room for it.
 pub fn serve_within(
     bytes: Bytes,
     room: usize,
@@ -257,8 +272,17 @@ pub fn serve_within(
     held: &mut [u32; CLASSES],
     lens: &[u16],
 ) -> Step
-    requires { ⌜ CanServe (now shares) (now lens) largest (engineNow (now starts) (now counts) (now deficits) (now ready) (now next) (now heads) (now tails) (now held) (numbersNow clock active pending slot (left .0))) ⌝ }
-    ensures { λ r. ⌜ withinNow r (now (starts .exit)) (now (counts .exit)) (now (deficits .exit)) (now (ready .exit)) (now (next .exit)) (now (heads .exit)) (now (tails .exit)) (now (held .exit)) ≡ servedWithin (now (shares .entry)) (now (lens .entry)) largest (bytes .0) room (engineNow (now (starts .entry)) (now (counts .entry)) (now (deficits .entry)) (now (ready .entry)) (now (next .entry)) (now (heads .entry)) (now (tails .entry)) (now (held .entry)) (numbersNow clock active pending slot (left .0))) ⌝ }
+    requires { ⌜
+        (let before = engineNow (now starts) (now counts) (now deficits) (now ready) (now next)
+        (now heads) (now tails) (now held) (numbersNow clock active pending slot (left .0)) in
+        CanServe (now shares) (now lens) largest before) ⌝ }
+    ensures { λ r. ⌜
+        (let before = engineNow (now (starts .entry)) (now (counts .entry)) (now (deficits .entry)) (now (ready .entry))
+        (now (next .entry)) (now (heads .entry)) (now (tails .entry)) (now (held .entry))
+        (numbersNow clock active pending slot (left .0)) in
+        let after = withinNow r (now (starts .exit)) (now (counts .exit)) (now (deficits .exit)) (now (ready .exit))
+        (now (next .exit)) (now (heads .exit)) (now (tails .exit)) (now (held .exit)) in
+        after ≡ servedWithin (now (shares .entry)) (now (lens .entry)) largest (bytes .0) room before) ⌝ }
 {
     let chosen = slots::choose(clock, active, pending, slot, heads);
     match chosen {

@@ -1,9 +1,12 @@
-// Slots: the clock goes on, the next class is chosen, a slot begins and ends. Arrays are lent one by one, so that no board is copied.
+// Slots (rules 2 to 5): the clock goes on, the next class is chosen, a slot begins and ends. Arrays are lent one by one,
+// so that no board is copied.
 ghost use mathlib.Core.Path.{_≡_};
 ghost use Prim.Native.Nat.{_+_, _-_, _*_, _^_, _<_, _≤_};
 ghost use lib.ListN.{getD, set, replicate};
 ghost use Rattle.board.specs.Memory.{queuesNow};
-ghost use Rattle.slots.specs.Slots.{turnedNow, turned, chosenClass, slotClock, choice, CanChoose, linksNow, leftLinks, stillPending, stillActive, beginningNow, beganAt, CanBegin, emptyEndNow, endedEmpty, waitingEndNow, endedWaiting};
+ghost use Rattle.slots.specs.Slots.{turnedNow, turned, chosenClass, slotClock, choice, CanChoose};
+ghost use Rattle.slots.specs.Slots.{linksNow, leftLinks, stillPending, stillActive, beginningNow, beganAt};
+ghost use Rattle.slots.specs.Slots.{CanBegin, emptyEndNow, endedEmpty, waitingEndNow, endedWaiting};
 use board::After;
 use numbers::CLASSES;
 use numbers::CLOCK_END;
@@ -34,7 +37,10 @@ fn leave(
     tails: &mut [u8; CLASSES],
 )
     requires { ⌜ (place < 64) × (k < 17) ⌝ }
-    ensures { λ r. ⌜ linksNow (now (next .exit)) (now (heads .exit)) (now (tails .exit)) ≡ leftLinks place k (linksNow (now (next .entry)) (now (heads .entry)) (now (tails .entry))) ⌝ }
+    ensures { λ r. ⌜
+        (let before = linksNow (now (next .entry)) (now (heads .entry)) (now (tails .entry)) in
+        let after = linksNow (now (next .exit)) (now (heads .exit)) (now (tails .exit)) in
+        after ≡ leftLinks place k before) ⌝ }
 {
     let behind = next[place];
     next[place] = NO_LINK;
@@ -44,8 +50,9 @@ fn leave(
     }
 }
 
-// The clock goes on: the held share of each class of which a start is passed goes, and the class is pending if its order has a block.
-// Starts of a class are starts of every lower one, so the first class of which none is passed is the last to look at.
+// The clock goes on: of each class of which a start is passed the held share goes, and the class is pending if its
+// order has a block. Starts of a class are starts of every lower one, so the first class of which none is passed is the
+// last to look at.
 fn advance(
     from: u64,
     to: u64,
@@ -53,7 +60,9 @@ fn advance(
     heads: &[u8; CLASSES],
     held: &mut [u32; CLASSES],
 ) -> u32
-    ensures { λ r. ⌜ turnedNow r (now (held .exit)) ≡ turned from to (now (heads .entry)) (turnedNow pending (now (held .entry))) ⌝ }
+    ensures { λ r. ⌜
+        turnedNow r (now (held .exit))
+        ≡ turned from to (now (heads .entry)) (turnedNow pending (now (held .entry))) ⌝ }
 {
     let mut set = pending;
     let mut k: usize = 0;
@@ -125,7 +134,7 @@ fn first_of(k: usize, heads: &[u8; CLASSES]) -> usize
     wide(heads[k]) - 1
 }
 
-// The class that is served where no slot is open.
+// Rule 3: the class that is served where no slot is open.
 fn chosen_class(active: u32, pending: u32) -> u32
     ensures { λ r. ⌜ r ≡ chosenClass active pending ⌝ }
 {
@@ -135,7 +144,7 @@ fn chosen_class(active: u32, pending: u32) -> u32
     bits::lowest(pending)
 }
 
-// The clock at which a slot of class k begins.
+// Rule 3: the clock at which a slot of class k begins, which goes to the class's next start if none is pending.
 fn slot_clock(clock: u64, pending: u32, k: u32) -> u64
     requires { ⌜ (k < 17) × (clock ≤ 2 ^ 62) ⌝ }
     ensures { λ r. ⌜ r ≡ slotClock clock pending k ⌝ }
@@ -146,7 +155,7 @@ fn slot_clock(clock: u64, pending: u32, k: u32) -> u64
     clock
 }
 
-// Whose record is next and at which clock, or the code of a refusal; nothing is changed.
+// Rules 2 and 3, with nothing changed: whose record is next and at which clock, or the code of a refusal.
 pub fn choose(clock: u64, active: u32, pending: u32, slot: u8, heads: &[u8; CLASSES]) -> Choice
     requires { ⌜ CanChoose clock active pending slot (now heads) ⌝ }
     ensures { λ r. ⌜ r ≡ choice clock active pending slot (now (heads .entry)) ⌝ }
@@ -167,7 +176,7 @@ pub fn choose(clock: u64, active: u32, pending: u32, slot: u8, heads: &[u8; CLAS
     Choice::Go(place, time)
 }
 
-// A slot of class k begins at a clock: its block leaves its order.
+// Rule 3: a slot of class k begins at a clock: its block leaves its order.
 pub fn begin(
     place: usize,
     k: usize,
@@ -183,8 +192,15 @@ pub fn begin(
     tails: &mut [u8; CLASSES],
     held: &mut [u32; CLASSES],
 ) -> Begun
-    requires { ⌜ CanBegin (now shares) largest place k (queuesNow (now deficits) (now ready) (now next) (now heads) (now tails) (now held)) ⌝ }
-    ensures { λ r. ⌜ beginningNow r (queuesNow (now (deficits .exit)) (now (ready .exit)) (now (next .exit)) (now (heads .exit)) (now (tails .exit)) (now (held .exit))) ≡ beganAt (now (shares .entry)) largest place k time clock pending (queuesNow (now (deficits .entry)) (now (ready .entry)) (now (next .entry)) (now (heads .entry)) (now (tails .entry)) (now (held .entry))) ⌝ }
+    requires { ⌜
+        (let before = queuesNow (now deficits) (now ready) (now next) (now heads) (now tails) (now held) in
+        CanBegin (now shares) largest place k before) ⌝ }
+    ensures { λ r. ⌜
+        (let before = queuesNow (now (deficits .entry)) (now (ready .entry)) (now (next .entry))
+        (now (heads .entry)) (now (tails .entry)) (now (held .entry)) in
+        let after = queuesNow (now (deficits .exit)) (now (ready .exit)) (now (next .exit))
+        (now (heads .exit)) (now (tails .exit)) (now (held .exit)) in
+        beginningNow r after ≡ beganAt (now (shares .entry)) largest place k time clock pending before) ⌝ }
 {
     let set = advance(clock, time, pending, heads, held);
     leave(place, k, next, heads, tails);
@@ -200,7 +216,7 @@ pub fn begin(
     }
 }
 
-// The slot of a block that waits no more ends.
+// Rules 4 and 5: the slot of a block that waits no more ends.
 pub fn end_empty(
     k: usize,
     clock: u64,
@@ -210,7 +226,9 @@ pub fn end_empty(
     held: &mut [u32; CLASSES],
 ) -> After
     requires { ⌜ (k < 17) × (clock < 2 ^ 62) ⌝ }
-    ensures { λ r. ⌜ emptyEndNow r (now (held .exit)) ≡ endedEmpty k clock active pending (now (heads .entry)) (now (held .entry)) ⌝ }
+    ensures { λ r. ⌜
+        emptyEndNow r (now (held .exit))
+        ≡ endedEmpty k clock active pending (now (heads .entry)) (now (held .entry)) ⌝ }
 {
     let set = advance(clock, clock + 1, pending, heads, held);
     let rest = still_active(active, k, heads);
@@ -226,7 +244,7 @@ pub fn end_empty(
     }
 }
 
-// The slot of a block that still waits ends: it joins its order again, and what is left is its deficit.
+// Rules 4 and 5: the slot of a block that still waits ends: it joins its order again, and what is left is its deficit.
 pub fn end_waiting(
     place: usize,
     k: usize,
@@ -242,7 +260,12 @@ pub fn end_waiting(
     held: &mut [u32; CLASSES],
 ) -> After
     requires { ⌜ (place < 64) × ((k < 17) × ((clock < 2 ^ 62) × (getD (now tails) k 0 ≤ 64))) ⌝ }
-    ensures { λ r. ⌜ waitingEndNow r (queuesNow (now (deficits .exit)) (now (ready .exit)) (now (next .exit)) (now (heads .exit)) (now (tails .exit)) (now (held .exit))) ≡ endedWaiting place k (rest .0) clock active pending (queuesNow (now (deficits .entry)) (now (ready .entry)) (now (next .entry)) (now (heads .entry)) (now (tails .entry)) (now (held .entry))) ⌝ }
+    ensures { λ r. ⌜
+        (let before = queuesNow (now (deficits .entry)) (now (ready .entry)) (now (next .entry))
+        (now (heads .entry)) (now (tails .entry)) (now (held .entry)) in
+        let after = queuesNow (now (deficits .exit)) (now (ready .exit)) (now (next .exit))
+        (now (heads .exit)) (now (tails .exit)) (now (held .exit)) in
+        waitingEndNow r after ≡ endedWaiting place k (rest .0) clock active pending before) ⌝ }
 {
     deficits[place] = rest.0;
     let time = units::next_start(clock, k as u32);

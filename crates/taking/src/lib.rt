@@ -1,16 +1,17 @@
-// Taking a record: its place has one more, and where its lane was empty its block joins its class's order.
+// Taking a record (rule 1): its place has one more, and where its lane was empty its block joins its class's order.
 ghost use mathlib.Core.Path.{_≡_};
 ghost use Prim.Native.Nat.{_+_, _-_, _*_, _<_, _≤_};
 ghost use lib.ListN.{length, getD, set};
 ghost use Rattle.board.specs.Memory.{ordersNow, taking, seen};
-ghost use Rattle.taking.specs.Taking.{joinedOrders, takenAt, TakeNeeds, RecordNeeds, notTaken, tookTells, recording, recordedIn};
+ghost use Rattle.taking.specs.Taking.{joinedOrders, takenAt, TakeNeeds, RecordNeeds, notTaken, tookTells};
+ghost use Rattle.taking.specs.Taking.{recording, recordedIn};
 use finding::Found;
 use numbers::CLASSES;
 use numbers::NO_LINK;
 use numbers::PLACES;
 use numbers::codes;
 
-// The block of a place joins the end of the order of class k; the answer is the set of active classes.
+// Rules 1 and 5: the block of a place joins the end of the order of class k; the answer is the set of active classes.
 pub fn join_in(
     next: &mut [u8; PLACES],
     heads: &mut [u8; CLASSES],
@@ -22,7 +23,10 @@ pub fn join_in(
     time: u64,
 ) -> u32
     requires { ⌜ (place < 64) × ((k < 17) × (getD (now tails) k 0 ≤ 64)) ⌝ }
-    ensures { λ r. ⌜ ordersNow (now (next .exit)) (now (heads .exit)) (now (tails .exit)) (now (ready .exit)) r ≡ joinedOrders (ordersNow (now (next .entry)) (now (heads .entry)) (now (tails .entry)) (now (ready .entry)) active) place k time ⌝ }
+    ensures { λ r. ⌜
+        (let before = ordersNow (now (next .entry)) (now (heads .entry)) (now (tails .entry)) (now (ready .entry)) active in
+        let after = ordersNow (now (next .exit)) (now (heads .exit)) (now (tails .exit)) (now (ready .exit)) r in
+        after ≡ joinedOrders before place k time) ⌝ }
 {
     let link = (place + 1) as u8;
     let last = tails[k];
@@ -38,7 +42,8 @@ pub fn join_in(
     bits::with_bit(active, k as u32)
 }
 
-// Place i has one record more; where its lane was empty, its block joins its class's order, ready at the next start.
+// Rule 1: place i has one record more; where its lane was empty, its block joins its class's order, ready at the next
+// start above the clock.
 fn take_in(
     i: usize,
     clock: u64,
@@ -51,7 +56,12 @@ fn take_in(
     ready: &mut [u64; PLACES],
 ) -> u32
     requires { ⌜ TakeNeeds (now shares) (now counts) (now tails) clock i ⌝ }
-    ensures { λ r. ⌜ taking (now (counts .exit)) (ordersNow (now (next .exit)) (now (heads .exit)) (now (tails .exit)) (now (ready .exit)) r) ≡ takenAt (now (shares .entry)) clock i (taking (now (counts .entry)) (ordersNow (now (next .entry)) (now (heads .entry)) (now (tails .entry)) (now (ready .entry)) active)) ⌝ }
+    ensures { λ r. ⌜
+        (let before = taking (now (counts .entry))
+        (ordersNow (now (next .entry)) (now (heads .entry)) (now (tails .entry)) (now (ready .entry)) active) in
+        let after = taking (now (counts .exit))
+        (ordersNow (now (next .exit)) (now (heads .exit)) (now (tails .exit)) (now (ready .exit)) r) in
+        after ≡ takenAt (now (shares .entry)) clock i before) ⌝ }
 {
     let count = counts[i];
     counts[i] = count + 1;
@@ -86,7 +96,7 @@ fn not_taken(code: u8, active: u32) -> Took
     }
 }
 
-// A record comes for the block with this number.
+// Rule 1: a record comes for the block with this number.
 pub fn record_in(
     block: u32,
     id: u32,
