@@ -18,7 +18,7 @@ use Rattle.board.specs.declared.Board.{Board}
 use Rattle.board.specs.Reading.{tab, recordAt, laneOf, standBy, bareOf, placeOf, view}
 use Rattle.board.proofs.Lists.{length-tab, getD-tab}
 use Rattle.board.proofs.Rings.{length-lane}
-use Rattle.spoilt_places.specs.Ranges.{numberInRange, shareInRange, ringInRange, inOrder, deficitInRange, freeIsZero}
+use Rattle.spoilt_places.specs.Ranges.{numberInRange, shareInRange, ringInRange, inOrder, deficitInRange, freeIsZero, placeNow}
 use Rattle.spoilt.specs.Test.{lengthInRange, laneInRange}
 
 pub above-zero : (n : ℕ) → ltb 0 n ≡ not (eqb n 0)
@@ -153,9 +153,9 @@ module _ (b : Board) (ids lens : List ℕ) where
     unfolding placeOf bareOf deficitInRange chargeOf largestCharge
     deficit-is = ap (λ (q : Bool). ltb (getD (b .deficits) p 0) (chargeOf (b .largest)) && (q || eqb (getD (b .deficits) p 0) 0)) queued-is
 
-    pub free-is : Spoilt.freeIsZero (placeOf b ids lens p) ≡ freeIsZero (getD (b .shares) p 0) (getD (b .numbers) p 0) (getD (b .starts) p 0) (getD (b .counts) p 0) (getD (b .deficits) p 0)
+    pub free-is : Spoilt.freeIsZero (placeOf b ids lens p) ≡ freeIsZero (placeNow b p)
     unfolding placeOf bareOf freeIsZero
-    free-is = ap (λ (e : Bool). ltb 0 (getD (b .shares) p 0) || (eqb (getD (b .numbers) p 0) 0 && (eqb (getD (b .starts) p 0) 0 && (e && eqb (getD (b .deficits) p 0) 0)))) (ap not waits-is ∙ not-not (eqb n 0))
+    free-is = rw (ap not waits-is ∙ not-not (eqb n 0))
 
     -- ---- its lane
 

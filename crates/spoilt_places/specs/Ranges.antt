@@ -10,6 +10,8 @@ use Rattle.base.specs.Tests.{every, allBelow}
 use Rattle.arrays.specs.Lists.{totalOf}
 use Rattle.units.specs.Credit.{chargeOf}
 use Rattle.lanes.specs.Lanes.{laneDepth}
+use Rattle.board.specs.declared.Board.{Board}
+use Rattle.spoilt_places.specs.declared.PlaceNow.{PlaceNow}
 
 -- L in range
 unfoldable pub sizeInRange : ℕ → Bool
@@ -48,28 +50,40 @@ unfoldable pub deficitInRange : ℕ → Bool → ℕ → Bool
 deficitInRange largest queued deficit = ltb deficit (chargeOf largest) && (queued || eqb deficit 0)
 
 -- all not in use 0: a free place; a ready time and a link outside an order
-unfoldable pub freeIsZero : ℕ → ℕ → ℕ → ℕ → ℕ → Bool
-freeIsZero share number start count deficit = ltb 0 share || (eqb number 0 && (eqb start 0 && (eqb count 0 && eqb deficit 0)))
+unfoldable pub freeIsZero : PlaceNow → Bool
+freeIsZero x = ltb 0 (x .share) || (eqb (x .number) 0 && (eqb (x .start) 0 && (eqb (x .count) 0 && eqb (x .deficit .0) 0)))
 
-unfoldable pub unusedIsZero : Bool → ℕ → ℕ → Bool
-unusedIsZero queued ready next = queued || (eqb ready 0 && eqb next 0)
+unfoldable pub unusedIsZero : Bool → PlaceNow → Bool
+unusedIsZero queued x = queued || (eqb (x .ready) 0 && eqb (x .next) 0)
 
-abbrev pub placeRules : ℕ → ℕ → ℕ → ℕ → ℕ → ℕ → ℕ → ℕ → ℕ → ℕ → List Bool
-placeRules largest slot p number share start count deficit ready next =
-    numberInRange share number
-    ∷ shareInRange share
-    ∷ ringInRange start count
-    ∷ deficitInRange largest (inOrder p count slot) deficit
-    ∷ freeIsZero share number start count deficit
-    ∷ unusedIsZero (inOrder p count slot) ready next
+abbrev pub placeRules : ℕ → ℕ → ℕ → PlaceNow → List Bool
+placeRules largest slot p x =
+    numberInRange (x .share) (x .number)
+    ∷ shareInRange (x .share)
+    ∷ ringInRange (x .start) (x .count)
+    ∷ deficitInRange largest (inOrder p (x .count) slot) (x .deficit .0)
+    ∷ freeIsZero x
+    ∷ unusedIsZero (inOrder p (x .count) slot) x
     ∷ []
 
-unfoldable pub placeInRange : ℕ → ℕ → ℕ → ℕ → ℕ → ℕ → ℕ → ℕ → ℕ → ℕ → Bool
-placeInRange largest slot p number share start count deficit ready next = every (placeRules largest slot p number share start count deficit ready next)
+unfoldable pub placeInRange : ℕ → ℕ → ℕ → PlaceNow → Bool
+placeInRange largest slot p x = every (placeRules largest slot p x)
 
-unfoldable pub placesInRange : ℕ → ℕ → List ℕ → List ℕ → List ℕ → List ℕ → List ℕ → List ℕ → List ℕ → Bool
-placesInRange largest slot numbers shares starts counts deficits ready next =
-    allBelow 64 (λ p. placeInRange largest slot p (getD numbers p 0) (getD shares p 0) (getD starts p 0) (getD counts p 0) (getD deficits p 0) (getD ready p 0) (getD next p 0))
+-- what the arrays of a board say of place p
+abbrev pub placeNow : Board → ℕ → PlaceNow
+placeNow b p =
+    record {
+      number = getD (b .numbers) p 0;
+      share = getD (b .shares) p 0;
+      start = getD (b .starts) p 0;
+      count = getD (b .counts) p 0;
+      deficit = record { 0 = getD (b .deficits) p 0 };
+      ready = getD (b .ready) p 0;
+      next = getD (b .next) p 0;
+    }
+
+unfoldable pub placesInRange : Board → Bool
+placesInRange b = allBelow 64 (λ p. placeInRange (b .largest) (b .slot) p (placeNow b p))
 
 -- ---- SHARES
 
