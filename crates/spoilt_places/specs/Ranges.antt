@@ -30,24 +30,24 @@ unfoldable pub numbersApart : List ℕ → Bool
 numbersApart numbers = allBelow 64 (λ p. numberApart numbers (getD numbers p 0))
 
 -- and in range
-unfoldable pub numberInRange : ℕ → ℕ → Bool
-numberInRange share number = not (ltb 0 share) || leb 1 number
+unfoldable pub numberInRange : PlaceNow → Bool
+numberInRange x = not (ltb 0 (x .share)) || leb 1 (x .number)
 
 -- shares in range
-unfoldable pub shareInRange : ℕ → Bool
-shareInRange share = leb share 65536
+unfoldable pub shareInRange : PlaceNow → Bool
+shareInRange x = leb (x .share) 65536
 
 -- start and count in range
-unfoldable pub ringInRange : ℕ → ℕ → Bool
-ringInRange start count = ltb start laneDepth && leb count laneDepth
+unfoldable pub ringInRange : PlaceNow → Bool
+ringInRange x = ltb (x .start) laneDepth && leb (x .count) laneDepth
 
 -- the block of place p is in its class's order: it waits, and it has not the open slot
 unfoldable pub inOrder : ℕ → ℕ → ℕ → Bool
 inOrder p count slot = not (eqb count 0) && not (eqb slot (p + 1))
 
 -- deficits under L bytes, and 0 for empty lanes and the open slot's block
-unfoldable pub deficitInRange : ℕ → Bool → ℕ → Bool
-deficitInRange largest queued deficit = ltb deficit (chargeOf largest) && (queued || eqb deficit 0)
+unfoldable pub deficitInRange : ℕ → Bool → PlaceNow → Bool
+deficitInRange largest queued x = ltb (x .deficit .0) (chargeOf largest) && (queued || eqb (x .deficit .0) 0)
 
 -- all not in use 0: a free place; a ready time and a link outside an order
 unfoldable pub freeIsZero : PlaceNow → Bool
@@ -58,10 +58,10 @@ unusedIsZero queued x = queued || (eqb (x .ready) 0 && eqb (x .next) 0)
 
 abbrev pub placeRules : ℕ → ℕ → ℕ → PlaceNow → List Bool
 placeRules largest slot p x =
-    numberInRange (x .share) (x .number)
-    ∷ shareInRange (x .share)
-    ∷ ringInRange (x .start) (x .count)
-    ∷ deficitInRange largest (inOrder p (x .count) slot) (x .deficit .0)
+    numberInRange x
+    ∷ shareInRange x
+    ∷ ringInRange x
+    ∷ deficitInRange largest (inOrder p (x .count) slot) x
     ∷ freeIsZero x
     ∷ unusedIsZero (inOrder p (x .count) slot) x
     ∷ []

@@ -84,31 +84,31 @@ pub fn numbers_apart(numbers: &[u32; PLACES]) -> bool
 }
 
 // Open block numbers in range.
-fn number_in_range(share: u32, number: u32) -> bool
-    ensures { λ r. ⌜ r ≡ numberInRange share number ⌝ }
+fn number_in_range(x: PlaceNow) -> bool
+    ensures { λ r. ⌜ r ≡ numberInRange x ⌝ }
 {
-    if 0 < share {
-        return 1 <= number;
+    if 0 < x.share {
+        return 1 <= x.number;
     }
     true
 }
 
 // Shares in range.
-fn share_in_range(share: u32) -> bool
-    ensures { λ r. ⌜ r ≡ shareInRange share ⌝ }
+fn share_in_range(x: PlaceNow) -> bool
+    ensures { λ r. ⌜ r ≡ shareInRange x ⌝ }
 {
-    share <= GREATEST_SHARE
+    x.share <= GREATEST_SHARE
 }
 
 // Start and count in range.
-fn ring_in_range(start: u16, count: u16) -> bool
-    ensures { λ r. ⌜ r ≡ ringInRange start count ⌝ }
+fn ring_in_range(x: PlaceNow) -> bool
+    ensures { λ r. ⌜ r ≡ ringInRange x ⌝ }
 {
     let depth = lanes::depth();
-    if depth <= start {
+    if depth <= x.start {
         return false;
     }
-    count <= depth
+    x.count <= depth
 }
 
 // The block of place p waits and has not the open slot.
@@ -125,17 +125,17 @@ pub fn in_order(p: usize, count: u16, slot: u8) -> bool
 }
 
 // Deficits under L bytes, and 0 for empty lanes and the open slot's block.
-fn deficit_in_range(largest: u32, queued: bool, deficit: Parts) -> bool
-    ensures { λ r. ⌜ r ≡ deficitInRange largest queued (deficit .0) ⌝ }
+fn deficit_in_range(largest: u32, queued: bool, x: PlaceNow) -> bool
+    ensures { λ r. ⌜ r ≡ deficitInRange largest queued x ⌝ }
 {
     let most = units::charge(Bytes(largest as u64));
-    if most.0 <= deficit.0 {
+    if most.0 <= x.deficit.0 {
         return false;
     }
     if queued {
         return true;
     }
-    deficit.0 == 0
+    x.deficit.0 == 0
 }
 
 // All not in use 0: a free place.
@@ -174,17 +174,17 @@ fn unused_is_zero(queued: bool, x: PlaceNow) -> bool
 fn place_in_range(largest: u32, slot: u8, p: usize, x: PlaceNow) -> bool
     ensures { λ r. ⌜ r ≡ placeInRange largest slot p x ⌝ }
 {
-    if !number_in_range(x.share, x.number) {
+    if !number_in_range(x) {
         return false;
     }
-    if !share_in_range(x.share) {
+    if !share_in_range(x) {
         return false;
     }
-    if !ring_in_range(x.start, x.count) {
+    if !ring_in_range(x) {
         return false;
     }
     let queued = in_order(p, x.count, slot);
-    if !deficit_in_range(largest, queued, x.deficit) {
+    if !deficit_in_range(largest, queued, x) {
         return false;
     }
     if !free_is_zero(x) {

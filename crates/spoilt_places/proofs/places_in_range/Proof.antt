@@ -27,7 +27,7 @@ place-in-range-requires c κs = search needs
 
 returns : tie.Need-returns Inv-loop μ-loop
 unfolding placesInRange
-returns c = sym (all-stop _ 64 (c .before .before .before .before .before .before .before .before .before .before .loop .p) (c .before .before .before .before .before .before .before .before .before .loop-test .taken) (sym (c .before .place-in-range .ensures) ∙ not-true _ (c .if1 .taken)))
+returns c = sym (all-stop _ 64 _ (search needs) (sym (c .before .place-in-range .ensures) ∙ not-true _ (c .if1 .taken)))
 
 add-p : tie.Need-add-p Inv-loop μ-loop
 add-p c = search needs
@@ -36,12 +36,13 @@ loop-less : tie.Need-loop-less Inv-loop μ-loop
 loop-less c = search needs
 
 loop-again : tie.Need-loop-again Inv-loop μ-loop
-loop-again c = (omega arith, all-more _ (c .before .before .before .before .before .before .before .before .before .before .loop .p) (c .before .before .before .before .before .before .before .before .before .before .loop .inv .1) (sym (c .before .place-in-range .ensures) ∙ not-false _ (c .if1 .left)))
+loop-again c = (omega arith, all-more _ _ (search needs) (sym (c .before .place-in-range .ensures) ∙ not-false _ (c .if1 .left)))
 
 returns-2 : tie.Need-returns-2 Inv-loop μ-loop
 unfolding placesInRange
 returns-2 c = let e : c .before .loop .p ≡ 64 = omega arith in sym (rw e at (c .before .loop .inv .1))
 
+-- The needs with no name are the reads of the arrays: the bytes before the element, and that the array has it.
 pub places-in-range-spec : {M : Type 1} → statement M
 places-in-range-spec =
     tie.close
