@@ -37,7 +37,7 @@ use Rattle.board.proofs.Lists.{getD-tab, linked-behind, behind-none}
 use Rattle.board.proofs.Reading.{once, small, class, few}
 use Rattle.board.proofs.Sound.{seventeen-view}
 use Rattle.board.proofs.Walks.{ends, linked-ends, first-follow, follow-length}
-use Rattle.spoilt_places.specs.Ranges.{sizeInRange, numbersApart, inOrder, unusedIsZero, sharesFit, heldWhileWaiting, noneHeld}
+use Rattle.spoilt_places.specs.Ranges.{sizeInRange, numbersApart, inOrder, unusedIsZero, placeNow, sharesFit, heldWhileWaiting, noneHeld}
 use Rattle.spoilt_orders.specs.Walks.{clockInRange, classActive, classPending, blocksInOrder}
 use Rattle.spoilt.specs.Test.{slotOpen}
 use Rattle.spoilt.proofs.Apart.{d-apart}
@@ -93,7 +93,7 @@ module _ (b : struct.Board) (ids lens : List ℕ) (z : Sized b) (s : Sound b ids
 
   -- ---- a place
 
-  unused : (p : ℕ) → p < 64 → unusedIsZero (inOrder p (getD (b .counts) p 0) (b .slot)) (getD (b .ready) p 0) (getD (b .next) p 0) ≡ true
+  unused : (p : ℕ) → p < 64 → unusedIsZero (inOrder p (getD (b .counts) p 0) (b .slot)) (placeNow b p) ≡ true
   unfolding unusedIsZero
   unused p h = go (inOrder p (getD (b .counts) p 0) (b .slot)) refl
     where

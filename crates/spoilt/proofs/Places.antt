@@ -1,6 +1,6 @@
 -- A place as it is read: each clause of the rules on it is the rule that is computed on the arrays.
 use mathlib.Core.Path.{_≡_, refl, ap, _∙_}
-use mathlib.Core.Bool.{Bool, true, false, cond, not, _&&_, _||_}
+use mathlib.Core.Bool.{Bool, true, false, cond, not, _&&_}
 use mathlib.Core.List.{List}
 use Prim.Native.Nat.{ℕ, zero, suc, _+_, _≤_, _<_}
 use native.Mathlib.Omega.{arith}
@@ -10,7 +10,7 @@ use lib.ListN.{length, getD, List·getD-eq-default}
 use borrow.Author.Tests.{ne-eqb, lt-ltb}
 use Rattle.base.proofs.Tests.{and-left, and-right, and-both, all-at, all-intro}
 use Rattle.units.specs.Credit.{largestCharge, chargeOf}
-use Rattle.lanes.specs.Lanes.{laneDepth, laneEntry}
+use Rattle.lanes.specs.Lanes.{laneEntry}
 use Rattle.rules.specs.Board.{out, queued, serving, Place, freePlace, at, entry, waits}
 use Rattle.rules.specs.Spoilt
 use Rattle.rules.specs.Spoilt.{isQueued, isServing, readyNum, lengthsIn}
@@ -18,7 +18,7 @@ use Rattle.board.specs.declared.Board.{Board}
 use Rattle.board.specs.Reading.{tab, recordAt, laneOf, standBy, bareOf, placeOf, view}
 use Rattle.board.proofs.Lists.{length-tab, getD-tab}
 use Rattle.board.proofs.Rings.{length-lane}
-use Rattle.spoilt_places.specs.Ranges.{numberInRange, shareInRange, ringInRange, inOrder, deficitInRange, freeIsZero}
+use Rattle.spoilt_places.specs.Ranges.{numberInRange, shareInRange, ringInRange, inOrder, deficitInRange, freeIsZero, placeNow}
 use Rattle.spoilt.specs.Test.{lengthInRange, laneInRange}
 
 pub above-zero : (n : ℕ) → ltb 0 n ≡ not (eqb n 0)
@@ -137,25 +137,25 @@ module _ (b : Board) (ids lens : List ℕ) where
 
     -- the clauses
 
-    pub number-is : Spoilt.numberInRange (placeOf b ids lens p) ≡ numberInRange (getD (b .shares) p 0) (getD (b .numbers) p 0)
+    pub number-is : Spoilt.numberInRange (placeOf b ids lens p) ≡ numberInRange (placeNow b p)
     unfolding placeOf bareOf numberInRange
     number-is = refl
 
-    pub share-is : Spoilt.shareInRange (placeOf b ids lens p) ≡ shareInRange (getD (b .shares) p 0)
+    pub share-is : Spoilt.shareInRange (placeOf b ids lens p) ≡ shareInRange (placeNow b p)
     unfolding placeOf bareOf shareInRange
     share-is = refl
 
-    pub ring-is : Spoilt.ringInRange (placeOf b ids lens p) ≡ ringInRange (getD (b .starts) p 0) (getD (b .counts) p 0)
+    pub ring-is : Spoilt.ringInRange (placeOf b ids lens p) ≡ ringInRange (placeNow b p)
     unfolding placeOf bareOf ringInRange
-    ring-is = ap (λ (m : ℕ). ltb (getD (b .starts) p 0) laneDepth && leb m laneDepth) lane-long
+    ring-is = rw lane-long
 
-    pub deficit-is : Spoilt.deficitInRange (b .largest) (placeOf b ids lens p) ≡ deficitInRange (b .largest) (inOrder p (getD (b .counts) p 0) (b .slot)) (getD (b .deficits) p 0)
+    pub deficit-is : Spoilt.deficitInRange (b .largest) (placeOf b ids lens p) ≡ deficitInRange (b .largest) (inOrder p (getD (b .counts) p 0) (b .slot)) (placeNow b p)
     unfolding placeOf bareOf deficitInRange chargeOf largestCharge
-    deficit-is = ap (λ (q : Bool). ltb (getD (b .deficits) p 0) (chargeOf (b .largest)) && (q || eqb (getD (b .deficits) p 0) 0)) queued-is
+    deficit-is = rw queued-is
 
-    pub free-is : Spoilt.freeIsZero (placeOf b ids lens p) ≡ freeIsZero (getD (b .shares) p 0) (getD (b .numbers) p 0) (getD (b .starts) p 0) (getD (b .counts) p 0) (getD (b .deficits) p 0)
+    pub free-is : Spoilt.freeIsZero (placeOf b ids lens p) ≡ freeIsZero (placeNow b p)
     unfolding placeOf bareOf freeIsZero
-    free-is = ap (λ (e : Bool). ltb 0 (getD (b .shares) p 0) || (eqb (getD (b .numbers) p 0) 0 && (eqb (getD (b .starts) p 0) 0 && (e && eqb (getD (b .deficits) p 0) 0)))) (ap not waits-is ∙ not-not (eqb n 0))
+    free-is = rw (ap not waits-is ∙ not-not (eqb n 0))
 
     -- ---- its lane
 

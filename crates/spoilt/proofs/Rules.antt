@@ -20,7 +20,7 @@ use Rattle.lanes.specs.Lanes.{laneEntry}
 use Rattle.rules.specs.Spoilt.{count}
 use Rattle.rules.proofs.Orders.{ready}
 use Rattle.board.specs.declared.Board.{Board}
-use Rattle.spoilt_places.specs.Ranges.{sizeInRange, numbersApart, inOrder, placeRules, placesInRange, placeInRange, sharesFit, heldWhileWaiting}
+use Rattle.spoilt_places.specs.Ranges.{sizeInRange, numbersApart, inOrder, placeRules, placeInRange, placeNow, placesInRange, sharesFit, heldWhileWaiting}
 use Rattle.spoilt_orders.specs.Walks.{clockInRange, ofClass, blocksInOrder, ordersListed, classActive, classPending, activeAsRuled, pendingAsRuled}
 use Rattle.spoilt.specs.Test.{tablesWhole, laneInRange, lanesInRange, slotOpen, slotInRange, soundTest}
 use Rattle.spoilt.proofs.Walk.{lengthOf, less, belongs, allBelong}
@@ -29,15 +29,7 @@ use Rattle.spoilt.proofs.Walk.{lengthOf, less, belongs, allBelong}
 
 -- the rules of place p
 abbrev pub placeRulesAt : Board → ℕ → List Bool
-placeRulesAt b p =
-    placeRules (b .largest) (b .slot) p
-    (getD (b .numbers) p 0)
-    (getD (b .shares) p 0)
-    (getD (b .starts) p 0)
-    (getD (b .counts) p 0)
-    (getD (b .deficits) p 0)
-    (getD (b .ready) p 0)
-    (getD (b .next) p 0)
+placeRulesAt b p = placeRules (b .largest) (b .slot) p (placeNow b p)
 
 -- ---- the open slot
 

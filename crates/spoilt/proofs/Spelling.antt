@@ -1,7 +1,7 @@
 -- A value that passes the rules spells a board: its orders list what they must, and each field is what the board that is read is written as.
 use mathlib.Core.Path.{_≡_, refl, sym, ap, ap₂, _∙_}
 use mathlib.Core.Bool.{Bool, true, false, cond, not, _&&_, true≢false}
-use mathlib.Core.Logic.{_⊎_, inl, inr}
+use mathlib.Core.Logic.{_⊎_, inl, inr, ⊎-elim}
 use mathlib.Core.List.{List, [], _∷_, map}
 use Prim.Native.Nat.{ℕ, zero, suc, _≤_, _<_}
 use native.Mathlib.Omega.{arith}
@@ -29,7 +29,8 @@ use Rattle.board.specs.Reading.{tab, lastLink, behind, slotLink, slotLeft, enco
 use Rattle.board.proofs.Lists.{tab-of, behind-none}
 use Rattle.board.proofs.Same.{same}
 use Rattle.board.proofs.Walks.{ends-once, ends-behind, first-follow}
-use Rattle.spoilt_places.specs.Ranges.{inOrder, freeIsZero, shareInRange, unusedIsZero}
+use Rattle.spoilt_places.specs.declared.PlaceNow.{PlaceNow}
+use Rattle.spoilt_places.specs.Ranges.{inOrder, freeIsZero, shareInRange, unusedIsZero, placeNow}
 use Rattle.spoilt_orders.specs.Walks.{classActive, classPending, blocksInOrder}
 use Rattle.spoilt.proofs.Counts.{all-listed}
 use Rattle.spoilt.proofs.Walk.{risesFrom, lastFrom, Walked, walked, orderOf, lengthOf}
@@ -88,6 +89,16 @@ unfolding tab
 map-tab f zero g = refl
 map-tab f (suc n) g = ap (λ (r : List _). f (g 0) ∷ r) (map-tab f n (λ i. g (suc i)))
 
+-- ---- a place with records is not free
+
+open-waits : (x : PlaceNow) → freeIsZero x ≡ true → eqb (x .count) 0 ≡ false → 1 ≤ x .share
+unfolding freeIsZero
+open-waits x h e =
+    ⊎-elim
+    (λ l. l)
+    (λ f. absurd (true≢false (sym (and-left (eqb (x .count) 0) _ (and-right (eqb (x .start) 0) _ (and-right (eqb (x .number) 0) _ f))) ∙ e)))
+    (d-or (d-leb 1 (x .share)) (d-true _) .yes h)
+
 -- ---- from the rules
 
 module _ (b : struct.Board) (ids lens : List ℕ) (r : Rules b lens) where
@@ -111,12 +122,7 @@ module _ (b : struct.Board) (ids lens : List ℕ) (r : Rules b lens) where
   shares-in p h = true-le (getD (b .shares) p 0) 65536 (r .places p h .1 .0)
 
   pub open-at : (p : ℕ) → p < 64 → eqb (getD (b .counts) p 0) 0 ≡ false → 1 ≤ getD (b .shares) p 0
-  unfolding freeIsZero
-  open-at p h e = go (d-or (d-leb 1 (getD (b .shares) p 0)) (d-and (d-true (eqb (getD (b .numbers) p 0) 0)) (d-and (d-true (eqb (getD (b .starts) p 0) 0)) (d-and (d-true (eqb (getD (b .counts) p 0) 0)) (d-true (eqb (getD (b .deficits) p 0) 0))))) .yes (r .places p h .1 .1 .1 .1 .0))
-    where
-      go : (1 ≤ getD (b .shares) p 0) ⊎ ((eqb (getD (b .numbers) p 0) 0 ≡ true) × ((eqb (getD (b .starts) p 0) 0 ≡ true) × ((eqb (getD (b .counts) p 0) 0 ≡ true) × (eqb (getD (b .deficits) p 0) 0 ≡ true)))) → 1 ≤ getD (b .shares) p 0
-      go (inl l) = l
-      go (inr f) = absurd (true≢false (sym (f .1 .1 .0) ∙ e))
+  open-at p h e = open-waits (placeNow b p) (r .places p h .1 .1 .1 .1 .0) e
 
   in-order-count : (p : ℕ) → inOrder p (getD (b .counts) p 0) (b .slot) ≡ true → eqb (getD (b .counts) p 0) 0 ≡ false
   unfolding inOrder

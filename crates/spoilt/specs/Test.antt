@@ -60,7 +60,7 @@ soundRules b ids lens =
     tablesWhole ids lens
     ∷ sizeInRange (b .largest)
     ∷ numbersApart (b .numbers)
-    ∷ placesInRange (b .largest) (b .slot) (b .numbers) (b .shares) (b .starts) (b .counts) (b .deficits) (b .ready) (b .next)
+    ∷ placesInRange b
     ∷ lanesInRange lens (b .largest) (b .starts) (b .counts)
     ∷ sharesFit (b .shares) (b .held)
     ∷ heldWhileWaiting (b .active) (b .held)

@@ -6,7 +6,6 @@ ghost use Rattle.spoilt.specs.Test.{tablesWhole, lengthInRange, laneInRa
 ghost use Rattle.spoilt.specs.Early.{earlyCode};
 ghost use Rattle.board.specs.Leaving.{Known};
 ghost use Rattle.base.specs.Tests.{every};
-ghost use Rattle.spoilt_places.specs.Ranges.{placesInRange};
 use board::Board;
 use numbers::CLOCK_END;
 use numbers::LAST_LINK;
@@ -115,23 +114,6 @@ fn slot_in_range<'a>(
     slot_open(largest, clock, left, counts[p], lens[e])
 }
 
-// The rules of each place.
-fn places_sound(b: Board) -> bool
-    ensures { λ r. ⌜ r ≡ placesInRange (b .largest) (b .slot) (b .numbers) (b .shares) (b .starts) (b .counts) (b .deficits) (b .ready) (b .next) ⌝ }
-{
-    spoilt_places::places_in_range(
-        b.largest,
-        b.slot,
-        &b.numbers,
-        &b.shares,
-        &b.starts,
-        &b.counts,
-        &b.deficits,
-        &b.ready,
-        &b.next,
-    )
-}
-
 // The rules of the orders, and both class sets as ruled.
 fn orders_sound(b: Board) -> bool
     ensures { λ r. ⌜ r ≡ every (orderRules b) ⌝ }
@@ -167,7 +149,7 @@ pub fn sound(ids: &[u32], lens: &[u16], b: Board) -> bool
     if !spoilt_places::numbers_apart(&b.numbers) {
         return false;
     }
-    if !places_sound(b) {
+    if !spoilt_places::places_in_range(b) {
         return false;
     }
     if !lanes_in_range(lens, b.largest, &b.starts, &b.counts) {

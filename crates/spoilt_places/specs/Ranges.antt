@@ -10,6 +10,8 @@ use Rattle.base.specs.Tests.{every, allBelow}
 use Rattle.arrays.specs.Lists.{totalOf}
 use Rattle.units.specs.Credit.{chargeOf}
 use Rattle.lanes.specs.Lanes.{laneDepth}
+use Rattle.board.specs.declared.Board.{Board}
+use Rattle.spoilt_places.specs.declared.PlaceNow.{PlaceNow}
 
 -- L in range
 unfoldable pub sizeInRange : ℕ → Bool
@@ -28,48 +30,60 @@ unfoldable pub numbersApart : List ℕ → Bool
 numbersApart numbers = allBelow 64 (λ p. numberApart numbers (getD numbers p 0))
 
 -- and in range
-unfoldable pub numberInRange : ℕ → ℕ → Bool
-numberInRange share number = not (ltb 0 share) || leb 1 number
+unfoldable pub numberInRange : PlaceNow → Bool
+numberInRange x = not (ltb 0 (x .share)) || leb 1 (x .number)
 
 -- shares in range
-unfoldable pub shareInRange : ℕ → Bool
-shareInRange share = leb share 65536
+unfoldable pub shareInRange : PlaceNow → Bool
+shareInRange x = leb (x .share) 65536
 
 -- start and count in range
-unfoldable pub ringInRange : ℕ → ℕ → Bool
-ringInRange start count = ltb start laneDepth && leb count laneDepth
+unfoldable pub ringInRange : PlaceNow → Bool
+ringInRange x = ltb (x .start) laneDepth && leb (x .count) laneDepth
 
 -- the block of place p is in its class's order: it waits, and it has not the open slot
 unfoldable pub inOrder : ℕ → ℕ → ℕ → Bool
 inOrder p count slot = not (eqb count 0) && not (eqb slot (p + 1))
 
 -- deficits under L bytes, and 0 for empty lanes and the open slot's block
-unfoldable pub deficitInRange : ℕ → Bool → ℕ → Bool
-deficitInRange largest queued deficit = ltb deficit (chargeOf largest) && (queued || eqb deficit 0)
+unfoldable pub deficitInRange : ℕ → Bool → PlaceNow → Bool
+deficitInRange largest queued x = ltb (x .deficit .0) (chargeOf largest) && (queued || eqb (x .deficit .0) 0)
 
 -- all not in use 0: a free place; a ready time and a link outside an order
-unfoldable pub freeIsZero : ℕ → ℕ → ℕ → ℕ → ℕ → Bool
-freeIsZero share number start count deficit = ltb 0 share || (eqb number 0 && (eqb start 0 && (eqb count 0 && eqb deficit 0)))
+unfoldable pub freeIsZero : PlaceNow → Bool
+freeIsZero x = ltb 0 (x .share) || (eqb (x .number) 0 && (eqb (x .start) 0 && (eqb (x .count) 0 && eqb (x .deficit .0) 0)))
 
-unfoldable pub unusedIsZero : Bool → ℕ → ℕ → Bool
-unusedIsZero queued ready next = queued || (eqb ready 0 && eqb next 0)
+unfoldable pub unusedIsZero : Bool → PlaceNow → Bool
+unusedIsZero queued x = queued || (eqb (x .ready) 0 && eqb (x .next) 0)
 
-abbrev pub placeRules : ℕ → ℕ → ℕ → ℕ → ℕ → ℕ → ℕ → ℕ → ℕ → ℕ → List Bool
-placeRules largest slot p number share start count deficit ready next =
-    numberInRange share number
-    ∷ shareInRange share
-    ∷ ringInRange start count
-    ∷ deficitInRange largest (inOrder p count slot) deficit
-    ∷ freeIsZero share number start count deficit
-    ∷ unusedIsZero (inOrder p count slot) ready next
+abbrev pub placeRules : ℕ → ℕ → ℕ → PlaceNow → List Bool
+placeRules largest slot p x =
+    numberInRange x
+    ∷ shareInRange x
+    ∷ ringInRange x
+    ∷ deficitInRange largest (inOrder p (x .count) slot) x
+    ∷ freeIsZero x
+    ∷ unusedIsZero (inOrder p (x .count) slot) x
     ∷ []
 
-unfoldable pub placeInRange : ℕ → ℕ → ℕ → ℕ → ℕ → ℕ → ℕ → ℕ → ℕ → ℕ → Bool
-placeInRange largest slot p number share start count deficit ready next = every (placeRules largest slot p number share start count deficit ready next)
+unfoldable pub placeInRange : ℕ → ℕ → ℕ → PlaceNow → Bool
+placeInRange largest slot p x = every (placeRules largest slot p x)
 
-unfoldable pub placesInRange : ℕ → ℕ → List ℕ → List ℕ → List ℕ → List ℕ → List ℕ → List ℕ → List ℕ → Bool
-placesInRange largest slot numbers shares starts counts deficits ready next =
-    allBelow 64 (λ p. placeInRange largest slot p (getD numbers p 0) (getD shares p 0) (getD starts p 0) (getD counts p 0) (getD deficits p 0) (getD ready p 0) (getD next p 0))
+-- what the arrays of a board say of place p
+abbrev pub placeNow : Board → ℕ → PlaceNow
+placeNow b p =
+    record {
+      number = getD (b .numbers) p 0;
+      share = getD (b .shares) p 0;
+      start = getD (b .starts) p 0;
+      count = getD (b .counts) p 0;
+      deficit = record { 0 = getD (b .deficits) p 0 };
+      ready = getD (b .ready) p 0;
+      next = getD (b .next) p 0;
+    }
+
+unfoldable pub placesInRange : Board → Bool
+placesInRange b = allBelow 64 (λ p. placeInRange (b .largest) (b .slot) p (placeNow b p))
 
 -- ---- SHARES
 

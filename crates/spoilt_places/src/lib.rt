@@ -2,6 +2,7 @@
 ghost use mathlib.Core.Path.{_≡_};
 ghost use Rattle.base.specs.Sums.{oneIf};
 ghost use Rattle.spoilt_places.specs.Ranges.{sizeInRange, timesFound, numberApart, numbersApart, numberInRange, shareInRange, ringInRange, inOrder, deficitInRange, freeIsZero, unusedIsZero, placeInRange, placesInRange, sharesFit, noneHeld, heldWhileWaiting};
+use board::Board;
 use numbers::CLASSES;
 use numbers::GREATEST_LARGEST;
 use numbers::GREATEST_SHARE;
@@ -12,6 +13,17 @@ use numbers::PLACES;
 use numbers::WHOLE_LINE;
 use units::Bytes;
 use units::Parts;
+
+// What the board's arrays say of one place.
+pub struct PlaceNow {
+    pub number: u32,
+    pub share: u32,
+    pub start: u16,
+    pub count: u16,
+    pub deficit: Parts,
+    pub ready: u64,
+    pub next: u8,
+}
 
 // 1 where the test holds, and 0 where it does not.
 pub fn one_if(test: bool) -> u32
@@ -72,31 +84,31 @@ pub fn numbers_apart(numbers: &[u32; PLACES]) -> bool
 }
 
 // Open block numbers in range.
-fn number_in_range(share: u32, number: u32) -> bool
-    ensures { λ r. ⌜ r ≡ numberInRange share number ⌝ }
+fn number_in_range(x: PlaceNow) -> bool
+    ensures { λ r. ⌜ r ≡ numberInRange x ⌝ }
 {
-    if 0 < share {
-        return 1 <= number;
+    if 0 < x.share {
+        return 1 <= x.number;
     }
     true
 }
 
 // Shares in range.
-fn share_in_range(share: u32) -> bool
-    ensures { λ r. ⌜ r ≡ shareInRange share ⌝ }
+fn share_in_range(x: PlaceNow) -> bool
+    ensures { λ r. ⌜ r ≡ shareInRange x ⌝ }
 {
-    share <= GREATEST_SHARE
+    x.share <= GREATEST_SHARE
 }
 
 // Start and count in range.
-fn ring_in_range(start: u16, count: u16) -> bool
-    ensures { λ r. ⌜ r ≡ ringInRange start count ⌝ }
+fn ring_in_range(x: PlaceNow) -> bool
+    ensures { λ r. ⌜ r ≡ ringInRange x ⌝ }
 {
     let depth = lanes::depth();
-    if depth <= start {
+    if depth <= x.start {
         return false;
     }
-    count <= depth
+    x.count <= depth
 }
 
 // The block of place p waits and has not the open slot.
@@ -113,114 +125,90 @@ pub fn in_order(p: usize, count: u16, slot: u8) -> bool
 }
 
 // Deficits under L bytes, and 0 for empty lanes and the open slot's block.
-fn deficit_in_range(largest: u32, queued: bool, deficit: Parts) -> bool
-    ensures { λ r. ⌜ r ≡ deficitInRange largest queued (deficit .0) ⌝ }
+fn deficit_in_range(largest: u32, queued: bool, x: PlaceNow) -> bool
+    ensures { λ r. ⌜ r ≡ deficitInRange largest queued x ⌝ }
 {
     let most = units::charge(Bytes(largest as u64));
-    if most.0 <= deficit.0 {
+    if most.0 <= x.deficit.0 {
         return false;
     }
     if queued {
         return true;
     }
-    deficit.0 == 0
+    x.deficit.0 == 0
 }
 
 // All not in use 0: a free place.
-fn free_is_zero(share: u32, number: u32, start: u16, count: u16, deficit: Parts) -> bool
-    ensures { λ r. ⌜ r ≡ freeIsZero share number start count (deficit .0) ⌝ }
+fn free_is_zero(x: PlaceNow) -> bool
+    ensures { λ r. ⌜ r ≡ freeIsZero x ⌝ }
 {
-    if 0 < share {
+    if 0 < x.share {
         return true;
     }
-    if number != NO_BLOCK {
+    if x.number != NO_BLOCK {
         return false;
     }
-    if start != 0 {
+    if x.start != 0 {
         return false;
     }
-    if count != 0 {
+    if x.count != 0 {
         return false;
     }
-    deficit.0 == 0
+    x.deficit.0 == 0
 }
 
 // All not in use 0: a ready time and a link outside an order.
-fn unused_is_zero(queued: bool, ready: u64, next: u8) -> bool
-    ensures { λ r. ⌜ r ≡ unusedIsZero queued ready next ⌝ }
+fn unused_is_zero(queued: bool, x: PlaceNow) -> bool
+    ensures { λ r. ⌜ r ≡ unusedIsZero queued x ⌝ }
 {
     if queued {
         return true;
     }
-    if ready != 0 {
+    if x.ready != 0 {
         return false;
     }
-    next == NO_LINK
+    x.next == NO_LINK
 }
 
 // The rules of one place.
-fn place_in_range(
-    largest: u32,
-    slot: u8,
-    p: usize,
-    number: u32,
-    share: u32,
-    start: u16,
-    count: u16,
-    deficit: Parts,
-    ready: u64,
-    next: u8,
-) -> bool
-    ensures { λ r. ⌜ r ≡ placeInRange largest slot p number share start count (deficit .0) ready next ⌝ }
+fn place_in_range(largest: u32, slot: u8, p: usize, x: PlaceNow) -> bool
+    ensures { λ r. ⌜ r ≡ placeInRange largest slot p x ⌝ }
 {
-    if !number_in_range(share, number) {
+    if !number_in_range(x) {
         return false;
     }
-    if !share_in_range(share) {
+    if !share_in_range(x) {
         return false;
     }
-    if !ring_in_range(start, count) {
+    if !ring_in_range(x) {
         return false;
     }
-    let queued = in_order(p, count, slot);
-    if !deficit_in_range(largest, queued, deficit) {
+    let queued = in_order(p, x.count, slot);
+    if !deficit_in_range(largest, queued, x) {
         return false;
     }
-    if !free_is_zero(share, number, start, count, deficit) {
+    if !free_is_zero(x) {
         return false;
     }
-    unused_is_zero(queued, ready, next)
+    unused_is_zero(queued, x)
 }
 
 // Every place.
-pub fn places_in_range<'a>(
-    largest: u32,
-    slot: u8,
-    numbers: &'a [u32; PLACES],
-    shares: &'a [u32; PLACES],
-    starts: &'a [u16; PLACES],
-    counts: &'a [u16; PLACES],
-    deficits: &'a [u64; PLACES],
-    ready: &'a [u64; PLACES],
-    next: &'a [u8; PLACES],
-) -> bool
-    ensures { λ r. ⌜ r ≡ placesInRange largest slot (now (numbers .entry)) (now (shares .entry)) (now (starts .entry)) (now (counts .entry)) (now (deficits .entry)) (now (ready .entry)) (now (next .entry)) ⌝ }
+pub fn places_in_range(b: Board) -> bool
+    ensures { λ r. ⌜ r ≡ placesInRange b ⌝ }
 {
     let mut p: usize = 0;
     while p < PLACES {
-        let owed = deficits[p];
-        if !place_in_range(
-            largest,
-            slot,
-            p,
-            numbers[p],
-            shares[p],
-            starts[p],
-            counts[p],
-            Parts(owed),
-            ready[p],
-            next[p],
-        ) {
+        let x = PlaceNow {
+            number: b.numbers[p],
+            share: b.shares[p],
+            start: b.starts[p],
+            count: b.counts[p],
+            deficit: Parts(b.deficits[p]),
+            ready: b.ready[p],
+            next: b.next[p],
+        };
+        if !place_in_range(b.largest, b.slot, p, x) {
             return false;
         }
         p += 1;

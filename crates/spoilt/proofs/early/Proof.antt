@@ -25,18 +25,7 @@ sound-requires c κs = search needs
 
 -- the arrays of a value have their lengths by type
 sized : (c : tie.Start) → Sized (c .args .b)
-sized c = record {
-  numbers = search needs;
-  shares = search needs;
-  deficits = search needs;
-  starts = search needs;
-  counts = search needs;
-  ready = search needs;
-  next = search needs;
-  heads = search needs;
-  tails = search needs;
-  held = search needs;
-}
+sized c = search needs
 
 returns-3 : tie.Need-returns-3
 returns-3 c =

@@ -13,11 +13,11 @@ use Rattle.spoilt.proofs.sound.Reads as reads
 use Rattle.spoilt.proofs.sound.Lts as lts
 use Rattle.spoilt_places.proofs.held_while_waiting.Reads as held-while-waiting-reads
 use Rattle.spoilt_places.proofs.numbers_apart.Reads as numbers-apart-reads
+use Rattle.spoilt_places.proofs.places_in_range.Reads as places-in-range-reads
 use Rattle.spoilt_places.proofs.shares_fit.Reads as shares-fit-reads
 use Rattle.spoilt_places.proofs.size_in_range.Reads as size-in-range-reads
 use Rattle.spoilt.proofs.lanes_in_range.Reads as lanes-in-range-reads
 use Rattle.spoilt.proofs.orders_sound.Reads as orders-sound-reads
-use Rattle.spoilt.proofs.places_sound.Reads as places-sound-reads
 use Rattle.spoilt.proofs.slot_in_range.Reads as slot-in-range-reads
 use Rattle.spoilt.proofs.tables_whole.Reads as tables-whole-reads
 
@@ -42,47 +42,47 @@ returns-3 : tie.Need-returns-3
 unfolding soundTest
 returns-3 c = rw (sym (c .before .before .before .before .before .before .before .tables-whole .ensures) ∙ not-false _ (c .before .before .before .before .before .before .if1 .left), sym (c .before .before .before .before .before .size-in-range .ensures) ∙ not-false _ (c .before .before .before .before .if2 .left), sym (c .before .numbers-apart .ensures) ∙ not-true _ (c .if3 .taken))
 
-places-sound-requires : tie.Need-places-sound-requires
-places-sound-requires c κs = search needs
+places-in-range-requires : tie.Need-places-in-range-requires
+places-in-range-requires c κs = search needs
 
 returns-4 : tie.Need-returns-4
 unfolding soundTest
-returns-4 c = rw (sym (c .before .before .before .before .before .before .before .before .before .tables-whole .ensures) ∙ not-false _ (c .before .before .before .before .before .before .before .before .if1 .left), sym (c .before .before .before .before .before .before .before .size-in-range .ensures) ∙ not-false _ (c .before .before .before .before .before .before .if2 .left), sym (c .before .before .before .numbers-apart .ensures) ∙ not-false _ (c .before .before .if3 .left), sym (c .before .places-sound .ensures) ∙ not-true _ (c .if4 .taken))
+returns-4 c = rw (sym (c .before .before .before .before .before .before .before .before .before .tables-whole .ensures) ∙ not-false _ (c .before .before .before .before .before .before .before .before .if1 .left), sym (c .before .before .before .before .before .before .before .size-in-range .ensures) ∙ not-false _ (c .before .before .before .before .before .before .if2 .left), sym (c .before .before .before .numbers-apart .ensures) ∙ not-false _ (c .before .before .if3 .left), sym (c .before .places-in-range .ensures) ∙ not-true _ (c .if4 .taken))
 
 lanes-in-range-requires : tie.Need-lanes-in-range-requires
 lanes-in-range-requires c κs = eqb-true (length (now (c .before .before .before .before .before .before .before .before .before .before .before .before .before .before .before .args .lens))) 2048 (and-right (eqb (length (now (c .before .before .before .before .before .before .before .before .before .before .before .before .before .before .before .args .ids))) 2048) (eqb (length (now (c .before .before .before .before .before .before .before .before .before .before .before .before .before .before .before .args .lens))) 2048) (sym (c .before .before .before .before .before .before .before .before .before .before .before .before .tables-whole .ensures) ∙ not-false _ (c .before .before .before .before .before .before .before .before .before .before .before .if1 .left)))
 
 returns-5 : tie.Need-returns-5
 unfolding soundTest
-returns-5 c = rw (sym (c .before .before .before .before .before .before .before .before .before .before .before .before .before .before .tables-whole .ensures) ∙ not-false _ (c .before .before .before .before .before .before .before .before .before .before .before .before .before .if1 .left), sym (c .before .before .before .before .before .before .before .before .before .before .before .before .size-in-range .ensures) ∙ not-false _ (c .before .before .before .before .before .before .before .before .before .before .before .if2 .left), sym (c .before .before .before .before .before .before .before .before .numbers-apart .ensures) ∙ not-false _ (c .before .before .before .before .before .before .before .if3 .left), sym (c .before .before .before .before .before .before .places-sound .ensures) ∙ not-false _ (c .before .before .before .before .before .if4 .left), sym (c .before .lanes-in-range .ensures) ∙ not-true _ (c .if5 .taken))
+returns-5 c = rw (sym (c .before .before .before .before .before .before .before .before .before .before .before .before .before .before .tables-whole .ensures) ∙ not-false _ (c .before .before .before .before .before .before .before .before .before .before .before .before .before .if1 .left), sym (c .before .before .before .before .before .before .before .before .before .before .before .before .size-in-range .ensures) ∙ not-false _ (c .before .before .before .before .before .before .before .before .before .before .before .if2 .left), sym (c .before .before .before .before .before .before .before .before .numbers-apart .ensures) ∙ not-false _ (c .before .before .before .before .before .before .before .if3 .left), sym (c .before .before .before .before .before .before .places-in-range .ensures) ∙ not-false _ (c .before .before .before .before .before .if4 .left), sym (c .before .lanes-in-range .ensures) ∙ not-true _ (c .if5 .taken))
 
 shares-fit-requires : tie.Need-shares-fit-requires
 shares-fit-requires c κs = search needs
 
 returns-6 : tie.Need-returns-6
 unfolding soundTest
-returns-6 c = rw (sym (c .before .before .before .before .before .before .before .before .before .before .before .before .before .before .before .before .before .before .before .tables-whole .ensures) ∙ not-false _ (c .before .before .before .before .before .before .before .before .before .before .before .before .before .before .before .before .before .before .if1 .left), sym (c .before .before .before .before .before .before .before .before .before .before .before .before .before .before .before .before .before .size-in-range .ensures) ∙ not-false _ (c .before .before .before .before .before .before .before .before .before .before .before .before .before .before .before .before .if2 .left), sym (c .before .before .before .before .before .before .before .before .before .before .before .before .before .numbers-apart .ensures) ∙ not-false _ (c .before .before .before .before .before .before .before .before .before .before .before .before .if3 .left), sym (c .before .before .before .before .before .before .before .before .before .before .before .places-sound .ensures) ∙ not-false _ (c .before .before .before .before .before .before .before .before .before .before .if4 .left), sym (c .before .before .before .before .before .before .lanes-in-range .ensures) ∙ not-false _ (c .before .before .before .before .before .if5 .left), sym (c .before .shares-fit .ensures) ∙ not-true _ (c .if6 .taken))
+returns-6 c = rw (sym (c .before .before .before .before .before .before .before .before .before .before .before .before .before .before .before .before .before .before .before .tables-whole .ensures) ∙ not-false _ (c .before .before .before .before .before .before .before .before .before .before .before .before .before .before .before .before .before .before .if1 .left), sym (c .before .before .before .before .before .before .before .before .before .before .before .before .before .before .before .before .before .size-in-range .ensures) ∙ not-false _ (c .before .before .before .before .before .before .before .before .before .before .before .before .before .before .before .before .if2 .left), sym (c .before .before .before .before .before .before .before .before .before .before .before .before .before .numbers-apart .ensures) ∙ not-false _ (c .before .before .before .before .before .before .before .before .before .before .before .before .if3 .left), sym (c .before .before .before .before .before .before .before .before .before .before .before .places-in-range .ensures) ∙ not-false _ (c .before .before .before .before .before .before .before .before .before .before .if4 .left), sym (c .before .before .before .before .before .before .lanes-in-range .ensures) ∙ not-false _ (c .before .before .before .before .before .if5 .left), sym (c .before .shares-fit .ensures) ∙ not-true _ (c .if6 .taken))
 
 held-while-waiting-requires : tie.Need-held-while-waiting-requires
 held-while-waiting-requires c κs = search needs
 
 returns-7 : tie.Need-returns-7
 unfolding soundTest
-returns-7 c = rw (sym (c .before .before .before .before .before .before .before .before .before .before .before .before .before .before .before .before .before .before .before .before .before .before .before .tables-whole .ensures) ∙ not-false _ (c .before .before .before .before .before .before .before .before .before .before .before .before .before .before .before .before .before .before .before .before .before .before .if1 .left), sym (c .before .before .before .before .before .before .before .before .before .before .before .before .before .before .before .before .before .before .before .before .before .size-in-range .ensures) ∙ not-false _ (c .before .before .before .before .before .before .before .before .before .before .before .before .before .before .before .before .before .before .before .before .if2 .left), sym (c .before .before .before .before .before .before .before .before .before .before .before .before .before .before .before .before .before .numbers-apart .ensures) ∙ not-false _ (c .before .before .before .before .before .before .before .before .before .before .before .before .before .before .before .before .if3 .left), sym (c .before .before .before .before .before .before .before .before .before .before .before .before .before .before .before .places-sound .ensures) ∙ not-false _ (c .before .before .before .before .before .before .before .before .before .before .before .before .before .before .if4 .left), sym (c .before .before .before .before .before .before .before .before .before .before .lanes-in-range .ensures) ∙ not-false _ (c .before .before .before .before .before .before .before .before .before .if5 .left), sym (c .before .before .before .before .before .shares-fit .ensures) ∙ not-false _ (c .before .before .before .before .if6 .left), sym (c .before .held-while-waiting .ensures) ∙ not-true _ (c .if7 .taken))
+returns-7 c = rw (sym (c .before .before .before .before .before .before .before .before .before .before .before .before .before .before .before .before .before .before .before .before .before .before .before .tables-whole .ensures) ∙ not-false _ (c .before .before .before .before .before .before .before .before .before .before .before .before .before .before .before .before .before .before .before .before .before .before .if1 .left), sym (c .before .before .before .before .before .before .before .before .before .before .before .before .before .before .before .before .before .before .before .before .before .size-in-range .ensures) ∙ not-false _ (c .before .before .before .before .before .before .before .before .before .before .before .before .before .before .before .before .before .before .before .before .if2 .left), sym (c .before .before .before .before .before .before .before .before .before .before .before .before .before .before .before .before .before .numbers-apart .ensures) ∙ not-false _ (c .before .before .before .before .before .before .before .before .before .before .before .before .before .before .before .before .if3 .left), sym (c .before .before .before .before .before .before .before .before .before .before .before .before .before .before .before .places-in-range .ensures) ∙ not-false _ (c .before .before .before .before .before .before .before .before .before .before .before .before .before .before .if4 .left), sym (c .before .before .before .before .before .before .before .before .before .before .lanes-in-range .ensures) ∙ not-false _ (c .before .before .before .before .before .before .before .before .before .if5 .left), sym (c .before .before .before .before .before .shares-fit .ensures) ∙ not-false _ (c .before .before .before .before .if6 .left), sym (c .before .held-while-waiting .ensures) ∙ not-true _ (c .if7 .taken))
 
 slot-in-range-requires : tie.Need-slot-in-range-requires
 slot-in-range-requires c κs = eqb-true (length (now (c .before .before .before .before .before .before .before .before .before .before .before .before .before .before .before .before .before .before .before .before .before .before .before .before .before .before .before .before .before .before .args .lens))) 2048 (and-right (eqb (length (now (c .before .before .before .before .before .before .before .before .before .before .before .before .before .before .before .before .before .before .before .before .before .before .before .before .before .before .before .before .before .before .args .ids))) 2048) (eqb (length (now (c .before .before .before .before .before .before .before .before .before .before .before .before .before .before .before .before .before .before .before .before .before .before .before .before .before .before .before .before .before .before .args .lens))) 2048) (sym (c .before .before .before .before .before .before .before .before .before .before .before .before .before .before .before .before .before .before .before .before .before .before .before .before .before .before .before .tables-whole .ensures) ∙ not-false _ (c .before .before .before .before .before .before .before .before .before .before .before .before .before .before .before .before .before .before .before .before .before .before .before .before .before .before .if1 .left)))
 
 returns-8 : tie.Need-returns-8
 unfolding soundTest
-returns-8 c = rw (sym (c .before .before .before .before .before .before .before .before .before .before .before .before .before .before .before .before .before .before .before .before .before .before .before .before .before .before .before .before .before .tables-whole .ensures) ∙ not-false _ (c .before .before .before .before .before .before .before .before .before .before .before .before .before .before .before .before .before .before .before .before .before .before .before .before .before .before .before .before .if1 .left), sym (c .before .before .before .before .before .before .before .before .before .before .before .before .before .before .before .before .before .before .before .before .before .before .before .before .before .before .before .size-in-range .ensures) ∙ not-false _ (c .before .before .before .before .before .before .before .before .before .before .before .before .before .before .before .before .before .before .before .before .before .before .before .before .before .before .if2 .left), sym (c .before .before .before .before .before .before .before .before .before .before .before .before .before .before .before .before .before .before .before .before .before .before .before .numbers-apart .ensures) ∙ not-false _ (c .before .before .before .before .before .before .before .before .before .before .before .before .before .before .before .before .before .before .before .before .before .before .if3 .left), sym (c .before .before .before .before .before .before .before .before .before .before .before .before .before .before .before .before .before .before .before .before .before .places-sound .ensures) ∙ not-false _ (c .before .before .before .before .before .before .before .before .before .before .before .before .before .before .before .before .before .before .before .before .if4 .left), sym (c .before .before .before .before .before .before .before .before .before .before .before .before .before .before .before .before .lanes-in-range .ensures) ∙ not-false _ (c .before .before .before .before .before .before .before .before .before .before .before .before .before .before .before .if5 .left), sym (c .before .before .before .before .before .before .before .before .before .before .before .shares-fit .ensures) ∙ not-false _ (c .before .before .before .before .before .before .before .before .before .before .if6 .left), sym (c .before .before .before .before .before .before .before .held-while-waiting .ensures) ∙ not-false _ (c .before .before .before .before .before .before .if7 .left), sym (c .before .slot-in-range .ensures) ∙ not-true _ (c .if8 .taken))
+returns-8 c = rw (sym (c .before .before .before .before .before .before .before .before .before .before .before .before .before .before .before .before .before .before .before .before .before .before .before .before .before .before .before .before .before .tables-whole .ensures) ∙ not-false _ (c .before .before .before .before .before .before .before .before .before .before .before .before .before .before .before .before .before .before .before .before .before .before .before .before .before .before .before .before .if1 .left), sym (c .before .before .before .before .before .before .before .before .before .before .before .before .before .before .before .before .before .before .before .before .before .before .before .before .before .before .before .size-in-range .ensures) ∙ not-false _ (c .before .before .before .before .before .before .before .before .before .before .before .before .before .before .before .before .before .before .before .before .before .before .before .before .before .before .if2 .left), sym (c .before .before .before .before .before .before .before .before .before .before .before .before .before .before .before .before .before .before .before .before .before .before .before .numbers-apart .ensures) ∙ not-false _ (c .before .before .before .before .before .before .before .before .before .before .before .before .before .before .before .before .before .before .before .before .before .before .if3 .left), sym (c .before .before .before .before .before .before .before .before .before .before .before .before .before .before .before .before .before .before .before .before .before .places-in-range .ensures) ∙ not-false _ (c .before .before .before .before .before .before .before .before .before .before .before .before .before .before .before .before .before .before .before .before .if4 .left), sym (c .before .before .before .before .before .before .before .before .before .before .before .before .before .before .before .before .lanes-in-range .ensures) ∙ not-false _ (c .before .before .before .before .before .before .before .before .before .before .before .before .before .before .before .if5 .left), sym (c .before .before .before .before .before .before .before .before .before .before .before .shares-fit .ensures) ∙ not-false _ (c .before .before .before .before .before .before .before .before .before .before .if6 .left), sym (c .before .before .before .before .before .before .before .held-while-waiting .ensures) ∙ not-false _ (c .before .before .before .before .before .before .if7 .left), sym (c .before .slot-in-range .ensures) ∙ not-true _ (c .if8 .taken))
 
 orders-sound-requires : tie.Need-orders-sound-requires
 orders-sound-requires c κs = search needs
 
 returns-9 : tie.Need-returns-9
 unfolding soundTest
-returns-9 c = rw (sym (c .before .before .before .before .before .before .before .before .before .before .before .before .before .before .before .before .before .before .before .before .before .before .before .before .before .before .before .before .before .before .tables-whole .ensures) ∙ not-false _ (c .before .before .before .before .before .before .before .before .before .before .before .before .before .before .before .before .before .before .before .before .before .before .before .before .before .before .before .before .before .if1 .left), sym (c .before .before .before .before .before .before .before .before .before .before .before .before .before .before .before .before .before .before .before .before .before .before .before .before .before .before .before .before .size-in-range .ensures) ∙ not-false _ (c .before .before .before .before .before .before .before .before .before .before .before .before .before .before .before .before .before .before .before .before .before .before .before .before .before .before .before .if2 .left), sym (c .before .before .before .before .before .before .before .before .before .before .before .before .before .before .before .before .before .before .before .before .before .before .before .before .numbers-apart .ensures) ∙ not-false _ (c .before .before .before .before .before .before .before .before .before .before .before .before .before .before .before .before .before .before .before .before .before .before .before .if3 .left), sym (c .before .before .before .before .before .before .before .before .before .before .before .before .before .before .before .before .before .before .before .before .before .before .places-sound .ensures) ∙ not-false _ (c .before .before .before .before .before .before .before .before .before .before .before .before .before .before .before .before .before .before .before .before .before .if4 .left), sym (c .before .before .before .before .before .before .before .before .before .before .before .before .before .before .before .before .before .lanes-in-range .ensures) ∙ not-false _ (c .before .before .before .before .before .before .before .before .before .before .before .before .before .before .before .before .if5 .left), sym (c .before .before .before .before .before .before .before .before .before .before .before .before .shares-fit .ensures) ∙ not-false _ (c .before .before .before .before .before .before .before .before .before .before .before .if6 .left), sym (c .before .before .before .before .before .before .before .before .held-while-waiting .ensures) ∙ not-false _ (c .before .before .before .before .before .before .before .if7 .left), sym (c .before .before .slot-in-range .ensures) ∙ not-false _ (c .before .if8 .left)) (c .orders-sound .ensures)
+returns-9 c = rw (sym (c .before .before .before .before .before .before .before .before .before .before .before .before .before .before .before .before .before .before .before .before .before .before .before .before .before .before .before .before .before .before .tables-whole .ensures) ∙ not-false _ (c .before .before .before .before .before .before .before .before .before .before .before .before .before .before .before .before .before .before .before .before .before .before .before .before .before .before .before .before .before .if1 .left), sym (c .before .before .before .before .before .before .before .before .before .before .before .before .before .before .before .before .before .before .before .before .before .before .before .before .before .before .before .before .size-in-range .ensures) ∙ not-false _ (c .before .before .before .before .before .before .before .before .before .before .before .before .before .before .before .before .before .before .before .before .before .before .before .before .before .before .before .if2 .left), sym (c .before .before .before .before .before .before .before .before .before .before .before .before .before .before .before .before .before .before .before .before .before .before .before .before .numbers-apart .ensures) ∙ not-false _ (c .before .before .before .before .before .before .before .before .before .before .before .before .before .before .before .before .before .before .before .before .before .before .before .if3 .left), sym (c .before .before .before .before .before .before .before .before .before .before .before .before .before .before .before .before .before .before .before .before .before .before .places-in-range .ensures) ∙ not-false _ (c .before .before .before .before .before .before .before .before .before .before .before .before .before .before .before .before .before .before .before .before .before .if4 .left), sym (c .before .before .before .before .before .before .before .before .before .before .before .before .before .before .before .before .before .lanes-in-range .ensures) ∙ not-false _ (c .before .before .before .before .before .before .before .before .before .before .before .before .before .before .before .before .if5 .left), sym (c .before .before .before .before .before .before .before .before .before .before .before .before .shares-fit .ensures) ∙ not-false _ (c .before .before .before .before .before .before .before .before .before .before .before .if6 .left), sym (c .before .before .before .before .before .before .before .before .held-while-waiting .ensures) ∙ not-false _ (c .before .before .before .before .before .before .before .if7 .left), sym (c .before .before .slot-in-range .ensures) ∙ not-false _ (c .before .if8 .left)) (c .orders-sound .ensures)
 
 pub sound-spec : {M : Type 1} → statement M
 sound-spec =
@@ -94,7 +94,7 @@ sound-spec =
     returns-2
     numbers-apart-requires
     returns-3
-    places-sound-requires
+    places-in-range-requires
     returns-4
     lanes-in-range-requires
     returns-5

@@ -7,7 +7,7 @@ use Rattle.spoilt_places.proofs.number_in_range.Lts as lts
 
 returns : tie.Need-returns
 unfolding numberInRange
-returns c = rw (lt-ltb _ _ (c .if1 .taken))
+returns c = rw (lt-ltb _ _ (c .before .if1 .taken))
 
 returns-2 : tie.Need-returns-2
 unfolding numberInRange
