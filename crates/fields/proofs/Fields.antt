@@ -1,14 +1,17 @@
 -- A field played by the engine's steps is a field played by the rules.
 use mathlib.Core.Path.{_≡_, refl, sym, ap, subst, _∙_}
-use mathlib.Core.Bool.{false, true≢false}
+use mathlib.Core.Bool.{Bool, true, false, cond, true≢false}
 use mathlib.Core.Logic.{_⊎_, inl, inr, _≢_}
 use mathlib.Core.List.{List}
 use Prim.Native.Nat.{ℕ, _+_, _≤_, _<_}
 use native.Mathlib.Nat.{add-zero}
 use native.Mathlib.Omega.{arith}
+use lib.Dec.{eqb, ltb}
 use lib.ListN.{getD}
-use borrow.Author.Tests.{eq-eqb, ne-eqb}
+use borrow.Author.Tests.{eq-eqb, ne-eqb, ltb-false}
 use Rattle.units.specs.Credit.{charged}
+use Rattle.lanes.specs.Lanes.{laneEntry}
+use Rattle.lanes.proofs.Lanes.{lane-inside}
 use Rattle.rules.specs.Board
 use Rattle.rules.specs.Board.{Record, at, charge}
 use Rattle.rules.specs.Choice.{refused, sent, Turn, send, serve}
@@ -26,10 +29,13 @@ use Rattle.log.specs.declared.Event.{Event}
 use Rattle.log.specs.declared.Event.the-variants.{Open, Close, Rename, Arrive, Serve, Passed}
 use Rattle.lines.specs.Text.{Line}
 use Rattle.lines.specs.Listing.{openLine, closeLine, nameLine, inLine}
-use Rattle.board.specs.Memory.{takingOf, withTaking, blocksOf, engineOf, withEngine}
+use Rattle.board.specs.Memory.{takingOf, withTaking, blocksOf, Engine, engineOf, withEngine}
 use Rattle.taking.specs.Taking.{Recording, recordedIn}
 use Rattle.blocks.specs.Blocks.{Renaming, renamedIn, withRenaming, AfterOpening, openedIn, withOpening, Closing, closedIn, withClosing}
-use Rattle.serving.specs.Serving.{Within, engineAfter}
+use Rattle.slots.specs.declared.Choice.{Choice}
+use Rattle.slots.specs.declared.Choice.the-variants.{Stop, Go}
+use Rattle.slots.specs.Slots.{choiceOf}
+use Rattle.serving.specs.Serving.{Within, engineAfter, withinOf, untold, toldOf, enacted, servedBy, servedWithin, CanServe}
 use Rattle.board.proofs.Fields.{number-is}
 use Rattle.serving.proofs.Within.{fit-serve, Stops, Goes}
 use Rattle.board.specs.declared.Reply.{Reply}
@@ -37,9 +43,9 @@ use Rattle.board.specs.Leaving.{Returned, returned, replied, Known, ruled}
 use Rattle.taking.proofs.Answers.{record-known}
 use Rattle.blocks.proofs.Answers.{rename-known, open-known, close-known}
 use Rattle.board.proofs.Next.{Follows, call-follows}
-use Rattle.serving.proofs.Known.{within, spells, by-cases, after-is, known-next, refused-stays}
+use Rattle.serving.proofs.Known.{within, spells, can-known, by-cases, after-is, known-next, refused-stays}
 use Rattle.plays.specs.Listing.{after, played, fieldLine, servedLine}
-use Rattle.fields.specs.Fields.{Memory, memory, reads, KnownMemory, FieldPlayed, shownLine}
+use Rattle.fields.specs.Fields.{Memory, memory, reads, KnownMemory, FieldPlayed, shownLine, ServeShown}
 
 -- only a serve sends bytes
 abbrev Sends : Board.Board → Single → Turn → Type 0
@@ -64,6 +70,46 @@ step-serve m = refl
 charge-is : (r : Record) → charge r ≡ charged (r .bytes)
 unfolding charge
 charge-is r = refl
+
+-- ---- What serving tells of a record, whatever the board: where it stands is within the arrays, and it is charged no more than was allowed
+
+module _ (shares lens : List ℕ) (largest bytes room : ℕ) (e : Engine) (can : CanServe shares lens largest e) where
+  pub record Inside (w : Within) : Type 0 where
+    pub place : w .step .place < 64
+    pub entry : w .step .entry < 2048
+    pub few : w .step .bytes .0 ≤ bytes
+
+  none : (code : ℕ) → Inside (withinOf code untold e)
+  none code = record { place = omega arith; entry = omega arith; few = omega arith }
+
+  pub inside : (w : Within) → w ≡ servedWithin shares lens largest bytes room e → Inside w
+  unfolding servedWithin
+  inside w w-is = subst Inside (sym w-is) (by-choice (choiceOf e) refl)
+    where
+      by-choice : (c : Choice) → choiceOf e ≡ c → Inside (servedBy shares lens largest bytes room e c)
+      by-choice (Stop code) q = none code
+      by-choice (Go p time) q = by-tests (eqb room 0) (ltb bytes (charged (getD lens entry 0))) refl
+        where
+          entry : ℕ
+          entry = laneEntry p (getD (e .starts) p 0) 0
+
+          p-inside : p < 64
+          p-inside = can .enacts p time q .sends .inside
+
+          by-tests : (full long : Bool) → ltb bytes (charged (getD lens (laneEntry p (getD (e .starts) p 0) 0) 0)) ≡ long
+              → Inside (cond full (withinOf 14 untold e) (cond long (withinOf 13 untold e) (withinOf 0 (toldOf shares lens largest p time e) (enacted shares lens largest p time e))))
+          by-tests true long t = none 14
+          by-tests false true t = none 13
+          by-tests false false t = record { place = p-inside; entry = lane-inside p (getD (e .starts) p 0) 0 p-inside; few = ltb-false bytes _ t }
+
+-- what the step gives and the line that is put are what is shown
+pub serve-shows : (numbers ids lens : List ℕ) (sum : ℕ) (w given : Within) → w ≡ given → (before : List ℕ) (count : ℕ) (line : List ℕ) →
+    let s = w .step in
+    Line before (shownLine numbers ids lens (s .code) (s .place) (s .entry) (s .«slot_clock»)) count line × (count ≤ 64)
+    → ServeShown numbers ids lens sum given (engineAfter w) (sum + w .step .bytes .0) before count line
+serve-shows numbers ids lens sum w given e before count line (l, few) =
+    subst (λ (v : Within). ServeShown numbers ids lens sum v (engineAfter w) (sum + w .step .bytes .0) before count line) e
+    (record { engine = refl; sum = refl; line = l; short = few })
 
 module _ (s : Memory) (k : KnownMemory s) (before : List ℕ) (count : ℕ) (line : List ℕ) (few : count ≤ 64) where
   abbrev m : Board.Board
@@ -112,78 +158,78 @@ module _ (s : Memory) (k : KnownMemory s) (before : List ℕ) (count : ℕ) (lin
 
   -- ---- A serve
 
-  module _ (w : Within) (w-is : w ≡ within (s .board) (s .lens) 65536 1) where
-    abbrev shown : List ℕ
-    shown = shownLine (w .step .code) (getD (s .board .numbers) (w .step .place) 0) (getD (s .ids) (w .step .entry) 0) (getD (s .lens) (w .step .entry) 0) (w .step .«slot_clock»)
+  -- what serving gives, with bytes for any record and room for one
+  abbrev w : Within
+  w = within (s .board) (s .lens) 65536 1
 
-    abbrev next-board : struct.Board
-    next-board = withEngine (s .board) (engineAfter w)
+  abbrev shown : List ℕ
+  shown = shownLine (s .board .numbers) (s .ids) (s .lens) (w .step .code) (w .step .place) (w .step .entry) (w .step .«slot_clock»)
 
-    -- what is to be shown of it
-    record ServeIs : Type 0 where
-      good : Known next-board (s .ids) (s .lens)
-      next : view next-board (s .ids) (s .lens) ≡ serve m .next
-      bytes : w .step .bytes .0 ≡ bytesOf (told m (serve m .out))
-      shows : shown ≡ servedLine (told m (serve m .out))
-      small : w .step .bytes .0 ≤ 65536
+  abbrev next-board : struct.Board
+  next-board = withEngine (s .board) (engineAfter w)
 
-    refusal : Stops m 65536 1 w → serve m .out ≡ refused (w .step .code) → ServeIs
-    refusal x out! = record {
-      good = subst (λ (c : struct.Board). Known c (s .ids) (s .lens)) (sym same) k;
-      next = ap (λ (c : struct.Board). view c (s .ids) (s .lens)) same ∙ sym (refused-stays (s .board) (s .ids) (s .lens) k (w .step .code) out!);
-      bytes = none ∙ rw out! refl;
-      shows = rw (ne-eqb (w .step .code) 0 (x .code), out!) refl;
-      small = omega (arith, none);
-    }
-      where
-        none : w .step .bytes .0 ≡ 0
-        none = ap (λ (y : Within). y .step .bytes .0) (x .same)
+  -- what is to be shown of it
+  record ServeIs : Type 0 where
+    good : Known next-board (s .ids) (s .lens)
+    next : view next-board (s .ids) (s .lens) ≡ serve m .next
+    bytes : w .step .bytes .0 ≡ bytesOf (told m (serve m .out))
+    shows : shown ≡ servedLine (told m (serve m .out))
 
-        same : withEngine (s .board) (engineAfter w) ≡ s .board
-        same = ap (λ (y : Within). withEngine (s .board) (engineAfter y)) (x .same) ∙ ap (λ (c : struct.Board). withEngine c (engineOf (encode m))) (sym (spells (s .board) (s .ids) (s .lens) k)) ∙ spells (s .board) (s .ids) (s .lens) k
+  refusal : Stops m 65536 1 w → serve m .out ≡ refused (w .step .code) → ServeIs
+  refusal x out! = record {
+    good = subst (λ (c : struct.Board). Known c (s .ids) (s .lens)) (sym same) k;
+    next = ap (λ (c : struct.Board). view c (s .ids) (s .lens)) same ∙ sym (refused-stays (s .board) (s .ids) (s .lens) k (w .step .code) out!);
+    bytes = none ∙ rw out! refl;
+    shows = rw (ne-eqb (w .step .code) 0 (x .code), out!) refl;
+  }
+    where
+      none : w .step .bytes .0 ≡ 0
+      none = ap (λ (y : Within). y .step .bytes .0) (x .same)
 
-    sending : Goes m (s .ids) (s .lens) 65536 1 w → ServeIs
-    sending g = record {
-      good = subst (λ (c : struct.Board). Known c (s .ids) (s .lens)) (sym next-is) (known-next (s .board) (s .ids) (s .lens) k (g .holds));
-      next = ap (λ (c : struct.Board). view c (s .ids) (s .lens)) next-is ∙ view-encode (serve m .next) (s .ids) (s .lens) (fit-serve m (fit-view (s .board) (s .ids) (s .lens) (k .sound))) (g .holds);
-      bytes = g .charge-is ∙ rw (g .out) (charge-is (g .sends .front));
-      shows = rw (eq-eqb (w .step .code) 0 (g .code), g .out, g .number-is, g .bytes-is, g .clock-is, block) refl;
-      small = rw (g .charge-is) (g .fits);
-    }
-      where
-        next-is : withEngine (s .board) (engineAfter w) ≡ encode (serve m .next)
-        next-is = after-is (s .board) (s .ids) (s .lens) k w (g .next)
+      same : withEngine (s .board) (engineAfter w) ≡ s .board
+      same = ap (λ (y : Within). withEngine (s .board) (engineAfter y)) (x .same) ∙ ap (λ (c : struct.Board). withEngine c (engineOf (encode m))) (sym (spells (s .board) (s .ids) (s .lens) k)) ∙ spells (s .board) (s .ids) (s .lens) k
 
-        block : getD (s .board .numbers) (w .step .place) 0 ≡ at m (g .sends .place) .number
-        block =
-            ap (λ (c : struct.Board). getD (c .numbers) (w .step .place) 0) (sym (spells (s .board) (s .ids) (s .lens) k))
-            ∙ number-is m (w .step .place)
-            ∙ ap (λ (p : ℕ). at m p .number) (g .place-is)
+  sending : Goes m (s .ids) (s .lens) 65536 1 w → ServeIs
+  sending g = record {
+    good = subst (λ (c : struct.Board). Known c (s .ids) (s .lens)) (sym next-is) (known-next (s .board) (s .ids) (s .lens) k (g .holds));
+    next = ap (λ (c : struct.Board). view c (s .ids) (s .lens)) next-is ∙ view-encode (serve m .next) (s .ids) (s .lens) (fit-serve m (fit-view (s .board) (s .ids) (s .lens) (k .sound))) (g .holds);
+    bytes = g .charge-is ∙ rw (g .out) (charge-is (g .sends .front));
+    shows = rw (eq-eqb (w .step .code) 0 (g .code), g .out, g .number-is, g .bytes-is, g .clock-is, block) refl;
+  }
+    where
+      next-is : withEngine (s .board) (engineAfter w) ≡ encode (serve m .next)
+      next-is = after-is (s .board) (s .ids) (s .lens) k w (g .next)
 
-    serve-is : ServeIs
-    serve-is = go (by-cases (s .board) (s .ids) (s .lens) k 65536 1 w w-is)
-      where
-        why : Stops m 65536 1 w → (serve m .out ≡ refused (w .step .code)) ⊎ ((_≡_ {A = ℕ} 1 0) ⊎ ((r : Record) × (65536 < charge r) × (charge r < 65536))) → ServeIs
-        why x (inl e) = refusal x e
-        why x (inr (inl z)) = absurd (omega arith)
-        why x (inr (inr y)) = absurd (omega (arith, y .1, y .2))
+      block : getD (s .board .numbers) (w .step .place) 0 ≡ at m (g .sends .place) .number
+      block =
+          ap (λ (c : struct.Board). getD (c .numbers) (w .step .place) 0) (sym (spells (s .board) (s .ids) (s .lens) k))
+          ∙ number-is m (w .step .place)
+          ∙ ap (λ (p : ℕ). at m p .number) (g .place-is)
 
-        go : Stops m 65536 1 w ⊎ Goes m (s .ids) (s .lens) 65536 1 w → ServeIs
-        go (inl x) = why x (x .why)
-        go (inr g) = sending g
+  serve-is : ServeIs
+  serve-is = go (by-cases (s .board) (s .ids) (s .lens) k 65536 1 w refl)
+    where
+      why : Stops m 65536 1 w → (serve m .out ≡ refused (w .step .code)) ⊎ ((_≡_ {A = ℕ} 1 0) ⊎ ((r : Record) × (65536 < charge r) × (charge r < 65536))) → ServeIs
+      why x (inl e) = refusal x e
+      why x (inr (inl z)) = absurd (omega arith)
+      why x (inr (inr y)) = absurd (omega (arith, y .1, y .2))
 
-    -- no record is charged more than any
-    pub serve-small : w .step .bytes .0 ≤ 65536
-    serve-small = serve-is .small
+      go : Stops m 65536 1 w ⊎ Goes m (s .ids) (s .lens) 65536 1 w → ServeIs
+      go (inl x) = why x (x .why)
+      go (inr g) = sending g
 
-    pub serve-plays : Line before shown count line → FieldPlayed s Serve (memory next-board (s .ids) (s .lens) (s .sent + w .step .bytes .0)) before count line
-    serve-plays l = record {
-      good = serve-is .good;
-      next = (λ j. record { board = serve-is .next j; sent = s .sent + serve-is .bytes j }) ∙ ap (λ (t : Turn). record { board = t .next; sent = s .sent + bytesOf (told m (t .out)) }) (sym (step-serve m));
-      line = subst (λ (t : List ℕ). Line before t count line) (serve-is .shows ∙ ap (λ (t : Turn). servedLine (told m (t .out))) (sym (step-serve m))) l;
-      short = few;
-      more = omega (arith, serve-is .small);
-    }
+  pub serve-plays : (n : Engine) (total : ℕ) → ServeShown (s .board .numbers) (s .ids) (s .lens) (s .sent) w n total before count line
+      → FieldPlayed s Serve (memory (withEngine (s .board) n) (s .ids) (s .lens) total) before count line
+  serve-plays n total x = subst (λ (y : Memory). FieldPlayed s Serve y before count line) (sym left) (record {
+    good = serve-is .good;
+    next = (λ j. record { board = serve-is .next j; sent = s .sent + serve-is .bytes j }) ∙ ap (λ (t : Turn). record { board = t .next; sent = s .sent + bytesOf (told m (t .out)) }) (sym (step-serve m));
+    line = subst (λ (t : List ℕ). Line before t count line) (serve-is .shows ∙ ap (λ (t : Turn). servedLine (told m (t .out))) (sym (step-serve m))) (x .line);
+    short = few;
+    more = omega (arith, inside (s .board .shares) (s .lens) (s .board .largest) 65536 1 (engineOf (s .board)) (can-known (s .board) (s .ids) (s .lens) k) w refl .few);
+  })
+    where
+      left : memory (withEngine (s .board) n) (s .ids) (s .lens) total ≡ memory next-board (s .ids) (s .lens) (s .sent + w .step .bytes .0)
+      left = λ j. memory (withEngine (s .board) (x .engine j)) (s .ids) (s .lens) (x .sum j)
 
   -- ---- What is passed over
 

@@ -4,8 +4,11 @@ use mathlib.Core.Bool.{cond}
 use mathlib.Core.List.{List}
 use Prim.Native.Nat.{ℕ, _+_, _≤_}
 use lib.Dec.{eqb}
+use lib.ListN.{getD}
 use Rattle.board.specs.declared.Board as struct
 use Rattle.board.specs.Reading.{view}
+use Rattle.board.specs.Memory.{Engine}
+use Rattle.serving.specs.Serving.{Within, engineAfter}
 use Rattle.log.specs.declared.Event.{Event}
 use Rattle.lines.specs.Text.{Line}
 use Rattle.lines.specs.Listing.{outLine, refusedLine}
@@ -40,6 +43,20 @@ pub record FieldPlayed
   -- no record is charged more, so the sum of the bytes sent never wraps
   pub more : n .sent ≤ s .sent + 65536
 
--- the line of a serve, by its code
-abbrev pub shownLine : ℕ → ℕ → ℕ → ℕ → ℕ → List ℕ
-shownLine code block number bytes clock = cond (eqb code 0) (outLine block number bytes clock) (refusedLine code)
+-- ---- A serve, of which no more is said than of the arrays that it is lent
+
+-- its line, by its code: what was sent stands at a place and an entry
+abbrev pub shownLine : (numbers ids lens : List ℕ) (code place entry clock : ℕ) → List ℕ
+shownLine numbers ids lens code place entry clock =
+    cond (eqb code 0) (outLine (getD numbers place 0) (getD ids entry 0) (getD lens entry 0) clock) (refusedLine code)
+
+-- From what serving gives: the engine that it leaves, the bytes sent, and the line in front of a buffer.
+pub record ServeShown
+    (numbers ids lens : List ℕ) (sent : ℕ) (w : Within)
+    (n : Engine) (total : ℕ) (before : List ℕ) (count : ℕ) (after : List ℕ) : Type 0 where
+  pub engine : n ≡ engineAfter w
+  pub sum : total ≡ sent + w .step .bytes .0
+  pub line :
+      let s = w .step in
+      Line before (shownLine numbers ids lens (s .code) (s .place) (s .entry) (s .«slot_clock»)) count after
+  pub short : count ≤ 64

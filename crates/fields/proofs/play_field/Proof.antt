@@ -6,7 +6,8 @@ use Rattle.log.specs.declared.Event.{Event}
 use Rattle.taking.proofs.Answers.{record-needs}
 use Rattle.blocks.proofs.Answers.{close-needs}
 use Rattle.log.specs.Format.{isL}
-use Rattle.fields.proofs.Fields.{open-plays, close-plays, rename-plays, record-plays, passed-plays}
+use Rattle.serving.proofs.Known.{can-known}
+use Rattle.fields.proofs.Fields.{serve-plays, open-plays, close-plays, rename-plays, record-plays, passed-plays}
 use borrow.Author.Needs.{needs}
 use Rattle.fields.proofs.play_field.Statement.{statement}
 use Rattle.fields.proofs.play_field.Tie as tie
@@ -51,7 +52,10 @@ enum-told : tie.Need-enum-told
 enum-told c = search needs
 
 play-serve-requires : tie.Need-play-serve-requires
-play-serve-requires c κs = search needs
+play-serve-requires c κs =
+    let start = c .before .before .before .before .before .before .before .before .before .before .before .before .before .before .before .before .before in
+    let known = start .pre .0 in
+    (can-known _ _ _ known, (known .ids-all, (known .lens-all, start .pre .1 .0)))
 
 same-length : tie.Need-same-length
 same-length c = search needs
@@ -60,7 +64,7 @@ same-length-2 : tie.Need-same-length-2
 same-length-2 c = search needs
 
 returns : tie.Need-returns
-returns c = rw (c .before .before .before .before .before .before .before .before .before .before .before .before .before .before .enum-told .given .1) (c .play-serve .ensures)
+returns c = rw (c .before .before .before .before .before .before .before .before .before .before .before .before .before .before .enum-told .given .1) (serve-plays _ (c .before .before .before .before .before .before .before .before .before .before .before .before .before .before .before .before .before .before .pre .0) _ _ _ (c .play-serve .ensures .short) _ _ (c .play-serve .ensures))
 
 enum-told-2 : tie.Need-enum-told-2
 enum-told-2 c = search needs
