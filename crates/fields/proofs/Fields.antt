@@ -3,7 +3,7 @@ use mathlib.Core.Path.{_≡_, refl, sym, ap, subst, _∙_}
 use mathlib.Core.Bool.{Bool, true, false, cond, true≢false}
 use mathlib.Core.Logic.{_⊎_, inl, inr, _≢_}
 use mathlib.Core.List.{List}
-use Prim.Native.Nat.{ℕ, _+_, _≤_, _<_}
+use Prim.Native.Nat.{ℕ, _+_, _^_, _≤_, _<_}
 use native.Mathlib.Nat.{add-zero}
 use native.Mathlib.Omega.{arith}
 use lib.Dec.{eqb, ltb}
@@ -45,7 +45,7 @@ use Rattle.blocks.proofs.Answers.{rename-known, open-known, close-known}
 use Rattle.board.proofs.Next.{Follows, call-follows}
 use Rattle.serving.proofs.Known.{within, spells, can-known, by-cases, after-is, known-next, refused-stays}
 use Rattle.plays.specs.Listing.{after, played, fieldLine, servedLine}
-use Rattle.fields.specs.Fields.{Memory, memory, reads, KnownMemory, FieldPlayed, shownLine, ServeShown}
+use Rattle.fields.specs.Fields.{Memory, memory, reads, KnownMemory, FieldPlayed, shownLine, ServeNeeds, ServeShown}
 
 -- only a serve sends bytes
 abbrev Sends : Board.Board → Single → Turn → Type 0
@@ -102,6 +102,11 @@ module _ (shares lens : List ℕ) (largest bytes room : ℕ) (e : Engine) (can :
           by-tests false true t = none 13
           by-tests false false t = record { place = p-inside; entry = lane-inside p (getD (e .starts) p 0) 0 p-inside; few = ltb-false bytes _ t }
 
+-- what a serve asks holds of a known board
+pub serve-needs : (s : Memory) → KnownMemory s → s .sent < 2 ^ 63
+    → ServeNeeds (s .board .shares) (s .ids) (s .lens) (s .board .largest) (s .sent) (engineOf (s .board))
+serve-needs s k few = record { serves = can-known (s .board) (s .ids) (s .lens) k; ids-all = k .ids-all; lens-all = k .lens-all; few = few }
+
 -- what the step gives and the line that is put are what is shown
 pub serve-shows : (numbers ids lens : List ℕ) (sum : ℕ) (w given : Within) → w ≡ given → (before : List ℕ) (count : ℕ) (line : List ℕ) →
     let s = w .step in
@@ -111,22 +116,31 @@ serve-shows numbers ids lens sum w given e before count line (l, few) =
     subst (λ (v : Within). ServeShown numbers ids lens sum v (engineAfter w) (sum + w .step .bytes .0) before count line) e
     (record { engine = refl; sum = refl; line = l; short = few })
 
-module _ (s : Memory) (k : KnownMemory s) (before : List ℕ) (count : ℕ) (line : List ℕ) (few : count ≤ 64) where
+-- ---- A field e, played on s with a line of count bytes
+
+module _ (s : Memory) (k : KnownMemory s) (e : Event) (before : List ℕ) (count : ℕ) (line : List ℕ) where
   abbrev m : Board.Board
   m = view (s .board) (s .ids) (s .lens)
 
-  -- ---- A call that is no serve: e is its event, and shows the line that the event gives with a code
+  -- the line that was put in front of the buffer
+  abbrev Puts : List ℕ → Type 0
+  Puts text = Line before text count line × (count ≤ 64)
+
+  abbrev Plays : Memory → Type 0
+  Plays n = FieldPlayed s e n before count line
+
+  -- ---- A call that is no serve: v is its event, and shows the line that the event gives with a code
 
   by-call : (x : Single) → isServe x ≡ false → (code : ℕ) (b : struct.Board) (ids lens : List ℕ) → returned (replied code b) ids lens ≡ ruled (s .board) (s .ids) (s .lens) x
-      → (e : Event) → played (reads s) e ≡ after (reads s) x → (shows : ℕ → List ℕ) → fieldLine (reads s) e ≡ shows (codeOf (answer m x)) → Line before (shows code) count line
-      → FieldPlayed s e (memory b ids lens (s .sent)) before count line
-  by-call x quiet code b ids lens r e p shows q l = record {
+      → (v : Event) → e ≡ v → played (reads s) v ≡ after (reads s) x → (shows : ℕ → List ℕ) → fieldLine (reads s) v ≡ shows (codeOf (answer m x)) → Puts (shows code)
+      → Plays (memory b ids lens (s .sent))
+  by-call x quiet code b ids lens r v e-is p shows q (l, few) = subst (λ (y : Event). FieldPlayed s y (memory b ids lens (s .sent)) before count line) (sym e-is) (record {
     good = subst (λ (w : Returned Reply). Known (w .reply .board) (w .ids) (w .lens)) (sym r) (f .good);
     next = (λ j. record { board = (ap (λ (w : Returned Reply). view (w .reply .board) (w .ids) (w .lens)) r ∙ f .reads) j; sent = same j }) ∙ sym p;
     line = subst (λ (t : List ℕ). Line before t count line) (ap shows code-is ∙ sym q) l;
     short = few;
     more = omega arith;
-  }
+  })
     where
       f : Follows (s .board) (s .ids) (s .lens) (ruled (s .board) (s .ids) (s .lens) x) (step m x)
       f = call-follows (s .board) (s .ids) (s .lens) k x quiet
@@ -137,24 +151,35 @@ module _ (s : Memory) (k : KnownMemory s) (before : List ℕ) (count : ℕ) (lin
       same : s .sent ≡ s .sent + bytesOf (answer m x)
       same = rw (none-sent m (fit-view (s .board) (s .ids) (s .lens) (k .sound) .tidy) x quiet) (sym (add-zero (s .sent)))
 
-  pub open-plays : (o : Opening) (x : AfterOpening) → x ≡ openedIn (s .board .numbers) (s .board .shares) (s .board .held) o
-      → Line before (openLine (o .number) (x .code)) count line
-      → FieldPlayed s (Open o) (memory (withOpening (s .board) x) (s .ids) (s .lens) (s .sent)) before count line
-  open-plays o x e l =
+  pub open-plays : (o : Opening) → e ≡ Open o
+      → (x : AfterOpening) → x ≡ openedIn (s .board .numbers) (s .board .shares) (s .board .held) o → Puts (openLine (o .number) (x .code))
+      → Plays (memory (withOpening (s .board) x) (s .ids) (s .lens) (s .sent))
+  open-plays o e-is x x-is l =
       by-call (open! (meant o)) refl (x .code) (withOpening (s .board) x) (s .ids) (s .lens)
-      (open-known (s .board) (s .ids) (s .lens) k o x e) (Open o) refl (openLine (o .number)) refl l
+      (open-known (s .board) (s .ids) (s .lens) k o x x-is) (Open o) e-is refl (openLine (o .number)) refl l
 
-  pub close-plays : (block : ℕ) (x : Closing) → x ≡ closedIn (s .board .active) (s .board .numbers) (s .board .shares) (s .board .starts) (s .board .counts) (s .board .held) block → Line before (closeLine block (x .code)) count line
-      → FieldPlayed s (Close block) (memory (withClosing (s .board) x) (s .ids) (s .lens) (s .sent)) before count line
-  close-plays block x e l = by-call (close! block) refl (x .code) (withClosing (s .board) x) (s .ids) (s .lens) (close-known (s .board) (s .ids) (s .lens) k block x e) (Close block) refl (closeLine block) refl l
+  pub close-plays : (block : ℕ) → e ≡ Close block
+      → (x : Closing) → x ≡ closedIn (s .board .active) (s .board .numbers) (s .board .shares) (s .board .starts) (s .board .counts) (s .board .held) block
+      → Puts (closeLine block (x .code))
+      → Plays (memory (withClosing (s .board) x) (s .ids) (s .lens) (s .sent))
+  close-plays block e-is x x-is l =
+      by-call (close! block) refl (x .code) (withClosing (s .board) x) (s .ids) (s .lens)
+      (close-known (s .board) (s .ids) (s .lens) k block x x-is) (Close block) e-is refl (closeLine block) refl l
 
-  pub rename-plays : (old new : ℕ) (x : Renaming) → x ≡ renamedIn (s .board .numbers) old new → Line before (nameLine old new (x .code)) count line
-      → FieldPlayed s (Rename old new) (memory (withRenaming (s .board) x) (s .ids) (s .lens) (s .sent)) before count line
-  rename-plays old new x e l = by-call (rename! old new) refl (x .code) (withRenaming (s .board) x) (s .ids) (s .lens) (rename-known (s .board) (s .ids) (s .lens) k old new x e) (Rename old new) refl (nameLine old new) refl l
+  pub rename-plays : (old new : ℕ) → e ≡ Rename old new
+      → (x : Renaming) → x ≡ renamedIn (s .board .numbers) old new → Puts (nameLine old new (x .code))
+      → Plays (memory (withRenaming (s .board) x) (s .ids) (s .lens) (s .sent))
+  rename-plays old new e-is x x-is l =
+      by-call (rename! old new) refl (x .code) (withRenaming (s .board) x) (s .ids) (s .lens)
+      (rename-known (s .board) (s .ids) (s .lens) k old new x x-is) (Rename old new) e-is refl (nameLine old new) refl l
 
-  pub record-plays : (block number bytes : ℕ) (x : Recording) → x ≡ recordedIn (blocksOf (s .board)) (s .board .largest) (s .board .clock) block number bytes (takingOf (s .board)) (s .ids) (s .lens) → Line before (inLine number (x .code)) count line
-      → FieldPlayed s (Arrive block number bytes) (memory (withTaking (s .board) (x .taking)) (x .ids) (x .lens) (s .sent)) before count line
-  record-plays block number bytes x e l = by-call (record! block (record { number = number; bytes = bytes })) refl (x .code) (withTaking (s .board) (x .taking)) (x .ids) (x .lens) (record-known (s .board) (s .ids) (s .lens) k block number bytes x e) (Arrive block number bytes) refl (inLine number) refl l
+  pub record-plays : (block number bytes : ℕ) → e ≡ Arrive block number bytes
+      → (x : Recording) → x ≡ recordedIn (blocksOf (s .board)) (s .board .largest) (s .board .clock) block number bytes (takingOf (s .board)) (s .ids) (s .lens)
+      → Puts (inLine number (x .code))
+      → Plays (memory (withTaking (s .board) (x .taking)) (x .ids) (x .lens) (s .sent))
+  record-plays block number bytes e-is x x-is l =
+      by-call (record! block (record { number = number; bytes = bytes })) refl (x .code) (withTaking (s .board) (x .taking)) (x .ids) (x .lens)
+      (record-known (s .board) (s .ids) (s .lens) k block number bytes x x-is) (Arrive block number bytes) e-is refl (inLine number) refl l
 
   -- ---- A serve
 
@@ -218,20 +243,22 @@ module _ (s : Memory) (k : KnownMemory s) (before : List ℕ) (count : ℕ) (lin
       go (inl x) = why x (x .why)
       go (inr g) = sending g
 
-  pub serve-plays : (n : Engine) (total : ℕ) → ServeShown (s .board .numbers) (s .ids) (s .lens) (s .sent) w n total before count line
-      → FieldPlayed s Serve (memory (withEngine (s .board) n) (s .ids) (s .lens) total) before count line
-  serve-plays n total x = subst (λ (y : Memory). FieldPlayed s Serve y before count line) (sym left) (record {
+  pub serve-plays : e ≡ Serve → (n : Engine) (total : ℕ) → ServeShown (s .board .numbers) (s .ids) (s .lens) (s .sent) w n total before count line
+      → Plays (memory (withEngine (s .board) n) (s .ids) (s .lens) total)
+  serve-plays e-is n total x = subst (λ (y : Event). FieldPlayed s y (memory (withEngine (s .board) n) (s .ids) (s .lens) total) before count line) (sym e-is) (subst (λ (y : Memory). FieldPlayed s Serve y before count line) (sym left) (record {
     good = serve-is .good;
     next = (λ j. record { board = serve-is .next j; sent = s .sent + serve-is .bytes j }) ∙ ap (λ (t : Turn). record { board = t .next; sent = s .sent + bytesOf (told m (t .out)) }) (sym (step-serve m));
     line = subst (λ (t : List ℕ). Line before t count line) (serve-is .shows ∙ ap (λ (t : Turn). servedLine (told m (t .out))) (sym (step-serve m))) (x .line);
-    short = few;
+    short = x .short;
     more = omega (arith, inside (s .board .shares) (s .lens) (s .board .largest) 65536 1 (engineOf (s .board)) (can-known (s .board) (s .ids) (s .lens) k) w refl .few);
-  })
+  }))
     where
       left : memory (withEngine (s .board) n) (s .ids) (s .lens) total ≡ memory next-board (s .ids) (s .lens) (s .sent + w .step .bytes .0)
       left = λ j. memory (withEngine (s .board) (x .engine j)) (s .ids) (s .lens) (x .sum j)
 
   -- ---- What is passed over
 
-  pub passed-plays : count ≡ 0 → line ≡ before → FieldPlayed s Passed s before count line
-  passed-plays z same = record { good = k; next = refl; line = record { counts = z; text = rw z refl; rest = rw (z, same) refl }; short = few; more = omega arith }
+  pub passed-plays : e ≡ Passed → count ≡ 0 → line ≡ before → Plays s
+  passed-plays e-is z same =
+      subst (λ (y : Event). FieldPlayed s y s before count line) (sym e-is)
+      (record { good = k; next = refl; line = record { counts = z; text = rw z refl; rest = rw (z, same) refl }; short = omega (arith, z); more = omega arith })

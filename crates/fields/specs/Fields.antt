@@ -2,13 +2,13 @@
 use mathlib.Core.Path.{_≡_}
 use mathlib.Core.Bool.{cond}
 use mathlib.Core.List.{List}
-use Prim.Native.Nat.{ℕ, _+_, _≤_}
+use Prim.Native.Nat.{ℕ, _+_, _^_, _<_, _≤_}
 use lib.Dec.{eqb}
-use lib.ListN.{getD}
+use lib.ListN.{length, getD}
 use Rattle.board.specs.declared.Board as struct
 use Rattle.board.specs.Reading.{view}
 use Rattle.board.specs.Memory.{Engine}
-use Rattle.serving.specs.Serving.{Within, engineAfter}
+use Rattle.serving.specs.Serving.{Within, engineAfter, CanServe}
 use Rattle.log.specs.declared.Event.{Event}
 use Rattle.lines.specs.Text.{Line}
 use Rattle.lines.specs.Listing.{outLine, refusedLine}
@@ -49,6 +49,13 @@ pub record FieldPlayed
 abbrev pub shownLine : (numbers ids lens : List ℕ) (code place entry clock : ℕ) → List ℕ
 shownLine numbers ids lens code place entry clock =
     cond (eqb code 0) (outLine (getD numbers place 0) (getD ids entry 0) (getD lens entry 0) clock) (refusedLine code)
+
+-- What it asks: what serving asks, tables of which a line can tell, and a sum that does not wrap.
+pub record ServeNeeds (shares ids lens : List ℕ) (largest sent : ℕ) (e : Engine) : Type 0 where
+  pub serves : CanServe shares lens largest e
+  pub ids-all : length ids ≡ 2048
+  pub lens-all : length lens ≡ 2048
+  pub few : sent < 2 ^ 63
 
 -- From what serving gives: the engine that it leaves, the bytes sent, and the line in front of a buffer.
 pub record ServeShown

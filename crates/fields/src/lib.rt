@@ -8,8 +8,8 @@ ghost use Rattle.log.specs.Format.{isL};
 ghost use Rattle.lines.specs.Text.{Line};
 ghost use Rattle.plays.specs.Listing.{lastOf};
 ghost use Rattle.board.specs.Memory.{numbersNow, boardNow, Engine, engineNow};
-ghost use Rattle.serving.specs.Serving.{servedWithin, CanServe};
-ghost use Rattle.fields.specs.Fields.{Memory, memory, KnownMemory, FieldPlayed, shownLine, ServeShown};
+ghost use Rattle.serving.specs.Serving.{servedWithin};
+ghost use Rattle.fields.specs.Fields.{Memory, memory, KnownMemory, FieldPlayed, shownLine, ServeNeeds, ServeShown};
 use lines::LINE_ROOM;
 use log::End;
 use log::Event;
@@ -85,11 +85,7 @@ fn play_serve(
         engineNow (now starts) (now counts) (now deficits) (now ready)
         (now next) (now heads) (now tails) (now held)
         (numbersNow clock active pending slot (left .0)) ≡ before ⌝ }
-    requires { λ before. ⌜
-        CanServe (now shares) (now lens) largest before
-        × ((length (now ids) ≡ 2048)
-        × ((length (now lens) ≡ 2048)
-        × (sent .0 < 2 ^ 63))) ⌝ }
+    requires { λ before. ⌜ ServeNeeds (now shares) (now ids) (now lens) largest (sent .0) before ⌝ }
     ensures { λ before r. ⌜
         (let given = servedWithin (now (shares .entry)) (now (lens .entry)) largest 65536 1 before in
         let after =

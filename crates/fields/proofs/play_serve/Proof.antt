@@ -14,15 +14,15 @@ serve-within-requires c κs = search needs
 show-serve-requires : tie.Need-show-serve-requires
 show-serve-requires c κs =
     let at-serve = c .before in
-    let pre = start-of at-serve .pre in
-    let sent = inside _ _ _ _ _ _ (pre .0) _ (at-serve .serve-within .ensures) in
-    (pre .1 .0, (pre .1 .1 .0, λ z. (sent .place, sent .entry)))
+    let asked = start-of at-serve .pre in
+    let sent = inside _ _ _ _ _ _ (asked .serves) _ (at-serve .serve-within .ensures) in
+    (asked .ids-all, (asked .lens-all, λ z. (sent .place, sent .entry)))
 
 add-total : tie.Need-add-total
 add-total c =
     let at-serve = c .before .before .before .before .before .before in
-    let pre = start-of at-serve .pre in
-    omega (arith, inside _ _ _ _ _ _ (pre .0) _ (at-serve .serve-within .ensures) .few, pre .1 .1 .1)
+    let asked = start-of at-serve .pre in
+    omega (arith, inside _ _ _ _ _ _ (asked .serves) _ (at-serve .serve-within .ensures) .few, asked .few)
 
 returns : tie.Need-returns
 returns c =
