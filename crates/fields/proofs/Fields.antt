@@ -2,7 +2,7 @@
 use mathlib.Core.Path.{_≡_, refl, sym, ap, subst, _∙_}
 use mathlib.Core.Bool.{Bool, true, false, cond, true≢false}
 use mathlib.Core.Logic.{_⊎_, inl, inr, _≢_}
-use mathlib.Core.List.{List}
+use mathlib.Core.List.{List, []}
 use Prim.Native.Nat.{ℕ, _+_, _^_, _≤_, _<_}
 use native.Mathlib.Nat.{add-zero}
 use native.Mathlib.Omega.{arith}
@@ -10,7 +10,6 @@ use lib.Dec.{eqb, ltb}
 use lib.ListN.{getD}
 use borrow.Author.Tests.{eq-eqb, ne-eqb, ltb-false}
 use Rattle.units.specs.Credit.{charged}
-use Rattle.lanes.specs.Lanes.{laneEntry}
 use Rattle.lanes.proofs.Lanes.{lane-inside}
 use Rattle.rules.specs.Board
 use Rattle.rules.specs.Board.{Record, at, charge}
@@ -45,7 +44,7 @@ use Rattle.blocks.proofs.Answers.{rename-known, open-known, close-known}
 use Rattle.board.proofs.Next.{Follows, call-follows}
 use Rattle.serving.proofs.Known.{within, spells, can-known, by-cases, after-is, known-next, refused-stays}
 use Rattle.plays.specs.Listing.{after, played, fieldLine, servedLine}
-use Rattle.fields.specs.Fields.{Memory, memory, reads, KnownMemory, FieldPlayed, shownLine, ServeNeeds, ServeShown}
+use Rattle.fields.specs.Fields.{Memory, memory, reads, KnownMemory, FieldPlayed, stepLine, ServeNeeds, ServeShown}
 
 -- only a serve sends bytes
 abbrev Sends : Board.Board → Single → Turn → Type 0
@@ -71,7 +70,7 @@ charge-is : (r : Record) → charge r ≡ charged (r .bytes)
 unfolding charge
 charge-is r = refl
 
--- ---- What serving tells of a record, whatever the board: where it stands is within the arrays, and it is charged no more than was allowed
+-- ---- What serving tells, whatever the board: a place and an entry within the arrays, and no more bytes than were allowed
 
 module _ (shares lens : List ℕ) (largest bytes room : ℕ) (e : Engine) (can : CanServe shares lens largest e) where
   pub record Inside (w : Within) : Type 0 where
@@ -79,163 +78,169 @@ module _ (shares lens : List ℕ) (largest bytes room : ℕ) (e : Engine) (can :
     pub entry : w .step .entry < 2048
     pub few : w .step .bytes .0 ≤ bytes
 
-  none : (code : ℕ) → Inside (withinOf code untold e)
-  none code = record { place = omega arith; entry = omega arith; few = omega arith }
+  none-told : (code : ℕ) → Inside (withinOf code untold e)
+  none-told code = record { place = omega arith; entry = omega arith; few = omega arith }
+
+  by-tests : (p time : ℕ) → p < 64 → (full long : Bool) → ltb bytes (toldOf shares lens largest p time e .bytes) ≡ long →
+      let sends = withinOf 0 (toldOf shares lens largest p time e) (enacted shares lens largest p time e) in
+      Inside (cond full (withinOf 14 untold e) (cond long (withinOf 13 untold e) sends))
+  by-tests p time h true long t = none-told 14
+  by-tests p time h false true t = none-told 13
+  by-tests p time h false false t = record { place = h; entry = lane-inside p (getD (e .starts) p 0) 0 h; few = ltb-false bytes _ t }
+
+  by-choice : (c : Choice) → choiceOf e ≡ c → Inside (servedBy shares lens largest bytes room e c)
+  by-choice (Stop code) q = none-told code
+  by-choice (Go p time) q = by-tests p time (can .enacts p time q .sends .inside) (eqb room 0) _ refl
 
   pub inside : (w : Within) → w ≡ servedWithin shares lens largest bytes room e → Inside w
   unfolding servedWithin
   inside w w-is = subst Inside (sym w-is) (by-choice (choiceOf e) refl)
-    where
-      by-choice : (c : Choice) → choiceOf e ≡ c → Inside (servedBy shares lens largest bytes room e c)
-      by-choice (Stop code) q = none code
-      by-choice (Go p time) q = by-tests (eqb room 0) (ltb bytes (charged (getD lens entry 0))) refl
-        where
-          entry : ℕ
-          entry = laneEntry p (getD (e .starts) p 0) 0
-
-          p-inside : p < 64
-          p-inside = can .enacts p time q .sends .inside
-
-          by-tests : (full long : Bool) → ltb bytes (charged (getD lens (laneEntry p (getD (e .starts) p 0) 0) 0)) ≡ long
-              → Inside (cond full (withinOf 14 untold e) (cond long (withinOf 13 untold e) (withinOf 0 (toldOf shares lens largest p time e) (enacted shares lens largest p time e))))
-          by-tests true long t = none 14
-          by-tests false true t = none 13
-          by-tests false false t = record { place = p-inside; entry = lane-inside p (getD (e .starts) p 0) 0 p-inside; few = ltb-false bytes _ t }
 
 -- what a serve asks holds of a known board
 pub serve-needs : (s : Memory) → KnownMemory s → s .sent < 2 ^ 63
     → ServeNeeds (s .board .shares) (s .ids) (s .lens) (s .board .largest) (s .sent) (engineOf (s .board))
 serve-needs s k few = record { serves = can-known (s .board) (s .ids) (s .lens) k; ids-all = k .ids-all; lens-all = k .lens-all; few = few }
 
--- what the step gives and the line that is put are what is shown
-pub serve-shows : (numbers ids lens : List ℕ) (sum : ℕ) (w given : Within) → w ≡ given → (before : List ℕ) (count : ℕ) (line : List ℕ) →
-    let s = w .step in
-    Line before (shownLine numbers ids lens (s .code) (s .place) (s .entry) (s .«slot_clock»)) count line × (count ≤ 64)
+-- what a step leaves and its line are what serving gives
+pub serve-shows : (numbers ids lens : List ℕ) (sum : ℕ) (w given : Within) → w ≡ given → (before : List ℕ) (count : ℕ) (line : List ℕ)
+    → Line before (stepLine numbers ids lens (w .step)) count line × (count ≤ 64)
     → ServeShown numbers ids lens sum given (engineAfter w) (sum + w .step .bytes .0) before count line
-serve-shows numbers ids lens sum w given e before count line (l, few) =
-    subst (λ (v : Within). ServeShown numbers ids lens sum v (engineAfter w) (sum + w .step .bytes .0) before count line) e
+serve-shows numbers ids lens sum w given w-is before count line (l, few) =
+    subst (λ (v : Within). ServeShown numbers ids lens sum v (engineAfter w) (sum + w .step .bytes .0) before count line) w-is
     (record { engine = refl; sum = refl; line = l; short = few })
 
 -- ---- A field e, played on s with a line of count bytes
 
 module _ (s : Memory) (k : KnownMemory s) (e : Event) (before : List ℕ) (count : ℕ) (line : List ℕ) where
-  abbrev m : Board.Board
-  m = view (s .board) (s .ids) (s .lens)
+  abbrev b : struct.Board
+  b = s .board
 
-  -- the line that was put in front of the buffer
+  abbrev m : Board.Board
+  m = view b (s .ids) (s .lens)
+
+  spelt : encode m ≡ b
+  spelt = spells b (s .ids) (s .lens) k
+
+  -- the text that was put in front of the buffer
   abbrev Puts : List ℕ → Type 0
   Puts text = Line before text count line × (count ≤ 64)
 
   abbrev Plays : Memory → Type 0
   Plays n = FieldPlayed s e n before count line
 
+  as-line : (text : List ℕ) → fieldLine (reads s) e ≡ text → Line before text count line → Line before (fieldLine (reads s) e) count line
+  as-line text text-is l = subst (λ (t : List ℕ). Line before t count line) (sym text-is) l
+
   -- ---- A call that is no serve: v is its event, and shows the line that the event gives with a code
 
-  by-call : (x : Single) → isServe x ≡ false → (code : ℕ) (b : struct.Board) (ids lens : List ℕ) → returned (replied code b) ids lens ≡ ruled (s .board) (s .ids) (s .lens) x
-      → (v : Event) → e ≡ v → played (reads s) v ≡ after (reads s) x → (shows : ℕ → List ℕ) → fieldLine (reads s) v ≡ shows (codeOf (answer m x)) → Puts (shows code)
-      → Plays (memory b ids lens (s .sent))
-  by-call x quiet code b ids lens r v e-is p shows q (l, few) = subst (λ (y : Event). FieldPlayed s y (memory b ids lens (s .sent)) before count line) (sym e-is) (record {
+  by-call : (x : Single) → isServe x ≡ false
+      → (code : ℕ) (n : struct.Board) (ids lens : List ℕ) → returned (replied code n) ids lens ≡ ruled b (s .ids) (s .lens) x
+      → (v : Event) → e ≡ v → played (reads s) v ≡ after (reads s) x
+      → (shows : ℕ → List ℕ) → fieldLine (reads s) v ≡ shows (codeOf (answer m x)) → Puts (shows code)
+      → Plays (memory n ids lens (s .sent))
+  by-call x quiet code n ids lens r v e-is p shows q (l, few) = record {
     good = subst (λ (w : Returned Reply). Known (w .reply .board) (w .ids) (w .lens)) (sym r) (f .good);
-    next = (λ j. record { board = (ap (λ (w : Returned Reply). view (w .reply .board) (w .ids) (w .lens)) r ∙ f .reads) j; sent = same j }) ∙ sym p;
-    line = subst (λ (t : List ℕ). Line before t count line) (ap shows code-is ∙ sym q) l;
+    next = (λ j. record { board = (ap (λ (w : Returned Reply). view (w .reply .board) (w .ids) (w .lens)) r ∙ f .reads) j; sent = same j })
+        ∙ sym (ap (played (reads s)) e-is ∙ p);
+    line = as-line (shows code) (ap (fieldLine (reads s)) e-is ∙ q ∙ ap shows (sym code-is)) l;
     short = few;
     more = omega arith;
-  })
+  }
     where
-      f : Follows (s .board) (s .ids) (s .lens) (ruled (s .board) (s .ids) (s .lens) x) (step m x)
-      f = call-follows (s .board) (s .ids) (s .lens) k x quiet
+      f : Follows b (s .ids) (s .lens) (ruled b (s .ids) (s .lens) x) (step m x)
+      f = call-follows b (s .ids) (s .lens) k x quiet
 
       code-is : code ≡ codeOf (answer m x)
       code-is = ap (λ (w : Returned Reply). w .reply .code) r ∙ f .code
 
       same : s .sent ≡ s .sent + bytesOf (answer m x)
-      same = rw (none-sent m (fit-view (s .board) (s .ids) (s .lens) (k .sound) .tidy) x quiet) (sym (add-zero (s .sent)))
+      same = rw (none-sent m (fit-view b (s .ids) (s .lens) (k .sound) .tidy) x quiet) (sym (add-zero (s .sent)))
 
   pub open-plays : (o : Opening) → e ≡ Open o
-      → (x : AfterOpening) → x ≡ openedIn (s .board .numbers) (s .board .shares) (s .board .held) o → Puts (openLine (o .number) (x .code))
-      → Plays (memory (withOpening (s .board) x) (s .ids) (s .lens) (s .sent))
+      → (x : AfterOpening) → x ≡ openedIn (b .numbers) (b .shares) (b .held) o → Puts (openLine (o .number) (x .code))
+      → Plays (memory (withOpening b x) (s .ids) (s .lens) (s .sent))
   open-plays o e-is x x-is l =
-      by-call (open! (meant o)) refl (x .code) (withOpening (s .board) x) (s .ids) (s .lens)
-      (open-known (s .board) (s .ids) (s .lens) k o x x-is) (Open o) e-is refl (openLine (o .number)) refl l
+      by-call (open! (meant o)) refl (x .code) (withOpening b x) (s .ids) (s .lens)
+      (open-known b (s .ids) (s .lens) k o x x-is) (Open o) e-is refl (openLine (o .number)) refl l
 
   pub close-plays : (block : ℕ) → e ≡ Close block
-      → (x : Closing) → x ≡ closedIn (s .board .active) (s .board .numbers) (s .board .shares) (s .board .starts) (s .board .counts) (s .board .held) block
+      → (x : Closing) → x ≡ closedIn (b .active) (b .numbers) (b .shares) (b .starts) (b .counts) (b .held) block
       → Puts (closeLine block (x .code))
-      → Plays (memory (withClosing (s .board) x) (s .ids) (s .lens) (s .sent))
+      → Plays (memory (withClosing b x) (s .ids) (s .lens) (s .sent))
   close-plays block e-is x x-is l =
-      by-call (close! block) refl (x .code) (withClosing (s .board) x) (s .ids) (s .lens)
-      (close-known (s .board) (s .ids) (s .lens) k block x x-is) (Close block) e-is refl (closeLine block) refl l
+      by-call (close! block) refl (x .code) (withClosing b x) (s .ids) (s .lens)
+      (close-known b (s .ids) (s .lens) k block x x-is) (Close block) e-is refl (closeLine block) refl l
 
   pub rename-plays : (old new : ℕ) → e ≡ Rename old new
-      → (x : Renaming) → x ≡ renamedIn (s .board .numbers) old new → Puts (nameLine old new (x .code))
-      → Plays (memory (withRenaming (s .board) x) (s .ids) (s .lens) (s .sent))
+      → (x : Renaming) → x ≡ renamedIn (b .numbers) old new → Puts (nameLine old new (x .code))
+      → Plays (memory (withRenaming b x) (s .ids) (s .lens) (s .sent))
   rename-plays old new e-is x x-is l =
-      by-call (rename! old new) refl (x .code) (withRenaming (s .board) x) (s .ids) (s .lens)
-      (rename-known (s .board) (s .ids) (s .lens) k old new x x-is) (Rename old new) e-is refl (nameLine old new) refl l
+      by-call (rename! old new) refl (x .code) (withRenaming b x) (s .ids) (s .lens)
+      (rename-known b (s .ids) (s .lens) k old new x x-is) (Rename old new) e-is refl (nameLine old new) refl l
 
   pub record-plays : (block number bytes : ℕ) → e ≡ Arrive block number bytes
-      → (x : Recording) → x ≡ recordedIn (blocksOf (s .board)) (s .board .largest) (s .board .clock) block number bytes (takingOf (s .board)) (s .ids) (s .lens)
+      → (x : Recording) → x ≡ recordedIn (blocksOf b) (b .largest) (b .clock) block number bytes (takingOf b) (s .ids) (s .lens)
       → Puts (inLine number (x .code))
-      → Plays (memory (withTaking (s .board) (x .taking)) (x .ids) (x .lens) (s .sent))
+      → Plays (memory (withTaking b (x .taking)) (x .ids) (x .lens) (s .sent))
   record-plays block number bytes e-is x x-is l =
-      by-call (record! block (record { number = number; bytes = bytes })) refl (x .code) (withTaking (s .board) (x .taking)) (x .ids) (x .lens)
-      (record-known (s .board) (s .ids) (s .lens) k block number bytes x x-is) (Arrive block number bytes) e-is refl (inLine number) refl l
+      by-call (record! block (record { number = number; bytes = bytes })) refl (x .code) (withTaking b (x .taking)) (x .ids) (x .lens)
+      (record-known b (s .ids) (s .lens) k block number bytes x x-is) (Arrive block number bytes) e-is refl (inLine number) refl l
 
   -- ---- A serve
 
   -- what serving gives, with bytes for any record and room for one
   abbrev w : Within
-  w = within (s .board) (s .lens) 65536 1
-
-  abbrev shown : List ℕ
-  shown = shownLine (s .board .numbers) (s .ids) (s .lens) (w .step .code) (w .step .place) (w .step .entry) (w .step .«slot_clock»)
+  w = within b (s .lens) 65536 1
 
   abbrev next-board : struct.Board
-  next-board = withEngine (s .board) (engineAfter w)
+  next-board = withEngine b (engineAfter w)
 
   -- what is to be shown of it
   record ServeIs : Type 0 where
     good : Known next-board (s .ids) (s .lens)
     next : view next-board (s .ids) (s .lens) ≡ serve m .next
     bytes : w .step .bytes .0 ≡ bytesOf (told m (serve m .out))
-    shows : shown ≡ servedLine (told m (serve m .out))
+    shows : stepLine (b .numbers) (s .ids) (s .lens) (w .step) ≡ servedLine (told m (serve m .out))
 
   refusal : Stops m 65536 1 w → serve m .out ≡ refused (w .step .code) → ServeIs
   refusal x out! = record {
     good = subst (λ (c : struct.Board). Known c (s .ids) (s .lens)) (sym same) k;
-    next = ap (λ (c : struct.Board). view c (s .ids) (s .lens)) same ∙ sym (refused-stays (s .board) (s .ids) (s .lens) k (w .step .code) out!);
-    bytes = none ∙ rw out! refl;
+    next = ap (λ (c : struct.Board). view c (s .ids) (s .lens)) same ∙ sym (refused-stays b (s .ids) (s .lens) k (w .step .code) out!);
+    bytes = ap (λ (y : Within). y .step .bytes .0) (x .same) ∙ rw out! refl;
     shows = rw (ne-eqb (w .step .code) 0 (x .code), out!) refl;
   }
     where
-      none : w .step .bytes .0 ≡ 0
-      none = ap (λ (y : Within). y .step .bytes .0) (x .same)
-
-      same : withEngine (s .board) (engineAfter w) ≡ s .board
-      same = ap (λ (y : Within). withEngine (s .board) (engineAfter y)) (x .same) ∙ ap (λ (c : struct.Board). withEngine c (engineOf (encode m))) (sym (spells (s .board) (s .ids) (s .lens) k)) ∙ spells (s .board) (s .ids) (s .lens) k
+      same : withEngine b (engineAfter w) ≡ b
+      same =
+          ap (λ (y : Within). withEngine b (engineAfter y)) (x .same)
+          ∙ ap (λ (c : struct.Board). withEngine c (engineOf (encode m))) (sym spelt)
+          ∙ spelt
 
   sending : Goes m (s .ids) (s .lens) 65536 1 w → ServeIs
   sending g = record {
-    good = subst (λ (c : struct.Board). Known c (s .ids) (s .lens)) (sym next-is) (known-next (s .board) (s .ids) (s .lens) k (g .holds));
-    next = ap (λ (c : struct.Board). view c (s .ids) (s .lens)) next-is ∙ view-encode (serve m .next) (s .ids) (s .lens) (fit-serve m (fit-view (s .board) (s .ids) (s .lens) (k .sound))) (g .holds);
+    good = subst (λ (c : struct.Board). Known c (s .ids) (s .lens)) (sym next-is) (known-next b (s .ids) (s .lens) k (g .holds));
+    next = ap (λ (c : struct.Board). view c (s .ids) (s .lens)) next-is
+        ∙ view-encode (serve m .next) (s .ids) (s .lens) (fit-serve m (fit-view b (s .ids) (s .lens) (k .sound))) (g .holds);
     bytes = g .charge-is ∙ rw (g .out) (charge-is (g .sends .front));
     shows = rw (eq-eqb (w .step .code) 0 (g .code), g .out, g .number-is, g .bytes-is, g .clock-is, block) refl;
   }
     where
-      next-is : withEngine (s .board) (engineAfter w) ≡ encode (serve m .next)
-      next-is = after-is (s .board) (s .ids) (s .lens) k w (g .next)
+      next-is : withEngine b (engineAfter w) ≡ encode (serve m .next)
+      next-is = after-is b (s .ids) (s .lens) k w (g .next)
 
-      block : getD (s .board .numbers) (w .step .place) 0 ≡ at m (g .sends .place) .number
+      block : getD (b .numbers) (w .step .place) 0 ≡ at m (g .sends .place) .number
       block =
-          ap (λ (c : struct.Board). getD (c .numbers) (w .step .place) 0) (sym (spells (s .board) (s .ids) (s .lens) k))
+          ap (λ (c : struct.Board). getD (c .numbers) (w .step .place) 0) (sym spelt)
           ∙ number-is m (w .step .place)
           ∙ ap (λ (p : ℕ). at m p .number) (g .place-is)
 
   serve-is : ServeIs
-  serve-is = go (by-cases (s .board) (s .ids) (s .lens) k 65536 1 w refl)
+  serve-is = go (by-cases b (s .ids) (s .lens) k 65536 1 w refl)
     where
-      why : Stops m 65536 1 w → (serve m .out ≡ refused (w .step .code)) ⊎ ((_≡_ {A = ℕ} 1 0) ⊎ ((r : Record) × (65536 < charge r) × (charge r < 65536))) → ServeIs
-      why x (inl e) = refusal x e
+      why : Stops m 65536 1 w
+          → (serve m .out ≡ refused (w .step .code)) ⊎ ((_≡_ {A = ℕ} 1 0) ⊎ ((r : Record) × (65536 < charge r) × (charge r < 65536)))
+          → ServeIs
+      why x (inl y) = refusal x y
       why x (inr (inl z)) = absurd (omega arith)
       why x (inr (inr y)) = absurd (omega (arith, y .1, y .2))
 
@@ -243,22 +248,30 @@ module _ (s : Memory) (k : KnownMemory s) (e : Event) (before : List ℕ) (count
       go (inl x) = why x (x .why)
       go (inr g) = sending g
 
-  pub serve-plays : e ≡ Serve → (n : Engine) (total : ℕ) → ServeShown (s .board .numbers) (s .ids) (s .lens) (s .sent) w n total before count line
-      → Plays (memory (withEngine (s .board) n) (s .ids) (s .lens) total)
-  serve-plays e-is n total x = subst (λ (y : Event). FieldPlayed s y (memory (withEngine (s .board) n) (s .ids) (s .lens) total) before count line) (sym e-is) (subst (λ (y : Memory). FieldPlayed s Serve y before count line) (sym left) (record {
+  pub serve-plays : e ≡ Serve
+      → (n : Engine) (total : ℕ) → ServeShown (b .numbers) (s .ids) (s .lens) (s .sent) w n total before count line
+      → Plays (memory (withEngine b n) (s .ids) (s .lens) total)
+  serve-plays e-is n total x = subst Plays (sym left) (record {
     good = serve-is .good;
-    next = (λ j. record { board = serve-is .next j; sent = s .sent + serve-is .bytes j }) ∙ ap (λ (t : Turn). record { board = t .next; sent = s .sent + bytesOf (told m (t .out)) }) (sym (step-serve m));
-    line = subst (λ (t : List ℕ). Line before t count line) (serve-is .shows ∙ ap (λ (t : Turn). servedLine (told m (t .out))) (sym (step-serve m))) (x .line);
+    next = (λ j. record { board = serve-is .next j; sent = s .sent + serve-is .bytes j })
+        ∙ ap (λ (t : Turn). record { board = t .next; sent = s .sent + bytesOf (told m (t .out)) }) (sym (step-serve m))
+        ∙ sym (ap (played (reads s)) e-is);
+    line = as-line (stepLine (b .numbers) (s .ids) (s .lens) (w .step))
+        (ap (fieldLine (reads s)) e-is ∙ ap (λ (t : Turn). servedLine (told m (t .out))) (step-serve m) ∙ sym (serve-is .shows)) (x .line);
     short = x .short;
-    more = omega (arith, inside (s .board .shares) (s .lens) (s .board .largest) 65536 1 (engineOf (s .board)) (can-known (s .board) (s .ids) (s .lens) k) w refl .few);
-  }))
+    more = omega (arith, inside (b .shares) (s .lens) (b .largest) 65536 1 (engineOf b) (can-known b (s .ids) (s .lens) k) w refl .few);
+  })
     where
-      left : memory (withEngine (s .board) n) (s .ids) (s .lens) total ≡ memory next-board (s .ids) (s .lens) (s .sent + w .step .bytes .0)
-      left = λ j. memory (withEngine (s .board) (x .engine j)) (s .ids) (s .lens) (x .sum j)
+      left : memory (withEngine b n) (s .ids) (s .lens) total ≡ memory next-board (s .ids) (s .lens) (s .sent + w .step .bytes .0)
+      left = λ j. memory (withEngine b (x .engine j)) (s .ids) (s .lens) (x .sum j)
 
   -- ---- What is passed over
 
   pub passed-plays : e ≡ Passed → count ≡ 0 → line ≡ before → Plays s
-  passed-plays e-is z same =
-      subst (λ (y : Event). FieldPlayed s y s before count line) (sym e-is)
-      (record { good = k; next = refl; line = record { counts = z; text = rw z refl; rest = rw (z, same) refl }; short = omega (arith, z); more = omega arith })
+  passed-plays e-is z same = record {
+    good = k;
+    next = sym (ap (played (reads s)) e-is);
+    line = as-line [] (ap (fieldLine (reads s)) e-is) (record { counts = z; text = rw z refl; rest = rw (z, same) refl });
+    short = omega (arith, z);
+    more = omega arith;
+  }

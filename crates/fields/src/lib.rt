@@ -9,7 +9,8 @@ ghost use Rattle.lines.specs.Text.{Line};
 ghost use Rattle.plays.specs.Listing.{lastOf};
 ghost use Rattle.board.specs.Memory.{numbersNow, boardNow, Engine, engineNow};
 ghost use Rattle.serving.specs.Serving.{servedWithin};
-ghost use Rattle.fields.specs.Fields.{Memory, memory, KnownMemory, FieldPlayed, shownLine, ServeNeeds, ServeShown};
+ghost use Rattle.fields.specs.Fields.{Memory, memory, KnownMemory, FieldPlayed};
+ghost use Rattle.fields.specs.Fields.{shownLine, ServeNeeds, ServeShown};
 use lines::LINE_ROOM;
 use log::End;
 use log::Event;
@@ -57,7 +58,7 @@ fn show_serve(
     lines::put_out(line, numbers[place], ids[entry], lens[entry], time)
 }
 
-// The next record is sent.
+// The next record is sent. It is lent what serving and the line need, and no other part of the board.
 fn play_serve(
     sent: Bytes,
     largest: u32,
@@ -139,7 +140,8 @@ fn play_serve(
     }
 }
 
-// One field after L: what it says is done, and its line is put in front of the buffer.
+// One field after L: what it says is done, and its line is put in front of the buffer. The contract names what stands in
+// memory at entry once, as `before`.
 pub fn play_field(
     event: Event,
     sent: Bytes,

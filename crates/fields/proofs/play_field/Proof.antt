@@ -86,7 +86,9 @@ same-length-4 : tie.Need-same-length-4
 same-length-4 c = search needs
 
 returns-5 : tie.Need-returns-5
-returns-5 c = record-plays _ (search needs) _ _ _ _ _ _ _ (search needs) _ (c .before .before .before .before .before .before .record-in .ensures) (c .put-in .ensures)
+returns-5 c =
+    record-plays _ (search needs) _ _ _ _ _ _ _ (search needs) _
+    (c .before .before .before .before .before .before .record-in .ensures) (c .put-in .ensures)
 
 returns-6 : tie.Need-returns-6
 returns-6 c = passed-plays _ (search needs) _ _ _ _ (search needs) refl refl
