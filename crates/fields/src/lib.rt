@@ -3,13 +3,14 @@
 ghost use mathlib.Core.Path.{_≡_};
 ghost use mathlib.Core.Bool.{false};
 ghost use Prim.Native.Nat.{_^_, _<_, _≤_};
-ghost use lib.ListN.{length, getD};
+ghost use lib.ListN.{length};
 ghost use Rattle.log.specs.Format.{isL};
-ghost use Rattle.log.specs.declared.Event.the-variants.{Serve};
 ghost use Rattle.lines.specs.Text.{Line};
 ghost use Rattle.plays.specs.Listing.{lastOf};
-ghost use Rattle.board.specs.Memory.{numbersNow, boardNow};
-ghost use Rattle.fields.specs.Fields.{memory, KnownMemory, FieldPlayed, shownLine};
+ghost use Rattle.board.specs.Memory.{numbersNow, boardNow, Engine, engineNow};
+ghost use Rattle.serving.specs.Serving.{servedWithin};
+ghost use Rattle.fields.specs.Fields.{Memory, memory, KnownMemory, FieldPlayed};
+ghost use Rattle.fields.specs.Fields.{shownLine, ServeNeeds, ServeShown};
 use lines::LINE_ROOM;
 use log::End;
 use log::Event;
@@ -46,10 +47,10 @@ fn show_serve(
         × ((length (now lens) ≡ 2048)
         × (code ≡ 0 → (place < 64) × (entry < 2048))) ⌝ }
     ensures { λ r. ⌜
-        (let block = getD (now (numbers .entry)) place 0 in
-        let number = getD (now (ids .entry)) entry 0 in
-        let bytes = getD (now (lens .entry)) entry 0 in
-        Line (now (line .entry)) (shownLine code block number bytes time) r (now (line .exit)) × (r ≤ 64)) ⌝ }
+        Line (now (line .entry))
+        (shownLine (now (numbers .entry)) (now (ids .entry)) (now (lens .entry)) code place entry time) r
+        (now (line .exit))
+        × (r ≤ 64) ⌝ }
 {
     if code != codes::DONE {
         return lines::put_refused(line, code);
@@ -57,7 +58,7 @@ fn show_serve(
     lines::put_out(line, numbers[place], ids[entry], lens[entry], time)
 }
 
-// The next record is sent.
+// The next record is sent. It is lent what serving and the line need, and no other part of the board.
 fn play_serve(
     sent: Bytes,
     largest: u32,
@@ -80,28 +81,20 @@ fn play_serve(
     lens: &[u16],
     line: &mut [u8; LINE_ROOM],
 ) -> Moved
-    requires { ⌜
-        KnownMemory (memory
-        (boardNow (now numbers) (now shares) (now starts) (now counts)
-        (now deficits) (now ready) (now next)
-        (now heads) (now tails) (now held)
-        largest (numbersNow clock active pending slot (left .0)))
-        (now ids) (now lens) (sent .0))
-        × (sent .0 < 2 ^ 63) ⌝ }
-    ensures { λ r. ⌜
-        (let before = memory
-        (boardNow (now (numbers .entry)) (now (shares .entry)) (now (starts .entry)) (now (counts .entry))
-        (now (deficits .entry)) (now (ready .entry)) (now (next .entry))
-        (now (heads .entry)) (now (tails .entry)) (now (held .entry))
-        largest (numbersNow clock active pending slot (left .0)))
-        (now (ids .entry)) (now (lens .entry)) (sent .0) in
-        let after = memory
-        (boardNow (now (numbers .entry)) (now (shares .entry)) (now (starts .exit)) (now (counts .exit))
-        (now (deficits .exit)) (now (ready .exit)) (now (next .exit))
-        (now (heads .exit)) (now (tails .exit)) (now (held .exit))
-        largest (numbersNow (r .clock) (r .active) (r .pending) (r .slot) (r .left .0)))
-        (now (ids .entry)) (now (lens .entry)) (r .sent .0) in
-        FieldPlayed before Serve after (now (line .entry)) (r .shown) (now (line .exit))) ⌝ }
+    ghost { Engine }
+    requires { λ before. ⌜
+        engineNow (now starts) (now counts) (now deficits) (now ready)
+        (now next) (now heads) (now tails) (now held)
+        (numbersNow clock active pending slot (left .0)) ≡ before ⌝ }
+    requires { λ before. ⌜ ServeNeeds (now shares) (now ids) (now lens) largest (sent .0) before ⌝ }
+    ensures { λ before r. ⌜
+        (let given = servedWithin (now (shares .entry)) (now (lens .entry)) largest 65536 1 before in
+        let after =
+        engineNow (now (starts .exit)) (now (counts .exit)) (now (deficits .exit)) (now (ready .exit))
+        (now (next .exit)) (now (heads .exit)) (now (tails .exit)) (now (held .exit))
+        (numbersNow (r .clock) (r .active) (r .pending) (r .slot) (r .left .0)) in
+        ServeShown (now (numbers .entry)) (now (ids .entry)) (now (lens .entry)) (sent .0) given
+        after (r .sent .0) (now (line .entry)) (r .shown) (now (line .exit))) ⌝ }
 {
     let s = serving::serve_within(
         Bytes(serving::ANY_LENGTH),
@@ -147,7 +140,8 @@ fn play_serve(
     }
 }
 
-// One field after L: what it says is done, and its line is put in front of the buffer.
+// One field after L: what it says is done, and its line is put in front of the buffer. The contract names what stands in
+// memory at entry once, as `before`.
 pub fn play_field(
     event: Event,
     sent: Bytes,
@@ -171,22 +165,17 @@ pub fn play_field(
     lens: &mut [u16],
     line: &mut [u8; LINE_ROOM],
 ) -> Moved
-    requires { ⌜
-        KnownMemory (memory
+    ghost { Memory }
+    requires { λ before. ⌜
+        memory
         (boardNow (now numbers) (now shares) (now starts) (now counts)
         (now deficits) (now ready) (now next)
         (now heads) (now tails) (now held)
         largest (numbersNow clock active pending slot (left .0)))
-        (now ids) (now lens) (sent .0))
-        × ((sent .0 < 2 ^ 63) × (isL event ≡ false)) ⌝ }
-    ensures { λ r. ⌜
-        (let before = memory
-        (boardNow (now (numbers .entry)) (now (shares .entry)) (now (starts .entry)) (now (counts .entry))
-        (now (deficits .entry)) (now (ready .entry)) (now (next .entry))
-        (now (heads .entry)) (now (tails .entry)) (now (held .entry))
-        largest (numbersNow clock active pending slot (left .0)))
-        (now (ids .entry)) (now (lens .entry)) (sent .0) in
-        let after = memory
+        (now ids) (now lens) (sent .0) ≡ before ⌝ }
+    requires { λ before. ⌜ KnownMemory before × ((sent .0 < 2 ^ 63) × (isL event ≡ false)) ⌝ }
+    ensures { λ before r. ⌜
+        (let after = memory
         (boardNow (now (numbers .exit)) (now (shares .exit)) (now (starts .exit)) (now (counts .exit))
         (now (deficits .exit)) (now (ready .exit)) (now (next .exit))
         (now (heads .exit)) (now (tails .exit)) (now (held .exit))

@@ -6,7 +6,7 @@ use Rattle.log.specs.declared.Event.{Event}
 use Rattle.taking.proofs.Answers.{record-needs}
 use Rattle.blocks.proofs.Answers.{close-needs}
 use Rattle.log.specs.Format.{isL}
-use Rattle.fields.proofs.Fields.{open-plays, close-plays, rename-plays, record-plays, passed-plays}
+use Rattle.fields.proofs.Fields.{serve-needs, serve-plays, open-plays, close-plays, rename-plays, record-plays, passed-plays}
 use borrow.Author.Needs.{needs}
 use Rattle.fields.proofs.play_field.Statement.{statement}
 use Rattle.fields.proofs.play_field.Tie as tie
@@ -24,7 +24,7 @@ enum-known-event-2 : tie.Need-enum-known-event-2
 enum-known-event-2 c = search needs
 
 close-in-requires : tie.Need-close-in-requires
-close-in-requires c κs = close-needs _ _ _ (c .before .before .before .before .before .before .before .before .before .before .pre .0)
+close-in-requires c κs = search close-needs
 
 put-close-requires : tie.Need-put-close-requires
 put-close-requires c κs = search needs
@@ -42,7 +42,7 @@ enum-known-event-4 : tie.Need-enum-known-event-4
 enum-known-event-4 c = search needs
 
 record-in-requires : tie.Need-record-in-requires
-record-in-requires c κs = record-needs _ _ _ (c .before .before .before .before .before .before .before .before .before .before .before .before .before .before .before .pre .0)
+record-in-requires c κs = search record-needs
 
 put-in-requires : tie.Need-put-in-requires
 put-in-requires c κs = search needs
@@ -51,7 +51,9 @@ enum-told : tie.Need-enum-told
 enum-told c = search needs
 
 play-serve-requires : tie.Need-play-serve-requires
-play-serve-requires c κs = search needs
+play-serve-requires c κs =
+    let start = c .before .before .before .before .before .before .before .before .before .before .before .before .before .before .before .before .before in
+    serve-needs _ (start .pre .0) (start .pre .1 .0)
 
 same-length : tie.Need-same-length
 same-length c = search needs
@@ -60,7 +62,7 @@ same-length-2 : tie.Need-same-length-2
 same-length-2 c = search needs
 
 returns : tie.Need-returns
-returns c = rw (c .before .before .before .before .before .before .before .before .before .before .before .before .before .before .enum-told .given .1) (c .play-serve .ensures)
+returns c = serve-plays _ (search needs) _ _ _ _ (search needs) _ _ (c .play-serve .ensures)
 
 enum-told-2 : tie.Need-enum-told-2
 enum-told-2 c = search needs
@@ -69,13 +71,13 @@ enum-told-3 : tie.Need-enum-told-3
 enum-told-3 c = search needs
 
 returns-2 : tie.Need-returns-2
-returns-2 c = rw (c .before .before .before .before .before .before .before .event .given .1) (open-plays _ (c .before .before .before .before .before .before .before .before .before .before .before .pre .0) _ _ _ (c .put-open .ensures .1) _ _ (c .before .before .open-in .ensures _) (c .put-open .ensures .0))
+returns-2 c = open-plays _ (search needs) _ _ _ _ _ (search needs) _ (c .before .before .open-in .ensures _) (c .put-open .ensures)
 
 returns-3 : tie.Need-returns-3
-returns-3 c = rw (c .before .before .before .before .before .before .before .before .before .event2 .given .1) (close-plays _ (c .before .before .before .before .before .before .before .before .before .before .before .before .before .pre .0) _ _ _ (c .put-close .ensures .1) _ _ (c .before .before .close-in .ensures) (c .put-close .ensures .0))
+returns-3 c = close-plays _ (search needs) _ _ _ _ _ (search needs) _ (c .before .before .close-in .ensures) (c .put-close .ensures)
 
 returns-4 : tie.Need-returns-4
-returns-4 c = rw (c .before .before .before .before .before .event3 .given .1) (rename-plays _ (c .before .before .before .before .before .before .before .before .before .pre .0) _ _ _ (c .put-name .ensures .1) _ _ _ (c .before .before .rename-in .ensures) (c .put-name .ensures .0))
+returns-4 c = rename-plays _ (search needs) _ _ _ _ _ _ (search needs) _ (c .before .before .rename-in .ensures) (c .put-name .ensures)
 
 same-length-3 : tie.Need-same-length-3
 same-length-3 c = search needs
@@ -84,10 +86,12 @@ same-length-4 : tie.Need-same-length-4
 same-length-4 c = search needs
 
 returns-5 : tie.Need-returns-5
-returns-5 c = rw (c .before .before .before .before .before .before .before .before .before .before .before .before .before .before .before .before .before .before .event4 .given .1) (record-plays _ (c .before .before .before .before .before .before .before .before .before .before .before .before .before .before .before .before .before .before .before .before .before .before .pre .0) _ _ _ (c .put-in .ensures .1) _ _ _ _ (c .before .before .before .before .before .before .record-in .ensures) (c .put-in .ensures .0))
+returns-5 c =
+    record-plays _ (search needs) _ _ _ _ _ _ _ (search needs) _
+    (c .before .before .before .before .before .before .record-in .ensures) (c .put-in .ensures)
 
 returns-6 : tie.Need-returns-6
-returns-6 c = rw (c .enum-told2 .given .1) (passed-plays _ (c .before .before .before .before .pre .0) _ _ _ (omega arith) refl refl)
+returns-6 c = passed-plays _ (search needs) _ _ _ _ (search needs) refl refl
 
 returns-7 : tie.Need-returns-7
 returns-7 c = absurd (true≢false (subst (λ (e : Event). isL e ≡ false) (c .enum-told3 .given .1) (c .before .before .before .before .pre .1 .1)))

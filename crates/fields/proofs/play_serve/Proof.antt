@@ -1,44 +1,34 @@
 -- `fields::play_serve` meets its contract. A serve is one with room for a record and bytes for any. Assumes nothing.
-use Rattle.fields.specs.Fields.{memory}
-use mathlib.Core.List.{[]}
 use native.Mathlib.Omega.{arith}
-use Rattle.serving.proofs.Known.{can-known, sent-index}
-use Rattle.fields.proofs.Fields.{serve-small, serve-plays}
+use borrow.Author.Needs.{needs}
+use Rattle.fields.proofs.Fields.{inside, serve-shows}
 use Rattle.fields.proofs.play_serve.Statement.{statement}
 use Rattle.fields.proofs.play_serve.Tie as tie
 
+abbrev start-of : tie.After-serve-within → tie.Start
+start-of c = c .before .before .before .before .before .before .before .before .before .before .before
+
 serve-within-requires : tie.Need-serve-within-requires
-serve-within-requires c κs = can-known _ _ _ (c .before .before .before .before .before .before .before .before .before .before .pre .0)
+serve-within-requires c κs = search needs
 
 show-serve-requires : tie.Need-show-serve-requires
-show-serve-requires c κs = (
-  c .before .before .before .before .before .before .before .before .before .before .before .before .pre .0 .ids-all,
-  (
-    c .before .before .before .before .before .before .before .before .before .before .before .before .pre .0 .lens-all,
-    sent-index _ _ _
-        (c .before .before .before .before .before .before .before .before .before .before .before .before .pre .0) _ _ _
-        (c .before .serve-within .ensures),
-  ),
-)
+show-serve-requires c κs =
+    let at-serve = c .before in
+    let asked = start-of at-serve .pre in
+    let sent = inside _ _ _ _ _ _ (asked .serves) _ (at-serve .serve-within .ensures) in
+    (asked .ids-all, (asked .lens-all, λ z. (sent .place, sent .entry)))
 
 add-total : tie.Need-add-total
 add-total c =
-    omega (
-      arith,
-      serve-small (memory _ _ _ 0)
-          (c .before .before .before .before .before .before .before .before .before .before .before .before .before .before .before .before .before .pre .0)
-          [] 0 [] (omega arith) _
-          (c .before .before .before .before .before .before .serve-within .ensures),
-      c .before .before .before .before .before .before .before .before .before .before .before .before .before .before .before .before .before .pre .1,
-    )
+    let at-serve = c .before .before .before .before .before .before in
+    let asked = start-of at-serve .pre in
+    omega (arith, inside _ _ _ _ _ _ (asked .serves) _ (at-serve .serve-within .ensures) .few, asked .few)
 
 returns : tie.Need-returns
 returns c =
-    serve-plays _
-    (c .before .before .before .before .before .before .before .before .before .before .before .before .before .before .before .before .before .pre .0) _ _ _
-    (c .before .before .before .before .show-serve .ensures .1) _
-    (c .before .before .before .before .before .before .serve-within .ensures)
-    (c .before .before .before .before .show-serve .ensures .0)
+    let at-show = c .before .before .before .before in
+    let at-serve = at-show .before .before in
+    serve-shows _ _ _ _ _ _ (at-serve .serve-within .ensures) _ _ _ (at-show .show-serve .ensures)
 
 pub play-serve-spec : {M : Type 1} → statement M
 play-serve-spec = tie.close (tie.spec serve-within-requires show-serve-requires add-total returns)
