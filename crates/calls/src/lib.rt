@@ -8,6 +8,7 @@ ghost use Rattle.calls.specs.Contract.{goodServe, burstNow, goodBurst, c
 ghost use Rattle.calls.specs.Promises.{called, made};
 ghost use Rattle.spoilt.specs.Early.{earlyCode};
 ghost use Rattle.board.specs.Leaving.{returned, Known, ruled};
+use board::After;
 use board::Board;
 use board::Reply;
 use numbers::CLASSES;
@@ -177,22 +178,30 @@ fn rebuilt(
 ) -> Board
     ensures { λ r. ⌜ r ≡ withEngine b (engineAfter (withinNow s starts counts deficits ready next heads tails held)) ⌝ }
 {
-    let mut n = b;
-    n.starts = starts;
-    n.counts = counts;
-    n.deficits = deficits;
-    n.ready = ready;
-    n.next = next;
-    n.heads = heads;
-    n.tails = tails;
-    n.held = held;
-    n.clock = s.clock;
-    n.active = s.active;
-    n.pending = s.pending;
-    n.slot = s.slot;
+    let numbers = b.numbers;
+    let shares = b.shares;
     let left = s.left;
-    n.left = left;
-    n
+    let now = After {
+        clock: s.clock,
+        active: s.active,
+        pending: s.pending,
+        slot: s.slot,
+        left: left,
+    };
+    board::packed(
+        numbers,
+        shares,
+        starts,
+        counts,
+        deficits,
+        ready,
+        next,
+        heads,
+        tails,
+        held,
+        b.largest,
+        now,
+    )
 }
 
 // One serve: it needs room for one record and bytes for any.
@@ -425,25 +434,25 @@ pub fn make(ids: &mut [u32], lens: &mut [u16], largest: u32) -> Reply
     if ids.len() != TABLE_ENTRIES {
         return Reply {
             code: codes::TABLE_LENGTH,
-            board: blocks::blank(0),
+            board: board::blank(0),
         };
     }
     if lens.len() != TABLE_ENTRIES {
         return Reply {
             code: codes::TABLE_LENGTH,
-            board: blocks::blank(0),
+            board: board::blank(0),
         };
     }
     if largest < LEAST_LARGEST {
         return Reply {
             code: codes::OUT_OF_RANGE,
-            board: blocks::blank(0),
+            board: board::blank(0),
         };
     }
     if GREATEST_LARGEST < largest {
         return Reply {
             code: codes::OUT_OF_RANGE,
-            board: blocks::blank(0),
+            board: board::blank(0),
         };
     }
     Reply {

@@ -8,6 +8,7 @@ ghost use Rattle.log.specs.Format.{pastL};
 ghost use Rattle.lines.specs.Text.{Written};
 ghost use Rattle.arrays.specs.Lists.{totalOf};
 ghost use Rattle.player.specs.Pieces.{beforeFirst, pieceCode, CanGoOn, endedPiece, PieceDone, PieceOf};
+use board::After;
 use board::Board;
 use lines::LINE_ROOM;
 use log::Event;
@@ -131,24 +132,27 @@ fn next_piece(log: &[u8], ids: &mut [u32], lens: &mut [u16], out: &mut [u8], s: 
     let mut line = [0u8; LINE_ROOM];
     loop {
         if out.len() - used < LINE_ROOM {
-            let board = Board {
-                numbers: numbers,
-                shares: shares,
-                deficits: deficits,
-                starts: starts,
-                counts: counts,
-                ready: ready,
-                next: next,
-                heads: heads,
-                tails: tails,
-                held: held,
-                largest: b.largest,
+            let now = After {
                 clock: clock,
                 active: active,
                 pending: pending,
                 slot: slot,
                 left: left,
             };
+            let board = board::packed(
+                numbers,
+                shares,
+                starts,
+                counts,
+                deficits,
+                ready,
+                next,
+                heads,
+                tails,
+                held,
+                b.largest,
+                now,
+            );
             return Piece {
                 code: codes::DONE,
                 used: used,
@@ -283,6 +287,6 @@ pub fn begin() -> State
         stage: Stage::BeforeL,
         at: 0,
         sent: Bytes(0),
-        board: blocks::blank(0),
+        board: board::blank(0),
     }
 }

@@ -34,26 +34,32 @@ loop-holds c =
 sub-if1 : tie.Need-sub-if1 Inv-loop μ-loop
 sub-if1 c = omega (arith, c .loop .inv .fits, c .loop .inv .same)
 
+packed-requires : tie.Need-packed-requires Inv-loop μ-loop
+packed-requires c κs = search needs
+
 same-length : tie.Need-same-length Inv-loop μ-loop
 same-length c =
-    let at-loop = c .before in
+    let at-loop = c .before .before in
     let start = at-loop .before .before .before .before .before .before .before .before .before .before .before .before .before .before .before .before .before .before in
     at-loop .loop .inv .good .ids-all ∙ sym (start .pre .good .ids-all)
 
 same-length-2 : tie.Need-same-length-2 Inv-loop μ-loop
 same-length-2 c =
-    let at-loop = c .before in
+    let at-loop = c .before .before in
     let start = at-loop .before .before .before .before .before .before .before .before .before .before .before .before .before .before .before .before .before .before in
     at-loop .loop .inv .good .lens-all ∙ sym (start .pre .good .lens-all)
 
 same-length-3 : tie.Need-same-length-3 Inv-loop μ-loop
-same-length-3 c = c .before .loop .inv .same
+same-length-3 c = c .before .before .loop .inv .same
 
 returns : tie.Need-returns Inv-loop μ-loop
 returns c =
-    let at-loop = c .before in
+    let at-if1 = c .before in
+    let at-loop = at-if1 .before in
     let start = at-loop .before .before .before .before .before .before .before .before .before .before .before .before .before .before .before .before .before .before in
-    under-more _ _ _ _ _ _ _ _ _ (at-loop .loop .inv) _ _ _ (left-is _ (start .pre .past) _ _ _) (long-anywhere _ _ _ _ _ ∙ start .pre .short) (read-is (start .args .s) (start .pre .past)) (c .if1 .taken)
+    let short = long-anywhere _ _ _ _ _ ∙ start .pre .short in
+    rw (c .packed .ensures) (under-more _ _ _ _ _ _ _ _ _ (at-loop .loop .inv) _ _ _ (left-is _ (start .pre .past) _ _ _) short
+    (read-is (start .args .s) (start .pre .past)) (at-if1 .if1 .taken))
 
 next-at-requires : tie.Need-next-at-requires Inv-loop μ-loop
 next-at-requires c κs = search needs
@@ -165,6 +171,7 @@ next-piece-spec =
     μ-loop
     loop-holds
     sub-if1
+    packed-requires
     same-length
     same-length-2
     same-length-3
