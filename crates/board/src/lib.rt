@@ -1,7 +1,7 @@
 // The board in memory: one value with the sixty-four places and the seventeen class orders, and how it spells a board of the rules.
 ghost use mathlib.Core.Path.{_≡_};
 ghost use Rattle.rules.specs.Board.{fresh};
-ghost use Rattle.board.specs.Memory.{boardNow};
+ghost use Rattle.board.specs.Memory.{numbersOf, boardNow};
 ghost use Rattle.board.specs.Reading.{encode};
 use numbers::CLASSES;
 use numbers::NO_LINK;
@@ -42,6 +42,20 @@ pub struct After {
 pub struct Reply {
     pub code: u8,
     pub board: Board,
+}
+
+// The numbers of a board that serving changes.
+pub fn numbers_of(b: Board) -> After
+    ensures { λ r. ⌜ r ≡ numbersOf b ⌝ }
+{
+    let left = b.left;
+    After {
+        clock: b.clock,
+        active: b.active,
+        pending: b.pending,
+        slot: b.slot,
+        left: left,
+    }
 }
 
 // The board whose arrays and numbers these are: no other code names all fields.

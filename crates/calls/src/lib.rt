@@ -2,23 +2,17 @@
 ghost use mathlib.Core.Path.{_≡_};
 ghost use Rattle.rules.specs.Blocks.{meant};
 ghost use Rattle.rules.specs.Calls.{open!, rename!, close!, record! };
-ghost use Rattle.board.specs.Memory.{withEngine};
-ghost use Rattle.serving.specs.Serving.{withinNow, engineAfter};
 ghost use Rattle.calls.specs.Contract.{goodServe, burstNow, goodBurst, calledServe, calledBurst};
 ghost use Rattle.calls.specs.Promises.{called, made};
 ghost use Rattle.spoilt.specs.Early.{earlyCode};
 ghost use Rattle.board.specs.Leaving.{returned, Known, ruled};
-use board::After;
 use board::Board;
 use board::Reply;
-use numbers::CLASSES;
 use numbers::GREATEST_LARGEST;
 use numbers::LEAST_LARGEST;
-use numbers::PLACES;
 use numbers::TABLE_ENTRIES;
 use numbers::codes;
 use operands::Opening;
-use serving::Step;
 use units::Bytes;
 
 // The answer of a serve: its code; the block that is served, the number and the length of the record sent, and the slot's clock.
@@ -163,47 +157,6 @@ fn close_block(ids: &[u32], lens: &[u16], block: u32, b: Board) -> Reply
     }
 }
 
-// The board that a step of serving leaves.
-fn rebuilt(
-    starts: [u16; PLACES],
-    counts: [u16; PLACES],
-    deficits: [u64; PLACES],
-    ready: [u64; PLACES],
-    next: [u8; PLACES],
-    heads: [u8; CLASSES],
-    tails: [u8; CLASSES],
-    held: [u32; CLASSES],
-    s: Step,
-    b: Board,
-) -> Board
-    ensures { λ r. ⌜ r ≡ withEngine b (engineAfter (withinNow s starts counts deficits ready next heads tails held)) ⌝ }
-{
-    let numbers = b.numbers;
-    let shares = b.shares;
-    let left = s.left;
-    let now = After {
-        clock: s.clock,
-        active: s.active,
-        pending: s.pending,
-        slot: s.slot,
-        left: left,
-    };
-    board::packed(
-        numbers,
-        shares,
-        starts,
-        counts,
-        deficits,
-        ready,
-        next,
-        heads,
-        tails,
-        held,
-        b.largest,
-        now,
-    )
-}
-
 // One serve: it needs room for one record and bytes for any.
 fn serve_board(ids: &[u32], lens: &[u16], b: Board) -> Served
     requires { ⌜ Known b (now ids) (now lens) ⌝ }
@@ -251,7 +204,11 @@ fn serve_board(ids: &[u32], lens: &[u16], b: Board) -> Served
     }
     let place = s.place;
     let entry = s.entry;
-    let board = rebuilt(
+    let numbers = b.numbers;
+    let after = s.after;
+    let board = board::packed(
+        numbers,
+        shares,
         starts,
         counts,
         deficits,
@@ -260,8 +217,8 @@ fn serve_board(ids: &[u32], lens: &[u16], b: Board) -> Served
         heads,
         tails,
         held,
-        s,
-        b,
+        b.largest,
+        after,
     );
     Served {
         code: codes::DONE,
@@ -280,6 +237,7 @@ fn burst_board(bytes: Bytes, list: &mut [u32], ids: &[u32], lens: &[u16], b: Boa
         burstNow r (now (list .exit))
         ≡ goodBurst b (now (ids .entry)) (now (lens .entry)) (bytes .0) (now (list .entry)) ⌝ }
 {
+    let numbers = b.numbers;
     let shares = b.shares;
     let mut starts = b.starts;
     let mut counts = b.counts;
@@ -289,21 +247,18 @@ fn burst_board(bytes: Bytes, list: &mut [u32], ids: &[u32], lens: &[u16], b: Boa
     let mut heads = b.heads;
     let mut tails = b.tails;
     let mut held = b.held;
-    let mut clock = b.clock;
-    let mut active = b.active;
-    let mut pending = b.pending;
-    let mut slot = b.slot;
-    let mut left = b.left;
+    let mut now = board::numbers_of(b);
     let mut count: usize = 0;
     let mut total = Bytes(0);
     loop {
+        let left = now.left;
         let s = serving::serve_within(
             Bytes(bytes.0 - total.0),
             list.len() - count,
-            clock,
-            active,
-            pending,
-            slot,
+            now.clock,
+            now.active,
+            now.pending,
+            now.slot,
             left,
             b.largest,
             &shares,
@@ -317,8 +272,11 @@ fn burst_board(bytes: Bytes, list: &mut [u32], ids: &[u32], lens: &[u16], b: Boa
             &mut held,
             lens,
         );
+        let after = s.after;
         if s.code != codes::DONE {
-            let board = rebuilt(
+            let board = board::packed(
+                numbers,
+                shares,
                 starts,
                 counts,
                 deficits,
@@ -327,8 +285,8 @@ fn burst_board(bytes: Bytes, list: &mut [u32], ids: &[u32], lens: &[u16], b: Boa
                 heads,
                 tails,
                 held,
-                s,
-                b,
+                b.largest,
+                after,
             );
             return Bursted {
                 count: count,
@@ -337,12 +295,7 @@ fn burst_board(bytes: Bytes, list: &mut [u32], ids: &[u32], lens: &[u16], b: Boa
                 board: board,
             };
         }
-        clock = s.clock;
-        active = s.active;
-        pending = s.pending;
-        slot = s.slot;
-        let rest = s.left;
-        left = rest;
+        now = after;
         let charge = s.bytes;
         total = Bytes(total.0 + charge.0);
         let at = count;

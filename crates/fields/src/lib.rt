@@ -10,6 +10,7 @@ ghost use Rattle.lines.specs.Text.{Line};
 ghost use Rattle.plays.specs.Listing.{lastOf};
 ghost use Rattle.board.specs.Memory.{numbersNow, boardNow};
 ghost use Rattle.fields.specs.Fields.{memory, KnownMemory, FieldPlayed, shownLine};
+use board::After;
 use lines::LINE_ROOM;
 use log::End;
 use log::Event;
@@ -23,11 +24,7 @@ use units::Parts;
 pub struct Moved {
     pub shown: usize,
     pub sent: Bytes,
-    pub clock: u64,
-    pub active: u32,
-    pub pending: u32,
-    pub slot: u8,
-    pub left: Parts,
+    pub after: After,
 }
 
 // The line of a serve: what was sent, or the code of a refusal.
@@ -99,7 +96,7 @@ fn play_serve(
         (boardNow (now (numbers .entry)) (now (shares .entry)) (now (starts .exit)) (now (counts .exit))
         (now (deficits .exit)) (now (ready .exit)) (now (next .exit))
         (now (heads .exit)) (now (tails .exit)) (now (held .exit))
-        largest (numbersNow (r .clock) (r .active) (r .pending) (r .slot) (r .left .0)))
+        largest (r .after))
         (now (ids .entry)) (now (lens .entry)) (r .sent .0) in
         FieldPlayed before Serve after (now (line .entry)) (r .shown) (now (line .exit))) ⌝ }
 {
@@ -134,16 +131,12 @@ fn play_serve(
         line,
     );
     let charge = s.bytes;
-    let rest = s.left;
+    let after = s.after;
     let total = sent.0 + charge.0;
     Moved {
         shown: shown,
         sent: Bytes(total),
-        clock: s.clock,
-        active: s.active,
-        pending: s.pending,
-        slot: s.slot,
-        left: rest,
+        after: after,
     }
 }
 
@@ -190,7 +183,7 @@ pub fn play_field(
         (boardNow (now (numbers .exit)) (now (shares .exit)) (now (starts .exit)) (now (counts .exit))
         (now (deficits .exit)) (now (ready .exit)) (now (next .exit))
         (now (heads .exit)) (now (tails .exit)) (now (held .exit))
-        largest (numbersNow (r .clock) (r .active) (r .pending) (r .slot) (r .left .0)))
+        largest (r .after))
         (now (ids .exit)) (now (lens .exit)) (r .sent .0) in
         FieldPlayed before event after (now (line .entry)) (r .shown) (now (line .exit))) ⌝ }
 {
@@ -262,11 +255,13 @@ pub fn play_field(
     Moved {
         shown: shown,
         sent: sent,
-        clock: clock,
-        active: set,
-        pending: pending,
-        slot: slot,
-        left: left,
+        after: After {
+            clock: clock,
+            active: set,
+            pending: pending,
+            slot: slot,
+            left: left,
+        },
     }
 }
 

@@ -8,7 +8,6 @@ ghost use Rattle.log.specs.Format.{pastL};
 ghost use Rattle.lines.specs.Text.{Written};
 ghost use Rattle.arrays.specs.Lists.{totalOf};
 ghost use Rattle.player.specs.Pieces.{beforeFirst, pieceCode, CanGoOn, endedPiece, PieceDone, PieceOf};
-use board::After;
 use board::Board;
 use lines::LINE_ROOM;
 use log::Event;
@@ -120,11 +119,7 @@ fn next_piece(log: &[u8], ids: &mut [u32], lens: &mut [u16], out: &mut [u8], s: 
     let mut heads = b.heads;
     let mut tails = b.tails;
     let mut held = b.held;
-    let mut clock = b.clock;
-    let mut active = b.active;
-    let mut pending = b.pending;
-    let mut slot = b.slot;
-    let mut left = b.left;
+    let mut now = board::numbers_of(b);
     let mut stage = s.stage;
     let mut at = s.at;
     let mut sent = s.sent;
@@ -132,13 +127,6 @@ fn next_piece(log: &[u8], ids: &mut [u32], lens: &mut [u16], out: &mut [u8], s: 
     let mut line = [0u8; LINE_ROOM];
     loop {
         if out.len() - used < LINE_ROOM {
-            let now = After {
-                clock: clock,
-                active: active,
-                pending: pending,
-                slot: slot,
-                left: left,
-            };
             let board = board::packed(
                 numbers,
                 shares,
@@ -168,19 +156,20 @@ fn next_piece(log: &[u8], ids: &mut [u32], lens: &mut [u16], out: &mut [u8], s: 
         let here = log::next_at(log, at, stage);
         match here {
             Next::Ends(end) => {
-                let count = fields::show_end(end, clock, sent, waiting(&counts), &mut line);
+                let count = fields::show_end(end, now.clock, sent, waiting(&counts), &mut line);
                 let last = append(out, used, &line, count);
                 return last_piece(last, s);
             }
             Next::GoesOn(event, on) => {
+                let left = now.left;
                 let moved = fields::play_field(
                     event,
                     sent,
                     b.largest,
-                    clock,
-                    active,
-                    pending,
-                    slot,
+                    now.clock,
+                    now.active,
+                    now.pending,
+                    now.slot,
                     left,
                     &mut numbers,
                     &mut shares,
@@ -201,12 +190,8 @@ fn next_piece(log: &[u8], ids: &mut [u32], lens: &mut [u16], out: &mut [u8], s: 
                 at = on;
                 let total = moved.sent;
                 sent = total;
-                clock = moved.clock;
-                active = moved.active;
-                pending = moved.pending;
-                slot = moved.slot;
-                let rest = moved.left;
-                left = rest;
+                let after = moved.after;
+                now = after;
             }
         }
     }
