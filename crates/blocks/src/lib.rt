@@ -1,10 +1,9 @@
-// Blocks: a fresh board, and a block that is renamed, opened or closed. Arrays are lent one by one, so that no board is copied.
+// Blocks: a board made with both tables cleared, and a block that is renamed, opened or closed. Arrays are lent one by
+// one, so that no board is copied.
 ghost use mathlib.Core.Path.{_≡_};
 ghost use Prim.Native.Nat.{ℕ, _+_, _-_, _*_, _^_, _<_, _≤_};
 ghost use mathlib.Core.List.{List};
 ghost use lib.ListN.{length, getD};
-ghost use Rattle.rules.specs.Board.{fresh};
-ghost use Rattle.board.specs.Reading.{encode};
 ghost use Rattle.board.specs.Memory.{blocksNow};
 ghost use Rattle.board.specs.Leaving.{returned};
 ghost use Rattle.blocks.specs.Blocks.{freshIn, renaming, renamedIn, answered, openedIn};
@@ -14,46 +13,13 @@ use finding::Found;
 use numbers::CLASSES;
 use numbers::GREATEST_SHARE;
 use numbers::NO_BLOCK;
-use numbers::NO_LINK;
 use numbers::NO_PLACE;
 use numbers::PLACES;
 use numbers::WHOLE_LINE;
 use numbers::codes;
 use operands::Opening;
-use units::Parts;
 
 // ---- making
-
-// The board of all zeros but for L.
-pub fn blank(largest: u32) -> Board
-    ensures { λ r. ⌜ r ≡ encode (fresh largest) ⌝ }
-{
-    let words = [0u32; PLACES];
-    let longs = [0u64; PLACES];
-    let rings = [0u16; PLACES];
-    let next = [0u8; PLACES];
-    let links = [0u8; CLASSES];
-    let held = [0u32; CLASSES];
-    let none = Parts(0);
-    Board {
-        numbers: words,
-        shares: words,
-        deficits: longs,
-        starts: rings,
-        counts: rings,
-        ready: longs,
-        next: next,
-        heads: links,
-        tails: links,
-        held: held,
-        largest: largest,
-        clock: 0,
-        active: 0,
-        pending: 0,
-        slot: NO_LINK,
-        left: none,
-    }
-}
 
 // A board is made, and both tables are cleared.
 pub fn make_in(ids: &mut [u32], lens: &mut [u16], largest: u32) -> Board
@@ -63,7 +29,7 @@ pub fn make_in(ids: &mut [u32], lens: &mut [u16], largest: u32) -> Board
 {
     arrays::clear_words(ids);
     arrays::clear_shorts(lens);
-    blank(largest)
+    board::blank(largest)
 }
 
 // ---- renaming, opening, closing

@@ -1,5 +1,10 @@
 // The board in memory: one value with the sixty-four places and the seventeen class orders, and how it spells a board of the rules.
+ghost use mathlib.Core.Path.{_≡_};
+ghost use Rattle.rules.specs.Board.{fresh};
+ghost use Rattle.board.specs.Memory.{numbersOf, boardNow};
+ghost use Rattle.board.specs.Reading.{encode};
 use numbers::CLASSES;
+use numbers::NO_LINK;
 use numbers::PLACES;
 use units::Parts;
 
@@ -37,4 +42,89 @@ pub struct After {
 pub struct Reply {
     pub code: u8,
     pub board: Board,
+}
+
+// The numbers of a board that serving changes.
+pub fn numbers_of(b: Board) -> After
+    ensures { λ r. ⌜ r ≡ numbersOf b ⌝ }
+{
+    let left = b.left;
+    After {
+        clock: b.clock,
+        active: b.active,
+        pending: b.pending,
+        slot: b.slot,
+        left: left,
+    }
+}
+
+// The board whose arrays and numbers these are: no other code names all fields.
+pub fn packed(
+    numbers: [u32; PLACES],
+    shares: [u32; PLACES],
+    starts: [u16; PLACES],
+    counts: [u16; PLACES],
+    deficits: [u64; PLACES],
+    ready: [u64; PLACES],
+    next: [u8; PLACES],
+    heads: [u8; CLASSES],
+    tails: [u8; CLASSES],
+    held: [u32; CLASSES],
+    largest: u32,
+    now: After,
+) -> Board
+    ensures { λ r. ⌜ r ≡ boardNow numbers shares starts counts deficits ready next heads tails held largest now ⌝ }
+{
+    let left = now.left;
+    Board {
+        numbers: numbers,
+        shares: shares,
+        deficits: deficits,
+        starts: starts,
+        counts: counts,
+        ready: ready,
+        next: next,
+        heads: heads,
+        tails: tails,
+        held: held,
+        largest: largest,
+        clock: now.clock,
+        active: now.active,
+        pending: now.pending,
+        slot: now.slot,
+        left: left,
+    }
+}
+
+// The board of all zeros but for L.
+pub fn blank(largest: u32) -> Board
+    ensures { λ r. ⌜ r ≡ encode (fresh largest) ⌝ }
+{
+    let words = [0u32; PLACES];
+    let shorts = [0u16; PLACES];
+    let longs = [0u64; PLACES];
+    let next = [0u8; PLACES];
+    let links = [0u8; CLASSES];
+    let held = [0u32; CLASSES];
+    let none = After {
+        clock: 0,
+        active: 0,
+        pending: 0,
+        slot: NO_LINK,
+        left: Parts(0),
+    };
+    packed(
+        words,
+        words,
+        shorts,
+        shorts,
+        longs,
+        longs,
+        next,
+        links,
+        links,
+        held,
+        largest,
+        none,
+    )
 }

@@ -2,22 +2,17 @@
 ghost use mathlib.Core.Path.{_≡_};
 ghost use Rattle.rules.specs.Blocks.{meant};
 ghost use Rattle.rules.specs.Calls.{open!, rename!, close!, record! };
-ghost use Rattle.board.specs.Memory.{withEngine};
-ghost use Rattle.serving.specs.Serving.{withinNow, engineAfter};
 ghost use Rattle.calls.specs.Contract.{goodServe, burstNow, goodBurst, calledServe, calledBurst};
 ghost use Rattle.calls.specs.Promises.{called, made};
 ghost use Rattle.spoilt.specs.Early.{earlyCode};
 ghost use Rattle.board.specs.Leaving.{returned, Known, ruled};
 use board::Board;
 use board::Reply;
-use numbers::CLASSES;
 use numbers::GREATEST_LARGEST;
 use numbers::LEAST_LARGEST;
-use numbers::PLACES;
 use numbers::TABLE_ENTRIES;
 use numbers::codes;
 use operands::Opening;
-use serving::Step;
 use units::Bytes;
 
 // The answer of a serve: its code; the block that is served, the number and the length of the record sent, and the slot's clock.
@@ -162,39 +157,6 @@ fn close_block(ids: &[u32], lens: &[u16], block: u32, b: Board) -> Reply
     }
 }
 
-// The board that a step of serving leaves.
-fn rebuilt(
-    starts: [u16; PLACES],
-    counts: [u16; PLACES],
-    deficits: [u64; PLACES],
-    ready: [u64; PLACES],
-    next: [u8; PLACES],
-    heads: [u8; CLASSES],
-    tails: [u8; CLASSES],
-    held: [u32; CLASSES],
-    s: Step,
-    b: Board,
-) -> Board
-    ensures { λ r. ⌜ r ≡ withEngine b (engineAfter (withinNow s starts counts deficits ready next heads tails held)) ⌝ }
-{
-    let mut n = b;
-    n.starts = starts;
-    n.counts = counts;
-    n.deficits = deficits;
-    n.ready = ready;
-    n.next = next;
-    n.heads = heads;
-    n.tails = tails;
-    n.held = held;
-    n.clock = s.clock;
-    n.active = s.active;
-    n.pending = s.pending;
-    n.slot = s.slot;
-    let left = s.left;
-    n.left = left;
-    n
-}
-
 // One serve: it needs room for one record and bytes for any.
 fn serve_board(ids: &[u32], lens: &[u16], b: Board) -> Served
     requires { ⌜ Known b (now ids) (now lens) ⌝ }
@@ -242,7 +204,11 @@ fn serve_board(ids: &[u32], lens: &[u16], b: Board) -> Served
     }
     let place = s.place;
     let entry = s.entry;
-    let board = rebuilt(
+    let numbers = b.numbers;
+    let after = s.after;
+    let board = board::packed(
+        numbers,
+        shares,
         starts,
         counts,
         deficits,
@@ -251,8 +217,8 @@ fn serve_board(ids: &[u32], lens: &[u16], b: Board) -> Served
         heads,
         tails,
         held,
-        s,
-        b,
+        b.largest,
+        after,
     );
     Served {
         code: codes::DONE,
@@ -271,6 +237,7 @@ fn burst_board(bytes: Bytes, list: &mut [u32], ids: &[u32], lens: &[u16], b: Boa
         burstNow r (now (list .exit))
         ≡ goodBurst b (now (ids .entry)) (now (lens .entry)) (bytes .0) (now (list .entry)) ⌝ }
 {
+    let numbers = b.numbers;
     let shares = b.shares;
     let mut starts = b.starts;
     let mut counts = b.counts;
@@ -280,21 +247,18 @@ fn burst_board(bytes: Bytes, list: &mut [u32], ids: &[u32], lens: &[u16], b: Boa
     let mut heads = b.heads;
     let mut tails = b.tails;
     let mut held = b.held;
-    let mut clock = b.clock;
-    let mut active = b.active;
-    let mut pending = b.pending;
-    let mut slot = b.slot;
-    let mut left = b.left;
+    let mut now = board::numbers_of(b);
     let mut count: usize = 0;
     let mut total = Bytes(0);
     loop {
+        let left = now.left;
         let s = serving::serve_within(
             Bytes(bytes.0 - total.0),
             list.len() - count,
-            clock,
-            active,
-            pending,
-            slot,
+            now.clock,
+            now.active,
+            now.pending,
+            now.slot,
             left,
             b.largest,
             &shares,
@@ -308,8 +272,11 @@ fn burst_board(bytes: Bytes, list: &mut [u32], ids: &[u32], lens: &[u16], b: Boa
             &mut held,
             lens,
         );
+        let after = s.after;
         if s.code != codes::DONE {
-            let board = rebuilt(
+            let board = board::packed(
+                numbers,
+                shares,
                 starts,
                 counts,
                 deficits,
@@ -318,8 +285,8 @@ fn burst_board(bytes: Bytes, list: &mut [u32], ids: &[u32], lens: &[u16], b: Boa
                 heads,
                 tails,
                 held,
-                s,
-                b,
+                b.largest,
+                after,
             );
             return Bursted {
                 count: count,
@@ -328,12 +295,7 @@ fn burst_board(bytes: Bytes, list: &mut [u32], ids: &[u32], lens: &[u16], b: Boa
                 board: board,
             };
         }
-        clock = s.clock;
-        active = s.active;
-        pending = s.pending;
-        slot = s.slot;
-        let rest = s.left;
-        left = rest;
+        now = after;
         let charge = s.bytes;
         total = Bytes(total.0 + charge.0);
         let at = count;
@@ -425,25 +387,25 @@ pub fn make(ids: &mut [u32], lens: &mut [u16], largest: u32) -> Reply
     if ids.len() != TABLE_ENTRIES {
         return Reply {
             code: codes::TABLE_LENGTH,
-            board: blocks::blank(0),
+            board: board::blank(0),
         };
     }
     if lens.len() != TABLE_ENTRIES {
         return Reply {
             code: codes::TABLE_LENGTH,
-            board: blocks::blank(0),
+            board: board::blank(0),
         };
     }
     if largest < LEAST_LARGEST {
         return Reply {
             code: codes::OUT_OF_RANGE,
-            board: blocks::blank(0),
+            board: board::blank(0),
         };
     }
     if GREATEST_LARGEST < largest {
         return Reply {
             code: codes::OUT_OF_RANGE,
-            board: blocks::blank(0),
+            board: board::blank(0),
         };
     }
     Reply {

@@ -11,6 +11,7 @@ ghost use Rattle.board.specs.Memory.{numbersNow, boardNow, Engine, engineNow};
 ghost use Rattle.serving.specs.Serving.{servedWithin};
 ghost use Rattle.fields.specs.Fields.{Memory, memory, KnownMemory, FieldPlayed};
 ghost use Rattle.fields.specs.Fields.{shownLine, ServeNeeds, ServeShown};
+use board::After;
 use lines::LINE_ROOM;
 use log::End;
 use log::Event;
@@ -24,11 +25,7 @@ use units::Parts;
 pub struct Moved {
     pub shown: usize,
     pub sent: Bytes,
-    pub clock: u64,
-    pub active: u32,
-    pub pending: u32,
-    pub slot: u8,
-    pub left: Parts,
+    pub after: After,
 }
 
 // The line of a serve: what was sent, or the code of a refusal.
@@ -92,7 +89,7 @@ fn play_serve(
         let after =
         engineNow (now (starts .exit)) (now (counts .exit)) (now (deficits .exit)) (now (ready .exit))
         (now (next .exit)) (now (heads .exit)) (now (tails .exit)) (now (held .exit))
-        (numbersNow (r .clock) (r .active) (r .pending) (r .slot) (r .left .0)) in
+        (r .after) in
         ServeShown (now (numbers .entry)) (now (ids .entry)) (now (lens .entry)) (sent .0) given
         after (r .sent .0) (now (line .entry)) (r .shown) (now (line .exit))) ⌝ }
 {
@@ -127,16 +124,12 @@ fn play_serve(
         line,
     );
     let charge = s.bytes;
-    let rest = s.left;
+    let after = s.after;
     let total = sent.0 + charge.0;
     Moved {
         shown: shown,
         sent: Bytes(total),
-        clock: s.clock,
-        active: s.active,
-        pending: s.pending,
-        slot: s.slot,
-        left: rest,
+        after: after,
     }
 }
 
@@ -179,7 +172,7 @@ pub fn play_field(
         (boardNow (now (numbers .exit)) (now (shares .exit)) (now (starts .exit)) (now (counts .exit))
         (now (deficits .exit)) (now (ready .exit)) (now (next .exit))
         (now (heads .exit)) (now (tails .exit)) (now (held .exit))
-        largest (numbersNow (r .clock) (r .active) (r .pending) (r .slot) (r .left .0)))
+        largest (r .after))
         (now (ids .exit)) (now (lens .exit)) (r .sent .0) in
         FieldPlayed before event after (now (line .entry)) (r .shown) (now (line .exit))) ⌝ }
 {
@@ -251,11 +244,13 @@ pub fn play_field(
     Moved {
         shown: shown,
         sent: sent,
-        clock: clock,
-        active: set,
-        pending: pending,
-        slot: slot,
-        left: left,
+        after: After {
+            clock: clock,
+            active: set,
+            pending: pending,
+            slot: slot,
+            left: left,
+        },
     }
 }
 

@@ -119,11 +119,7 @@ fn next_piece(log: &[u8], ids: &mut [u32], lens: &mut [u16], out: &mut [u8], s: 
     let mut heads = b.heads;
     let mut tails = b.tails;
     let mut held = b.held;
-    let mut clock = b.clock;
-    let mut active = b.active;
-    let mut pending = b.pending;
-    let mut slot = b.slot;
-    let mut left = b.left;
+    let mut now = board::numbers_of(b);
     let mut stage = s.stage;
     let mut at = s.at;
     let mut sent = s.sent;
@@ -131,24 +127,20 @@ fn next_piece(log: &[u8], ids: &mut [u32], lens: &mut [u16], out: &mut [u8], s: 
     let mut line = [0u8; LINE_ROOM];
     loop {
         if out.len() - used < LINE_ROOM {
-            let board = Board {
-                numbers: numbers,
-                shares: shares,
-                deficits: deficits,
-                starts: starts,
-                counts: counts,
-                ready: ready,
-                next: next,
-                heads: heads,
-                tails: tails,
-                held: held,
-                largest: b.largest,
-                clock: clock,
-                active: active,
-                pending: pending,
-                slot: slot,
-                left: left,
-            };
+            let board = board::packed(
+                numbers,
+                shares,
+                starts,
+                counts,
+                deficits,
+                ready,
+                next,
+                heads,
+                tails,
+                held,
+                b.largest,
+                now,
+            );
             return Piece {
                 code: codes::DONE,
                 used: used,
@@ -164,19 +156,20 @@ fn next_piece(log: &[u8], ids: &mut [u32], lens: &mut [u16], out: &mut [u8], s: 
         let here = log::next_at(log, at, stage);
         match here {
             Next::Ends(end) => {
-                let count = fields::show_end(end, clock, sent, waiting(&counts), &mut line);
+                let count = fields::show_end(end, now.clock, sent, waiting(&counts), &mut line);
                 let last = append(out, used, &line, count);
                 return last_piece(last, s);
             }
             Next::GoesOn(event, on) => {
+                let left = now.left;
                 let moved = fields::play_field(
                     event,
                     sent,
                     b.largest,
-                    clock,
-                    active,
-                    pending,
-                    slot,
+                    now.clock,
+                    now.active,
+                    now.pending,
+                    now.slot,
                     left,
                     &mut numbers,
                     &mut shares,
@@ -197,12 +190,8 @@ fn next_piece(log: &[u8], ids: &mut [u32], lens: &mut [u16], out: &mut [u8], s: 
                 at = on;
                 let total = moved.sent;
                 sent = total;
-                clock = moved.clock;
-                active = moved.active;
-                pending = moved.pending;
-                slot = moved.slot;
-                let rest = moved.left;
-                left = rest;
+                let after = moved.after;
+                now = after;
             }
         }
     }
@@ -283,6 +272,6 @@ pub fn begin() -> State
         stage: Stage::BeforeL,
         at: 0,
         sent: Bytes(0),
-        board: blocks::blank(0),
+        board: board::blank(0),
     }
 }

@@ -74,13 +74,7 @@ withinNow step starts counts deficits ready next heads tails held = record { ste
 
 -- the engine that it leaves
 abbrev pub engineAfter : Within → Engine
-engineAfter w =
-    record {
-      starts = w .starts;
-      counts = w .counts;
-      queues = w .queues;
-      now = record { clock = w .step .clock; active = w .step .active; pending = w .step .pending; slot = w .step .slot; left = w .step .left };
-    }
+engineAfter w = record { starts = w .starts; counts = w .counts; queues = w .queues; now = w .step .after }
 
 -- what a serve tells of the record sent: its place, its entry and its charge; the slot's clock, whether the slot began
 -- with it, and the parts lost
@@ -105,11 +99,7 @@ stepOf code t now =
       «slot_clock» = t .clock;
       began = t .began;
       lost = record { 0 = t .lost };
-      clock = now .clock;
-      active = now .active;
-      pending = now .pending;
-      slot = now .slot;
-      left = now .left;
+      after = now;
     }
 
 -- nothing is served

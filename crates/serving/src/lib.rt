@@ -34,11 +34,7 @@ pub struct Step {
     pub slot_clock: u64,
     pub began: bool,
     pub lost: Parts,
-    pub clock: u64,
-    pub active: u32,
-    pub pending: u32,
-    pub slot: u8,
-    pub left: Parts,
+    pub after: After,
 }
 
 // Rules 2 and 4: the front record of the open slot's block is sent, and the slot ends or stays open.
@@ -317,7 +313,6 @@ pub fn serve_within(
                 lens,
             );
             let after = sent.after;
-            let rest = after.left;
             let lost = sent.lost;
             Step {
                 code: codes::DONE,
@@ -327,11 +322,7 @@ pub fn serve_within(
                 slot_clock: time,
                 began: slot == NO_LINK,
                 lost: lost,
-                clock: after.clock,
-                active: after.active,
-                pending: after.pending,
-                slot: after.slot,
-                left: rest,
+                after: after,
             }
         }
     }
@@ -349,10 +340,12 @@ fn stay(code: u8, clock: u64, active: u32, pending: u32, slot: u8, left: Parts) 
         slot_clock: 0,
         began: false,
         lost: Parts(0),
-        clock: clock,
-        active: active,
-        pending: pending,
-        slot: slot,
-        left: left,
+        after: After {
+            clock: clock,
+            active: active,
+            pending: pending,
+            slot: slot,
+            left: left,
+        },
     }
 }

@@ -1,68 +1,140 @@
-use Rattle.serving.proofs.Known.{can-known, sent-index}
-use Rattle.calls.proofs.Promises.{burstFrom, burst-start, burst-stop, burst-on, on-room, on-fits, on-known}
-use Rattle.board.specs.Leaving.{Known}
-use Rattle.calls.specs.Contract.{goodBurst}
-use Rattle.board.specs.Memory.{engineNow, numbersNow, withEngine}
-use lib.ListN.{length, length-set}
-use borrow.Author.Needs.{needs, scaled-fits}
-use native.Mathlib.Omega.{arith}
-use Prim.Native.Nat.{_-_, _≤_}
+-- `calls::burst_board` meets its contract: what a burst gives from each round on is what it gives from the first. Assumes nothing.
 use mathlib.Core.Path.{_≡_, refl, sym, _∙_}
+use Prim.Native.Nat.{_-_, _≤_, _<_}
+use native.Mathlib.Omega.{arith}
+use lib.ListN.{length, length-set}
+use Rattle.board.specs.Leaving.{Known}
+use Rattle.board.specs.Memory.{engineNow, withEngine}
+use Rattle.serving.proofs.Known.{can-known, sent-index}
+use Rattle.calls.specs.Contract.{goodBurst}
+use Rattle.calls.proofs.Promises.{burstFrom, burst-start, burst-stop, burst-on, on-room, on-fits, on-known}
+use borrow.Author.Needs.{needs, scaled-fits}
 use Rattle.calls.proofs.burst_board.Statement.{statement}
 use Rattle.calls.proofs.burst_board.Tie as tie
 
 abbrev Inv-loop : tie.InvT-loop
-Inv-loop bytes list₀ ids lens b shares starts₀ counts₀ deficits₀ ready₀ next₀ heads₀ tails₀ held₀ clock₀ active₀ pending₀ slot₀ left₀ count₀ total₀ list starts counts deficits ready next heads tails held clock active pending slot left count total =
-    (count ≤ length list₀) × ((length list ≡ length list₀) × ((total .0 ≤ bytes .0) × ((Known (withEngine b (engineNow starts counts deficits ready next heads tails held (numbersNow clock active pending slot (left .0)))) ids lens) × (goodBurst b ids lens (bytes .0) list₀ ≡ burstFrom (withEngine b (engineNow starts counts deficits ready next heads tails held (numbersNow clock active pending slot (left .0)))) ids lens (bytes .0) count (total .0) list))))
+Inv-loop bytes list₀ ids lens b numbers shares starts₀ counts₀ deficits₀ ready₀ next₀ heads₀ tails₀ held₀ now₀ count₀ total₀
+    list starts counts deficits ready next heads tails held now count total =
+    let board = withEngine b (engineNow starts counts deficits ready next heads tails held now) in
+    (count ≤ length list₀)
+    × ((length list ≡ length list₀)
+    × ((total .0 ≤ bytes .0)
+    × (Known board ids lens
+    × (goodBurst b ids lens (bytes .0) list₀ ≡ burstFrom board ids lens (bytes .0) count (total .0) list))))
 
 abbrev μ-loop : tie.MeasureT-loop
-μ-loop bytes list₀ ids lens b shares starts₀ counts₀ deficits₀ ready₀ next₀ heads₀ tails₀ held₀ clock₀ active₀ pending₀ slot₀ left₀ count₀ total₀ list starts counts deficits ready next heads tails held clock active pending slot left count total =
-    length list₀ - count
+μ-loop bytes list₀ ids lens b numbers shares starts₀ counts₀ deficits₀ ready₀ next₀ heads₀ tails₀ held₀ now₀ count₀ total₀
+    list starts counts deficits ready next heads tails held now count total = length list₀ - count
+
+-- the start; the round in which a record is served, with what is known of the bytes, from where the arrays are lent
+abbrev start-of : tie.At-loop Inv-loop μ-loop → tie.Start Inv-loop μ-loop
+start-of c = c .before .before .before .before .before .before .before .before .before .before .before .before .before .before .before
+
+abbrev bytes-of : tie.After-held2 Inv-loop μ-loop → tie.After-struct-known Inv-loop μ-loop
+bytes-of c = c .before .before .before .before .before .before .before .before .before .before
+
+abbrev round-of : tie.After-held2 Inv-loop μ-loop → tie.At-loop Inv-loop μ-loop
+round-of c = bytes-of c .before .before
+
+-- where a record was sent: the serve, and its round
+abbrev served-of : tie.Else1 Inv-loop μ-loop → tie.After-serve-within Inv-loop μ-loop
+served-of c = c .before .before .before
+
+abbrev sent-in : tie.Else1 Inv-loop μ-loop → tie.At-loop Inv-loop μ-loop
+sent-in c = round-of (served-of c .before)
+
+-- the list had room for it, it was within the bytes that remained, and its entry is one of a table
+room : (c : tie.Else1 Inv-loop μ-loop) → sent-in c .loop .count < length (sent-in c .loop .list)
+room c =
+    let r = sent-in c .loop in
+    let bytes = start-of (sent-in c) .args .bytes .0 in
+    on-room _ _ _ (r .inv .1 .1 .1 .0) bytes (r .count) (r .total .0) (r .list) _ (served-of c .serve-within .ensures) (c .if1 .left)
+
+fits : (c : tie.Else1 Inv-loop μ-loop)
+    → served-of c .serve-within .result .bytes .0 ≤ start-of (sent-in c) .args .bytes .0 - sent-in c .loop .total .0
+fits c =
+    let r = sent-in c .loop in
+    let bytes = start-of (sent-in c) .args .bytes .0 in
+    on-fits _ _ _ (r .inv .1 .1 .1 .0) bytes (r .count) (r .total .0) (r .list) _ (served-of c .serve-within .ensures) (c .if1 .left)
+
+inside : (c : tie.Else1 Inv-loop μ-loop) → served-of c .serve-within .result .entry < 2048
+inside c = sent-index _ _ _ (sent-in c .loop .inv .1 .1 .1 .0) _ _ _ (served-of c .serve-within .ensures) (c .if1 .left) .1
+
+numbers-of-requires : tie.Need-numbers-of-requires Inv-loop μ-loop
+numbers-of-requires c κs = search needs
 
 loop-holds : tie.Need-loop-holds Inv-loop μ-loop
-loop-holds c = (omega arith, (refl, (omega arith, (c .before .before .before .before .before .before .before .before .before .before .before .before .before .pre, burst-start _ _ _ _ _))))
+loop-holds c =
+    let start = c .before .before .before .before .before .before .before .before .before .before .before .before .before .before in
+    rw (c .numbers-of .ensures) (omega arith, (refl, (omega arith, (start .pre, burst-start _ _ _ _ _))))
 
-sub-t28 : tie.Need-sub-t28 Inv-loop μ-loop
-sub-t28 c = c .before .before .loop .inv .1 .1 .0
+sub-t26 : tie.Need-sub-t26 Inv-loop μ-loop
+sub-t26 c = c .before .before .before .loop .inv .1 .1 .0
 
 sub-serve-within : tie.Need-sub-serve-within Inv-loop μ-loop
-sub-serve-within c = omega (arith, c .before .before .loop .inv .0, c .before .before .loop .inv .1 .0)
+sub-serve-within c =
+    let r = c .before .before .before .loop in
+    omega (arith, r .inv .0, r .inv .1 .0)
 
 serve-within-requires : tie.Need-serve-within-requires Inv-loop μ-loop
-serve-within-requires c κs = can-known _ _ _ (c .before .before .before .before .before .before .before .before .before .before .before .loop .inv .1 .1 .1 .0)
+serve-within-requires c κs = can-known _ _ _ (round-of c .loop .inv .1 .1 .1 .0)
 
-rebuilt-requires : tie.Need-rebuilt-requires Inv-loop μ-loop
-rebuilt-requires c κs = search needs
+packed-requires : tie.Need-packed-requires Inv-loop μ-loop
+packed-requires c κs = search needs
 
 same-length : tie.Need-same-length Inv-loop μ-loop
-same-length c = c .before .before .before .before .before .before .before .before .before .before .before .before .before .before .before .loop .inv .1 .0
+same-length c = round-of (c .before .before .before .before .before) .loop .inv .1 .0
 
 returns : tie.Need-returns Inv-loop μ-loop
-returns c = burst-stop _ _ _ (c .before .before .before .before .before .before .before .before .before .before .before .before .before .before .before .loop .inv .1 .1 .1 .0) _ _ _ _ _ (c .before .before .before .serve-within .ensures) (c .before .if1 .taken) _ (c .rebuilt .ensures) ∙ sym (c .before .before .before .before .before .before .before .before .before .before .before .before .before .before .before .loop .inv .1 .1 .1 .1)
+returns c =
+    let stops = c .before in
+    let served = stops .before .before .before in
+    let r = round-of (served .before) .loop in
+    burst-stop _ _ _ (r .inv .1 .1 .1 .0) _ _ _ _ _ (served .serve-within .ensures) (stops .if1 .taken) _ (c .packed .ensures) ∙ sym (r .inv .1 .1 .1 .1)
 
-add-t28 : tie.Need-add-t28 Inv-loop μ-loop
-add-t28 c = omega (arith, c .before .before .before .before .before .before .before .before .before .before .before .before .before .before .before .before .before .struct-known .given, (on-fits _ _ _ (c .before .before .before .before .before .before .before .before .before .before .before .before .before .before .before .before .before .before .loop .inv .1 .1 .1 .0) (c .before .before .before .before .before .before .before .before .before .before .before .before .before .before .before .before .before .before .before .before .before .before .before .before .before .before .before .before .before .before .before .before .args .bytes .0) (c .before .before .before .before .before .before .before .before .before .before .before .before .before .before .before .before .before .before .loop .count) (c .before .before .before .before .before .before .before .before .before .before .before .before .before .before .before .before .before .before .loop .total .0) (c .before .before .before .before .before .before .before .before .before .before .before .before .before .before .before .before .before .before .loop .list) _ (c .before .before .before .before .before .before .serve-within .ensures) (c .before .before .before .before .if1 .left)), c .before .before .before .before .before .before .before .before .before .before .before .before .before .before .before .before .before .before .loop .inv .1 .1 .0)
+add-t26 : tie.Need-add-t26 Inv-loop μ-loop
+add-t26 c =
+    let goes = c .before .before .before in
+    omega (arith, bytes-of (served-of goes .before) .struct-known .given, fits goes, sent-in goes .loop .inv .1 .1 .0)
 
 add-count : tie.Need-add-count Inv-loop μ-loop
-add-count c = omega (arith, (on-room _ _ _ (c .before .before .before .before .before .before .before .before .before .before .before .before .before .before .before .before .before .before .loop .inv .1 .1 .1 .0) (c .before .before .before .before .before .before .before .before .before .before .before .before .before .before .before .before .before .before .before .before .before .before .before .before .before .before .before .before .before .before .before .before .args .bytes .0) (c .before .before .before .before .before .before .before .before .before .before .before .before .before .before .before .before .before .before .loop .count) (c .before .before .before .before .before .before .before .before .before .before .before .before .before .before .before .before .before .before .loop .total .0) (c .before .before .before .before .before .before .before .before .before .before .before .before .before .before .before .before .before .before .loop .list) _ (c .before .before .before .before .before .before .serve-within .ensures) (c .before .before .before .before .if1 .left)), c .before .before .before .before .before .before .before .before .before .before .before .before .before .before .before .before .before .before .loop .inv .1 .0, c .before .before .before .before .before .before .before .before .before .before .before .before .before .before .before .before .before .before .before .before .before .before .before .before .before .before .before .before .before .before .before .before .good .1 .0 .0)
+add-count c =
+    let goes = c .before .before .before in
+    omega (arith, room goes, sent-in goes .loop .inv .1 .0, start-of (sent-in goes) .good .1 .0 .0)
 
 mul-list : tie.Need-mul-list Inv-loop μ-loop
-mul-list c = omega (arith, (sent-index _ _ _ (c .before .before .before .before .before .before .before .before .before .before .before .before .before .before .before .before .before .before .loop .inv .1 .1 .1 .0) _ _ _ (c .before .before .before .before .before .before .serve-within .ensures) (c .before .before .before .before .if1 .left)) .1)
+mul-list c = omega (arith, inside (c .before .before .before))
 
 shared-slice-read-list : tie.Need-shared-slice-read-list Inv-loop μ-loop
-shared-slice-read-list c = omega (arith, (sent-index _ _ _ (c .before .before .before .before .before .before .before .before .before .before .before .before .before .before .before .before .before .before .before .loop .inv .1 .1 .1 .0) _ _ _ (c .before .before .before .before .before .before .before .serve-within .ensures) (c .before .before .before .before .before .if1 .left)) .1, c .before .before .before .before .before .before .before .before .before .before .before .before .before .before .before .before .before .before .before .before .before .before .before .before .before .before .before .before .before .before .before .before .before .pre .ids-all)
+shared-slice-read-list c =
+    let goes = c .before .before .before .before in
+    omega (arith, inside goes, start-of (sent-in goes) .pre .ids-all)
 
 mul-list-2 : tie.Need-mul-list-2 Inv-loop μ-loop
-mul-list-2 c = scaled-fits (c .before .before .before .before .before .before .before .before .before .before .before .before .before .before .before .before .before .before .before .loop .count) (length (c .before .before .before .before .before .before .before .before .before .before .before .before .before .before .before .before .before .before .before .before .before .before .before .before .before .before .before .before .before .before .before .before .before .args .list .now)) 4 (omega (arith, (on-room _ _ _ (c .before .before .before .before .before .before .before .before .before .before .before .before .before .before .before .before .before .before .before .loop .inv .1 .1 .1 .0) (c .before .before .before .before .before .before .before .before .before .before .before .before .before .before .before .before .before .before .before .before .before .before .before .before .before .before .before .before .before .before .before .before .before .args .bytes .0) (c .before .before .before .before .before .before .before .before .before .before .before .before .before .before .before .before .before .before .before .loop .count) (c .before .before .before .before .before .before .before .before .before .before .before .before .before .before .before .before .before .before .before .loop .total .0) (c .before .before .before .before .before .before .before .before .before .before .before .before .before .before .before .before .before .before .before .loop .list) _ (c .before .before .before .before .before .before .before .serve-within .ensures) (c .before .before .before .before .before .if1 .left)), c .before .before .before .before .before .before .before .before .before .before .before .before .before .before .before .before .before .before .before .loop .inv .1 .0)) (c .before .before .before .before .before .before .before .before .before .before .before .before .before .before .before .before .before .before .before .before .before .before .before .before .before .before .before .before .before .before .before .before .before .good .1 .0 .1)
+mul-list-2 c =
+    let goes = c .before .before .before .before in
+    let r = sent-in goes .loop in
+    let start = start-of (sent-in goes) in
+    scaled-fits (r .count) (length (start .args .list .now)) 4 (omega (arith, room goes, r .inv .1 .0)) (start .good .1 .0 .1)
 
 slice-write-list : tie.Need-slice-write-list Inv-loop μ-loop
-slice-write-list c = (on-room _ _ _ (c .before .before .before .before .before .before .before .before .before .before .before .before .before .before .before .before .before .before .before .loop .inv .1 .1 .1 .0) (c .before .before .before .before .before .before .before .before .before .before .before .before .before .before .before .before .before .before .before .before .before .before .before .before .before .before .before .before .before .before .before .before .before .args .bytes .0) (c .before .before .before .before .before .before .before .before .before .before .before .before .before .before .before .before .before .before .before .loop .count) (c .before .before .before .before .before .before .before .before .before .before .before .before .before .before .before .before .before .before .before .loop .total .0) (c .before .before .before .before .before .before .before .before .before .before .before .before .before .before .before .before .before .before .before .loop .list) _ (c .before .before .before .before .before .before .before .serve-within .ensures) (c .before .before .before .before .before .if1 .left))
+slice-write-list c = room (c .before .before .before .before)
 
 loop-less : tie.Need-loop-less Inv-loop μ-loop
-loop-less c = omega (arith, (on-room _ _ _ (c .before .before .before .before .before .before .before .before .before .before .before .before .before .before .before .before .before .before .before .loop .inv .1 .1 .1 .0) (c .before .before .before .before .before .before .before .before .before .before .before .before .before .before .before .before .before .before .before .before .before .before .before .before .before .before .before .before .before .before .before .before .before .args .bytes .0) (c .before .before .before .before .before .before .before .before .before .before .before .before .before .before .before .before .before .before .before .loop .count) (c .before .before .before .before .before .before .before .before .before .before .before .before .before .before .before .before .before .before .before .loop .total .0) (c .before .before .before .before .before .before .before .before .before .before .before .before .before .before .before .before .before .before .before .loop .list) _ (c .before .before .before .before .before .before .before .serve-within .ensures) (c .before .before .before .before .before .if1 .left)), c .before .before .before .before .before .before .before .before .before .before .before .before .before .before .before .before .before .before .before .loop .inv .1 .0)
+loop-less c =
+    let goes = c .before .before .before .before in
+    omega (arith, room goes, sent-in goes .loop .inv .1 .0)
 
 loop-again : tie.Need-loop-again Inv-loop μ-loop
-loop-again c = (omega (arith, (on-room _ _ _ (c .before .before .before .before .before .before .before .before .before .before .before .before .before .before .before .before .before .before .before .loop .inv .1 .1 .1 .0) (c .before .before .before .before .before .before .before .before .before .before .before .before .before .before .before .before .before .before .before .before .before .before .before .before .before .before .before .before .before .before .before .before .before .args .bytes .0) (c .before .before .before .before .before .before .before .before .before .before .before .before .before .before .before .before .before .before .before .loop .count) (c .before .before .before .before .before .before .before .before .before .before .before .before .before .before .before .before .before .before .before .loop .total .0) (c .before .before .before .before .before .before .before .before .before .before .before .before .before .before .before .before .before .before .before .loop .list) _ (c .before .before .before .before .before .before .before .serve-within .ensures) (c .before .before .before .before .before .if1 .left)), c .before .before .before .before .before .before .before .before .before .before .before .before .before .before .before .before .before .before .before .loop .inv .1 .0), (rw length-set (c .before .before .before .before .before .before .before .before .before .before .before .before .before .before .before .before .before .before .before .loop .inv .1 .0), (omega (arith, (on-fits _ _ _ (c .before .before .before .before .before .before .before .before .before .before .before .before .before .before .before .before .before .before .before .loop .inv .1 .1 .1 .0) (c .before .before .before .before .before .before .before .before .before .before .before .before .before .before .before .before .before .before .before .before .before .before .before .before .before .before .before .before .before .before .before .before .before .args .bytes .0) (c .before .before .before .before .before .before .before .before .before .before .before .before .before .before .before .before .before .before .before .loop .count) (c .before .before .before .before .before .before .before .before .before .before .before .before .before .before .before .before .before .before .before .loop .total .0) (c .before .before .before .before .before .before .before .before .before .before .before .before .before .before .before .before .before .before .before .loop .list) _ (c .before .before .before .before .before .before .before .serve-within .ensures) (c .before .before .before .before .before .if1 .left)), c .before .before .before .before .before .before .before .before .before .before .before .before .before .before .before .before .before .before .before .loop .inv .1 .1 .0), (on-known _ _ _ (c .before .before .before .before .before .before .before .before .before .before .before .before .before .before .before .before .before .before .before .loop .inv .1 .1 .1 .0) (c .before .before .before .before .before .before .before .before .before .before .before .before .before .before .before .before .before .before .before .before .before .before .before .before .before .before .before .before .before .before .before .before .before .args .bytes .0) (c .before .before .before .before .before .before .before .before .before .before .before .before .before .before .before .before .before .before .before .loop .count) (c .before .before .before .before .before .before .before .before .before .before .before .before .before .before .before .before .before .before .before .loop .total .0) (c .before .before .before .before .before .before .before .before .before .before .before .before .before .before .before .before .before .before .before .loop .list) _ (c .before .before .before .before .before .before .before .serve-within .ensures) (c .before .before .before .before .before .if1 .left), c .before .before .before .before .before .before .before .before .before .before .before .before .before .before .before .before .before .before .before .loop .inv .1 .1 .1 .1 ∙ burst-on _ _ _ (c .before .before .before .before .before .before .before .before .before .before .before .before .before .before .before .before .before .before .before .loop .inv .1 .1 .1 .0) (c .before .before .before .before .before .before .before .before .before .before .before .before .before .before .before .before .before .before .before .before .before .before .before .before .before .before .before .before .before .before .before .before .before .args .bytes .0) (c .before .before .before .before .before .before .before .before .before .before .before .before .before .before .before .before .before .before .before .loop .count) (c .before .before .before .before .before .before .before .before .before .before .before .before .before .before .before .before .before .before .before .loop .total .0) (c .before .before .before .before .before .before .before .before .before .before .before .before .before .before .before .before .before .before .before .loop .list) _ (c .before .before .before .before .before .before .before .serve-within .ensures) (c .before .before .before .before .before .if1 .left)))))
+loop-again c =
+    let goes = c .before .before .before .before in
+    let served = served-of goes .serve-within .ensures in
+    let left = goes .if1 .left in
+    let r = sent-in goes .loop in
+    let bytes = start-of (sent-in goes) .args .bytes .0 in
+    let known = on-known _ _ _ (r .inv .1 .1 .1 .0) bytes (r .count) (r .total .0) (r .list) _ served left in
+    let on = burst-on _ _ _ (r .inv .1 .1 .1 .0) bytes (r .count) (r .total .0) (r .list) _ served left in
+    (omega (arith, room goes, r .inv .1 .0), (rw length-set (r .inv .1 .0), (omega (arith, fits goes, r .inv .1 .1 .0), (known, r .inv .1 .1 .1 .1 ∙ on))))
 
 pub burst-board-spec : {M : Type 1} → statement M
 burst-board-spec =
@@ -70,14 +142,15 @@ burst-board-spec =
     (tie.spec
     Inv-loop
     μ-loop
+    numbers-of-requires
     loop-holds
-    sub-t28
+    sub-t26
     sub-serve-within
     serve-within-requires
-    rebuilt-requires
+    packed-requires
     same-length
     returns
-    add-t28
+    add-t26
     add-count
     mul-list
     shared-slice-read-list

@@ -1,39 +1,64 @@
+-- `calls::serve_board` meets its contract: a serve is one with room for a record and bytes for any. Assumes nothing.
+use Prim.Native.Nat.{_<_}
+use native.Mathlib.Omega.{arith}
 use Rattle.serving.proofs.Known.{can-known, sent-index}
 use Rattle.calls.proofs.Promises.{serve-stops, serve-goes}
-use native.Mathlib.Omega.{arith}
 use borrow.Author.Needs.{needs}
 use Rattle.calls.proofs.serve_board.Statement.{statement}
 use Rattle.calls.proofs.serve_board.Tie as tie
 
+-- the arrays are copied, and then lent
+abbrev copied : tie.After-held2 → tie.After-left
+copied c = c .before .before .before .before .before .before .before .before .before
+
+abbrev start-of : tie.After-held2 → tie.Start
+start-of c = copied c .before .before .before .before .before .before .before .before .before .before .before .before
+
+-- where a record was sent, its place and its entry
+sent : (c : tie.Else1) → (c .before .before .serve-within .result .place < 64) × (c .before .before .serve-within .result .entry < 2048)
+sent c =
+    let served = c .before .before in
+    sent-index _ _ _ (start-of (served .before) .pre) _ _ _ (served .serve-within .ensures) (c .if1 .left)
+
 serve-within-requires : tie.Need-serve-within-requires
-serve-within-requires c κs = can-known _ _ _ (c .before .before .before .before .before .before .before .before .before .before .before .before .before .before .before .before .before .before .before .before .before .pre)
+serve-within-requires c κs = can-known _ _ _ (start-of c .pre)
 
 returns : tie.Need-returns
-returns c = serve-stops _ _ _ (c .before .before .before .before .before .before .before .before .before .before .before .before .before .before .before .before .before .before .before .before .before .before .before .before .pre) 65536 (omega arith) _ (c .before .before .serve-within .ensures) (c .if1 .taken)
+returns c =
+    let served = c .before .before in
+    serve-stops _ _ _ (start-of (served .before) .pre) 65536 (omega arith) _ (served .serve-within .ensures) (c .if1 .taken)
 
-rebuilt-requires : tie.Need-rebuilt-requires
-rebuilt-requires c κs = search needs
+packed-requires : tie.Need-packed-requires
+packed-requires c κs = search needs
 
-mul-t46 : tie.Need-mul-t46
-mul-t46 c = let w = (sent-index _ _ _ (c .before .before .before .before .before .before .before .before .before .before .before .before .before .before .before .before .before .before .before .before .before .before .before .before .before .pre) _ _ _ (c .before .before .before .serve-within .ensures) (c .before .if1 .left)) in omega (arith, w .0, w .1)
+mul-t47 : tie.Need-mul-t47
+mul-t47 c = omega (arith, sent (c .before .before .before) .0)
 
 element-copy-out-t30 : tie.Need-element-copy-out-t30
-element-copy-out-t30 c = let w = (sent-index _ _ _ (c .before .before .before .before .before .before .before .before .before .before .before .before .before .before .before .before .before .before .before .before .before .before .before .before .before .pre) _ _ _ (c .before .before .before .serve-within .ensures) (c .before .if1 .left)) in omega (arith, w .0, w .1)
+element-copy-out-t30 c = omega (arith, sent (c .before .before .before) .0)
 
-mul-t49 : tie.Need-mul-t49
-mul-t49 c = let w = (sent-index _ _ _ (c .before .before .before .before .before .before .before .before .before .before .before .before .before .before .before .before .before .before .before .before .before .before .before .before .before .before .pre) _ _ _ (c .before .before .before .before .serve-within .ensures) (c .before .before .if1 .left)) in omega (arith, w .0, w .1)
+mul-t50 : tie.Need-mul-t50
+mul-t50 c = omega (arith, sent (c .before .before .before .before) .1)
 
-shared-slice-read-t28 : tie.Need-shared-slice-read-t28
-shared-slice-read-t28 c = let w = (sent-index _ _ _ (c .before .before .before .before .before .before .before .before .before .before .before .before .before .before .before .before .before .before .before .before .before .before .before .before .before .before .before .pre) _ _ _ (c .before .before .before .before .before .serve-within .ensures) (c .before .before .before .if1 .left)) in omega (arith, w .1, c .before .before .before .before .before .before .before .before .before .before .before .before .before .before .before .before .before .before .before .before .before .before .before .before .before .before .before .pre .ids-all)
+shared-slice-read-t32 : tie.Need-shared-slice-read-t32
+shared-slice-read-t32 c =
+    let goes = c .before .before .before .before .before in
+    omega (arith, sent goes .1, start-of (goes .before .before .before) .pre .ids-all)
 
-mul-t51 : tie.Need-mul-t51
-mul-t51 c = let w = (sent-index _ _ _ (c .before .before .before .before .before .before .before .before .before .before .before .before .before .before .before .before .before .before .before .before .before .before .before .before .before .before .before .pre) _ _ _ (c .before .before .before .before .before .serve-within .ensures) (c .before .before .before .if1 .left)) in omega (arith, w .0, w .1)
+mul-t52 : tie.Need-mul-t52
+mul-t52 c = omega (arith, sent (c .before .before .before .before .before) .1)
 
-shared-slice-read-t53 : tie.Need-shared-slice-read-t53
-shared-slice-read-t53 c = let w = (sent-index _ _ _ (c .before .before .before .before .before .before .before .before .before .before .before .before .before .before .before .before .before .before .before .before .before .before .before .before .before .before .before .before .pre) _ _ _ (c .before .before .before .before .before .before .serve-within .ensures) (c .before .before .before .before .if1 .left)) in omega (arith, w .1, c .before .before .before .before .before .before .before .before .before .before .before .before .before .before .before .before .before .before .before .before .before .before .before .before .before .before .before .before .pre .lens-all)
+shared-slice-read-t54 : tie.Need-shared-slice-read-t54
+shared-slice-read-t54 c =
+    let goes = c .before .before .before .before .before .before in
+    omega (arith, sent goes .1, start-of (goes .before .before .before) .pre .lens-all)
 
 returns-2 : tie.Need-returns-2
-returns-2 c = serve-goes _ _ _ (c .before .before .before .before .before .before .before .before .before .before .before .before .before .before .before .before .before .before .before .before .before .before .before .before .before .before .before .before .pre) 65536 (omega arith) _ (c .before .before .before .before .before .before .serve-within .ensures) (c .before .before .before .before .if1 .left) _ (c .before .before .before .rebuilt .ensures)
+returns-2 c =
+    let at-packed = c .before .before .before in
+    let goes = at-packed .before .before .before in
+    let served = goes .before .before in
+    serve-goes _ _ _ (start-of (served .before) .pre) 65536 (omega arith) _ (served .serve-within .ensures) (goes .if1 .left) _ (at-packed .packed .ensures)
 
 pub serve-board-spec : {M : Type 1} → statement M
 serve-board-spec =
@@ -41,11 +66,11 @@ serve-board-spec =
     (tie.spec
     serve-within-requires
     returns
-    rebuilt-requires
-    mul-t46
+    packed-requires
+    mul-t47
     element-copy-out-t30
-    mul-t49
-    shared-slice-read-t28
-    mul-t51
-    shared-slice-read-t53
+    mul-t50
+    shared-slice-read-t32
+    mul-t52
+    shared-slice-read-t54
     returns-2)

@@ -1,4 +1,5 @@
--- `player::next_piece` meets its contract. What is written up to a field, and the listing from it on, is what was left at the beginning; the rest of the log gets shorter. Assumes nothing.
+-- `player::next_piece` meets its contract. What is written up to a field, and the listing from it on, is what was left at the beginning; the rest of the
+-- log gets shorter. Assumes nothing.
 use mathlib.Core.Path.{refl, sym, _∙_}
 use Prim.Native.Nat.{_-_}
 use native.Mathlib.Omega.{arith}
@@ -7,53 +8,73 @@ use Rattle.log.proofs.Fields.{whole-is}
 use Rattle.log.proofs.Ends.{goes-only, long-anywhere}
 use Rattle.log.proofs.Readings.{goes-next}
 use Rattle.log.proofs.Stages.{turn-later}
-use Rattle.board.specs.Memory.{numbersNow, boardNow}
+use Rattle.board.specs.Memory.{boardNow}
 use Rattle.plays.specs.Listing.{listingFrom}
 use Rattle.fields.specs.Fields.{memory, reads}
-use Rattle.player.proofs.Pieces.{UnderWay, under-first, under-room, under-fits, under-small, under-next, under-last, under-more, end-listing, left-is, read-is}
+use Rattle.player.proofs.Pieces.{UnderWay, under-first, under-room, under-fits, under-small, under-next, under-last, under-more}
+use Rattle.player.proofs.Pieces.{end-listing, left-is, read-is}
 use borrow.Author.Needs.{needs}
 use Rattle.player.proofs.next_piece.Statement.{statement}
 use Rattle.player.proofs.next_piece.Tie as tie
 
 abbrev Inv-loop : tie.InvT-loop
-Inv-loop log ids₀ lens₀ out₀ s b numbers₀ shares₀ starts₀ counts₀ deficits₀ ready₀ next₀ heads₀ tails₀ held₀ clock₀ active₀ pending₀ slot₀ left₀ stage₀ at₀ sent₀ used₀ line₀ ids lens out numbers shares starts counts deficits ready next heads tails held clock active pending slot left stage at sent used line =
-    UnderWay log (listingFrom (reads (memory (s .board) ids₀ lens₀ (s .sent .0))) log (s .at) (s .stage)) (s .at) out₀
-    (memory
-    (boardNow numbers shares starts counts deficits ready next heads tails held (b .largest) (numbersNow clock active pending slot (left .0)))
-    ids lens (sent .0)) stage at used out
+Inv-loop log ids₀ lens₀ out₀ s b numbers₀ shares₀ starts₀ counts₀ deficits₀ ready₀ next₀ heads₀ tails₀ held₀ now₀ stage₀ at₀ sent₀ used₀ line₀
+    ids lens out numbers shares starts counts deficits ready next heads tails held now stage at sent used line =
+    let first = memory (s .board) ids₀ lens₀ (s .sent .0) in
+    let here = memory (boardNow numbers shares starts counts deficits ready next heads tails held (b .largest) now) ids lens (sent .0) in
+    UnderWay log (listingFrom (reads first) log (s .at) (s .stage)) (s .at) out₀ here stage at used out
 
 abbrev μ-loop : tie.MeasureT-loop
-μ-loop log ids₀ lens₀ out₀ s b numbers₀ shares₀ starts₀ counts₀ deficits₀ ready₀ next₀ heads₀ tails₀ held₀ clock₀ active₀ pending₀ slot₀ left₀ stage₀ at₀ sent₀ used₀ line₀ ids lens out numbers shares starts counts deficits ready next heads tails held clock active pending slot left stage at sent used line =
-    length log - at
+μ-loop log ids₀ lens₀ out₀ s b numbers₀ shares₀ starts₀ counts₀ deficits₀ ready₀ next₀ heads₀ tails₀ held₀ now₀ stage₀ at₀ sent₀ used₀ line₀
+    ids lens out numbers shares starts counts deficits ready next heads tails held now stage at sent used line = length log - at
+
+-- before the arrays are copied, and before they are lent to a field
+abbrev start-of : tie.At-loop Inv-loop μ-loop → tie.Start Inv-loop μ-loop
+start-of c = c .before .before .before .before .before .before .before .before .before .before .before .before .before .before .before .before .before .before
+
+abbrev field-of : tie.After-line3 Inv-loop μ-loop → tie.After-here2 Inv-loop μ-loop
+field-of c = c .before .before .before .before .before .before .before .before .before .before .before .before .before .before .before
+
+-- the round in which a field was read
+abbrev round-of : tie.After-next-at Inv-loop μ-loop → tie.At-loop Inv-loop μ-loop
+round-of c = c .before .before
+
+numbers-of-requires : tie.Need-numbers-of-requires Inv-loop μ-loop
+numbers-of-requires c κs = search needs
 
 loop-holds : tie.Need-loop-holds Inv-loop μ-loop
 loop-holds c =
-    let start = c .before .before .before .before .before .before .before .before .before .before .before .before .before .before .before .before .before in
-    under-first _ _ _ _ _ (start .pre .good) (start .pre .past) (start .pre .few)
+    let at-numbers-of = c .before in
+    let start = at-numbers-of .before .before .before .before .before .before .before .before .before .before .before .before .before .before .before .before in
+    rw (at-numbers-of .numbers-of .ensures) (under-first _ _ _ _ _ (start .pre .good) (start .pre .past) (start .pre .few))
 
 sub-if1 : tie.Need-sub-if1 Inv-loop μ-loop
 sub-if1 c = omega (arith, c .loop .inv .fits, c .loop .inv .same)
 
+packed-requires : tie.Need-packed-requires Inv-loop μ-loop
+packed-requires c κs = search needs
+
 same-length : tie.Need-same-length Inv-loop μ-loop
 same-length c =
-    let at-loop = c .before in
-    let start = at-loop .before .before .before .before .before .before .before .before .before .before .before .before .before .before .before .before .before .before in
-    at-loop .loop .inv .good .ids-all ∙ sym (start .pre .good .ids-all)
+    let at-loop = c .before .before in
+    at-loop .loop .inv .good .ids-all ∙ sym (start-of at-loop .pre .good .ids-all)
 
 same-length-2 : tie.Need-same-length-2 Inv-loop μ-loop
 same-length-2 c =
-    let at-loop = c .before in
-    let start = at-loop .before .before .before .before .before .before .before .before .before .before .before .before .before .before .before .before .before .before in
-    at-loop .loop .inv .good .lens-all ∙ sym (start .pre .good .lens-all)
+    let at-loop = c .before .before in
+    at-loop .loop .inv .good .lens-all ∙ sym (start-of at-loop .pre .good .lens-all)
 
 same-length-3 : tie.Need-same-length-3 Inv-loop μ-loop
-same-length-3 c = c .before .loop .inv .same
+same-length-3 c = c .before .before .loop .inv .same
 
 returns : tie.Need-returns Inv-loop μ-loop
 returns c =
-    let at-loop = c .before in
-    let start = at-loop .before .before .before .before .before .before .before .before .before .before .before .before .before .before .before .before .before .before in
-    under-more _ _ _ _ _ _ _ _ _ (at-loop .loop .inv) _ _ _ (left-is _ (start .pre .past) _ _ _) (long-anywhere _ _ _ _ _ ∙ start .pre .short) (read-is (start .args .s) (start .pre .past)) (c .if1 .taken)
+    let at-if1 = c .before in
+    let at-loop = at-if1 .before in
+    let start = start-of at-loop in
+    let short = long-anywhere _ _ _ _ _ ∙ start .pre .short in
+    rw (c .packed .ensures) (under-more _ _ _ _ _ _ _ _ _ (at-loop .loop .inv) _ _ _ (left-is _ (start .pre .past) _ _ _) short
+    (read-is (start .args .s) (start .pre .past)) (at-if1 .if1 .taken))
 
 next-at-requires : tie.Need-next-at-requires Inv-loop μ-loop
 next-at-requires c κs = search needs
@@ -71,8 +92,8 @@ append-requires : tie.Need-append-requires Inv-loop μ-loop
 append-requires c κs =
     let at-show-end = c .before .before in
     let at-if1 = at-show-end .before .before .before .before .before .before .before .before in
-    let at-loop = at-if1 .before in
-    (at-show-end .show-end .ensures .1, under-fits _ _ _ _ _ _ _ _ _ (at-loop .loop .inv) (at-if1 .if1 .left) _ (at-show-end .show-end .ensures .1))
+    let shown = at-show-end .show-end .ensures .1 in
+    (shown, under-fits _ _ _ _ _ _ _ _ _ (at-if1 .before .loop .inv) (at-if1 .if1 .left) _ shown)
 
 last-piece-requires : tie.Need-last-piece-requires Inv-loop μ-loop
 last-piece-requires c κs = search needs
@@ -80,14 +101,12 @@ last-piece-requires c κs = search needs
 same-length-4 : tie.Need-same-length-4 Inv-loop μ-loop
 same-length-4 c =
     let at-loop = c .before .before .before .before .before .before .before .before .before .before .before .before .before .before .before in
-    let start = at-loop .before .before .before .before .before .before .before .before .before .before .before .before .before .before .before .before .before .before in
-    at-loop .loop .inv .good .ids-all ∙ sym (start .pre .good .ids-all)
+    at-loop .loop .inv .good .ids-all ∙ sym (start-of at-loop .pre .good .ids-all)
 
 same-length-5 : tie.Need-same-length-5 Inv-loop μ-loop
 same-length-5 c =
     let at-loop = c .before .before .before .before .before .before .before .before .before .before .before .before .before .before .before in
-    let start = at-loop .before .before .before .before .before .before .before .before .before .before .before .before .before .before .before .before .before .before in
-    at-loop .loop .inv .good .lens-all ∙ sym (start .pre .good .lens-all)
+    at-loop .loop .inv .good .lens-all ∙ sym (start-of at-loop .pre .good .lens-all)
 
 same-length-6 : tie.Need-same-length-6 Inv-loop μ-loop
 same-length-6 c =
@@ -104,7 +123,7 @@ returns-2 c =
     let at-next-at = at-here .before .before in
     let at-if1 = at-next-at .before in
     let at-loop = at-if1 .before in
-    let start = at-loop .before .before .before .before .before .before .before .before .before .before .before .before .before .before .before .before .before .before in
+    let start = start-of at-loop in
     let shown = at-show-end .show-end .ensures in
     let room = under-room _ _ _ _ _ _ _ _ _ (at-loop .loop .inv) (at-if1 .if1 .left) in
     let read = sym (at-next-at .next-at .ensures) ∙ at-here .here .given .1 in
@@ -117,27 +136,27 @@ enum-known-here-2 c = search needs
 
 play-field-requires : tie.Need-play-field-requires Inv-loop μ-loop
 play-field-requires c κs =
-    let at-here2 = c .before .before .before .before .before .before .before .before .before .before .before .before .before .before in
+    let at-here2 = field-of c in
     let at-next-at = at-here2 .before .before in
-    let at-loop = at-next-at .before .before in
-    let start = at-loop .before .before .before .before .before .before .before .before .before .before .before .before .before .before .before .before .before .before in
+    let round = round-of at-next-at .loop .inv in
     let f = sym (at-next-at .next-at .ensures) ∙ at-here2 .here2 .given .1 in
-    (at-loop .loop .inv .good, (under-small _ _ _ _ _ _ _ _ _ (at-loop .loop .inv) _ _ f, turn-later _ _ (at-loop .loop .inv .past) (whole-is _ _ _ _ _ (goes-only _ _ _ _ _ f .0) .turn)))
+    let turn = whole-is _ _ _ _ _ (goes-only _ _ _ _ _ f .0) .turn in
+    (round .good, (under-small _ _ _ _ _ _ _ _ _ round _ _ f, turn-later _ _ (round .past) turn))
 
 append-requires-2 : tie.Need-append-requires-2 Inv-loop μ-loop
 append-requires-2 c κs =
     let at-play-field = c .before .before .before .before .before .before in
-    let at-if1 = at-play-field .before .before .before .before .before .before .before .before .before .before .before .before .before .before .before .before .before .before in
-    let at-loop = at-if1 .before in
+    let at-next-at = field-of (at-play-field .before) .before .before in
     let short = at-play-field .play-field .ensures .short in
-    (short, under-fits _ _ _ _ _ _ _ _ _ (at-loop .loop .inv) (at-if1 .if1 .left) _ short)
+    (short, under-fits _ _ _ _ _ _ _ _ _ (round-of at-next-at .loop .inv) (at-next-at .before .if1 .left) _ short)
 
 stage-after-requires : tie.Need-stage-after-requires Inv-loop μ-loop
 stage-after-requires c κs = search needs
 
 loop-less : tie.Need-loop-less Inv-loop μ-loop
 loop-less c =
-    let at-here2 = c .before .before .before .before .before .before .before .before .before .before .before .before .before .before .before .before .before .before .before .before .before .before .before .before .before .before .before in
+    let at-play-field = c .before .before .before .before .before .before .before .before .before .before .before .before in
+    let at-here2 = field-of (at-play-field .before) in
     let at-next-at = at-here2 .before .before in
     let f = goes-next _ _ _ _ _ (sym (at-next-at .next-at .ensures) ∙ at-here2 .here2 .given .1) in
     omega (arith, f .0, f .1)
@@ -147,14 +166,13 @@ loop-again c =
     let at-stage-after = c .before .before in
     let at-append2 = at-stage-after .before .before .before in
     let at-play-field = at-append2 .before .before .before .before .before .before .before in
-    let at-here2 = at-play-field .before .before .before .before .before .before .before .before .before .before .before .before .before .before .before in
+    let at-here2 = field-of (at-play-field .before) in
     let at-next-at = at-here2 .before .before in
-    let at-if1 = at-next-at .before in
-    let at-loop = at-if1 .before in
+    let round = round-of at-next-at .loop .inv in
     let played = at-play-field .play-field .ensures in
-    let room = under-room _ _ _ _ _ _ _ _ _ (at-loop .loop .inv) (at-if1 .if1 .left) in
+    let room = under-room _ _ _ _ _ _ _ _ _ round (at-next-at .before .if1 .left) in
     let read = sym (at-next-at .next-at .ensures) ∙ at-here2 .here2 .given .1 in
-    under-next _ _ _ _ _ _ _ _ _ (at-loop .loop .inv) _ _ _ _ _ _ (played .line) (played .short) room (at-append2 .append2 .ensures) _ _ read _ played
+    under-next _ _ _ _ _ _ _ _ _ round _ _ _ _ _ _ (played .line) (played .short) room (at-append2 .append2 .ensures) _ _ read _ played
     (at-append2 .append2 .kept .0) _ (at-stage-after .stage-after .ensures)
 
 pub next-piece-spec : {M : Type 1} → statement M
@@ -163,8 +181,10 @@ next-piece-spec =
     (tie.spec
     Inv-loop
     μ-loop
+    numbers-of-requires
     loop-holds
     sub-if1
+    packed-requires
     same-length
     same-length-2
     same-length-3

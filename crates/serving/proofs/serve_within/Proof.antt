@@ -24,22 +24,42 @@ returns : tie.Need-returns
 returns c = within-full _ _ _ _ _ _ _ _ (sym (c .before .before .before .before .before .choose .ensures) ∙ c .before .before .before .chosen2 .given .1) _ (c .before .if1 .taken) (c .stay2 .ensures)
 
 mul-entry : tie.Need-mul-entry
-mul-entry c = let h = (can-read _ _ _ _ _ _ (c .before .before .before .before .before .before .before .pre .enacts _ _ (sym (c .before .before .before .before .choose .ensures) ∙ c .before .before .chosen2 .given .1))) .0 in search needs
+mul-entry c =
+    let at-chosen2 = c .before .before in
+    let at-choose = at-chosen2 .before .before in
+    let start = at-choose .before .before .before in
+    let read = can-read _ _ _ _ _ _ (start .pre .enacts _ _ (sym (at-choose .choose .ensures) ∙ at-chosen2 .chosen2 .given .1)) in
+    let h = read .0 in search needs
 
 element-copy-out-entry : tie.Need-element-copy-out-entry
-element-copy-out-entry c = (can-read _ _ _ _ _ _ (c .before .before .before .before .before .before .before .pre .enacts _ _ (sym (c .before .before .before .before .choose .ensures) ∙ c .before .before .chosen2 .given .1))) .0
+element-copy-out-entry c =
+    let at-chosen2 = c .before .before in
+    let at-choose = at-chosen2 .before .before in
+    let start = at-choose .before .before .before in
+    let read = can-read _ _ _ _ _ _ (start .pre .enacts _ _ (sym (at-choose .choose .ensures) ∙ at-chosen2 .chosen2 .given .1)) in
+    read .0
 
 entry-requires : tie.Need-entry-requires
-entry-requires c κs = (can-read _ _ _ _ _ _ (c .before .before .before .before .before .before .before .before .pre .enacts _ _ (sym (c .before .before .before .before .before .choose .ensures) ∙ c .before .before .before .chosen2 .given .1))) .0
+entry-requires c κs =
+    let at-chosen2 = c .before .before .before in
+    let at-choose = at-chosen2 .before .before in
+    let start = at-choose .before .before .before in
+    let read = can-read _ _ _ _ _ _ (start .pre .enacts _ _ (sym (at-choose .choose .ensures) ∙ at-chosen2 .chosen2 .given .1)) in
+    read .0
 
-mul-t32 : tie.Need-mul-t32
-mul-t32 c = omega (arith, c .entry .ensures .1)
+mul-t31 : tie.Need-mul-t31
+mul-t31 c = omega (arith, c .entry .ensures .1)
 
-shared-slice-read-t35 : tie.Need-shared-slice-read-t35
-shared-slice-read-t35 c = let w = (can-read _ _ _ _ _ _ (c .before .before .before .before .before .before .before .before .before .before .pre .enacts _ _ (sym (c .before .before .before .before .before .before .before .choose .ensures) ∙ c .before .before .before .before .before .chosen2 .given .1))) in omega (arith, c .before .entry .ensures .1, w .1)
+shared-slice-read-t34 : tie.Need-shared-slice-read-t34
+shared-slice-read-t34 c =
+    let at-chosen2 = c .before .before .before .before .before in
+    let at-choose = at-chosen2 .before .before in
+    let start = at-choose .before .before .before in
+    let read = can-read _ _ _ _ _ _ (start .pre .enacts _ _ (sym (at-choose .choose .ensures) ∙ at-chosen2 .chosen2 .given .1)) in
+    omega (arith, c .before .entry .ensures .1, read .1)
 
-cast-t37 : tie.Need-cast-t37
-cast-t37 c = omega (arith, c .shared-slice-known2 .given (c .before .entry .result))
+cast-t36 : tie.Need-cast-t36
+cast-t36 c = omega (arith, c .shared-slice-known2 .given (c .before .entry .result))
 
 charged-requires : tie.Need-charged-requires
 charged-requires c κs = omega (arith, c .shared-slice-known2 .given (c .before .entry .result))
@@ -48,16 +68,40 @@ stay-requires-3 : tie.Need-stay-requires-3
 stay-requires-3 c κs = search needs
 
 returns-2 : tie.Need-returns-2
-returns-2 c = within-long _ _ _ _ _ _ _ _ (sym (c .before .before .before .before .before .before .before .before .before .before .before .before .choose .ensures) ∙ c .before .before .before .before .before .before .before .before .before .before .chosen2 .given .1) _ _ (c .before .before .before .before .before .before .before .before .if1 .left) (c .before .before .before .before .before .before .entry .ensures .0) (c .before .before .before .before .charged .ensures) _ (c .before .if2 .taken) (c .stay3 .ensures)
+returns-2 c =
+    let at-if2 = c .before in
+    let at-charged = at-if2 .before .before .before in
+    let at-entry = at-charged .before .before in
+    let at-if1 = at-entry .before .before in
+    let at-chosen2 = at-if1 .before .before in
+    let at-choose = at-chosen2 .before .before in
+    let goes = sym (at-choose .choose .ensures) ∙ at-chosen2 .chosen2 .given .1 in
+    within-long _ _ _ _ _ _ _ _ goes _ _ (at-if1 .if1 .left) (at-entry .entry .ensures .0) (at-charged .charged .ensures) _ (at-if2 .if2 .taken)
+    (c .stay3 .ensures)
 
 enact-requires : tie.Need-enact-requires
-enact-requires c κs = c .before .before .before .before .before .before .before .before .before .before .before .before .before .before .before .before .before .before .before .before .before .before .pre .enacts _ _ (sym (c .before .before .before .before .before .before .before .before .before .before .before .before .before .before .before .before .before .before .before .choose .ensures) ∙ c .before .before .before .before .before .before .before .before .before .before .before .before .before .before .before .before .before .chosen2 .given .1)
+enact-requires c κs =
+    let at-if1 = c .before .before .before .before .before .before .before .before .before .before .before .before .before .before .before in
+    let at-chosen2 = at-if1 .before .before in
+    let at-choose = at-chosen2 .before .before in
+    let start = at-choose .before .before .before in
+    start .pre .enacts _ _ (sym (at-choose .choose .ensures) ∙ at-chosen2 .chosen2 .given .1)
 
 returns-3 : tie.Need-returns-3
 returns-3 c = within-stop _ _ _ _ _ _ _ _ (sym (c .before .before .before .before .choose .ensures) ∙ c .before .before .chosen .given .1) (c .stay .ensures)
 
 returns-4 : tie.Need-returns-4
-returns-4 c = within-done _ _ _ _ _ _ _ _ (sym (c .before .before .before .before .before .before .before .before .before .before .before .before .before .before .before .before .before .before .before .before .before .before .before .choose .ensures) ∙ c .before .before .before .before .before .before .before .before .before .before .before .before .before .before .before .before .before .before .before .before .before .chosen2 .given .1) _ _ (c .before .before .before .before .before .before .before .before .before .before .before .before .before .before .before .before .before .before .before .if1 .left) (c .before .before .before .before .before .before .before .before .before .before .before .before .before .before .before .before .before .entry .ensures .0) (c .before .before .before .before .before .before .before .before .before .before .before .before .before .before .before .charged .ensures) (c .before .before .before .before .before .before .before .before .before .before .before .before .if2 .left) _ _ (c .before .before .before .enact .ensures)
+returns-4 c =
+    let at-enact = c .before .before in
+    let at-if2 = at-enact .before .before .before .before .before .before .before .before .before in
+    let at-charged = at-if2 .before .before .before in
+    let at-entry = at-charged .before .before in
+    let at-if1 = at-entry .before .before in
+    let at-chosen2 = at-if1 .before .before in
+    let at-choose = at-chosen2 .before .before in
+    let goes = sym (at-choose .choose .ensures) ∙ at-chosen2 .chosen2 .given .1 in
+    within-done _ _ _ _ _ _ _ _ goes _ _ (at-if1 .if1 .left) (at-entry .entry .ensures .0) (at-charged .charged .ensures) (at-if2 .if2 .left) _ _
+    (at-enact .enact .ensures)
 
 pub serve-within-spec : {M : Type 1} → statement M
 serve-within-spec =
@@ -72,9 +116,9 @@ serve-within-spec =
     mul-entry
     element-copy-out-entry
     entry-requires
-    mul-t32
-    shared-slice-read-t35
-    cast-t37
+    mul-t31
+    shared-slice-read-t34
+    cast-t36
     charged-requires
     stay-requires-3
     returns-2
