@@ -54,15 +54,15 @@ impl Busy {
         let mut lists = vec![vec![0; self.records() + 1]; self.boards()];
         let (mut engine_lists, mut public_lists) = (lists.clone(), lists.clone());
         let proved: Side = Box::new(move || {
-            let mut boards = vec![self.lent.board.clone(); self.boards()];
+            let mut boards = vec![proved::Board::from(self.lent.board.clone()); self.boards()];
             let Tables { numbers, lengths } = &self.lent.tables;
             let (time, bursts) = timed(|| {
-                let burst = |(board, list): (&mut Board, &mut Vec<u32>)| proved::burst(board, numbers, lengths, u64::MAX, list);
+                let burst = |(board, list): (&mut proved::Board, &mut Vec<u32>)| proved::burst(board, numbers, lengths, u64::MAX, list);
                 boards.iter_mut().zip(&mut lists).map(burst).collect::<Vec<_>>()
             });
             let mut hash = Hash::new();
-            for ((board, list), burst) in boards.iter().zip(&lists).zip(bursts) {
-                self.take_burst(&mut hash, board, &self.lent.tables, list, (burst.count, burst.bytes, burst.code.into()));
+            for ((board, list), (code, total)) in boards.into_iter().zip(&lists).zip(bursts) {
+                self.take_burst(&mut hash, &board.into(), &self.lent.tables, list, (total.count, total.bytes, code.into()));
             }
             Round { time, hash: hash.value() }
         });
@@ -113,7 +113,7 @@ impl Busy {
         };
         let other_calls = calls.clone();
         let proved: Side = Box::new(move || {
-            let mut board = self.lent.board.clone();
+            let mut board = proved::Board::from(self.lent.board.clone());
             let mut tables = self.lent.tables.clone();
             let (time, codes) = timed(|| {
                 let record = |&(block, Record { number, length }): &(u32, Record)| {
@@ -121,7 +121,7 @@ impl Busy {
                 };
                 calls.iter().map(record).collect::<Vec<u32>>()
             });
-            Round { time, hash: hash_of_codes(&board, &tables, &codes) }
+            Round { time, hash: hash_of_codes(&board.into(), &tables, &codes) }
         });
         let second: Side = Box::new(move || {
             let mut lent = self.lent.clone();
@@ -137,13 +137,13 @@ impl Busy {
     /// Public serves, each with the check of the board: the box's and the second program's.
     pub fn measure_serves(&self, rounds: usize) -> [f64; 2] {
         let proved: Side = Box::new(move || {
-            let mut board = self.lent.board.clone();
+            let mut board = proved::Board::from(self.lent.board.clone());
             let tables = &self.lent.tables;
             let (time, sent) = timed(|| {
                 (0..SINGLE_CALLS).map(|_| proved::serve(&mut board, &tables.numbers, &tables.lengths)).collect::<Vec<(u8, Sent)>>()
             });
             let answers = sent.into_iter().map(|(code, sent)| (u32::from(code), sent));
-            Round { time, hash: hash_of_serves(&board, tables, answers) }
+            Round { time, hash: hash_of_serves(&board.into(), tables, answers) }
         });
         let second: Side = Box::new(move || {
             let mut lent = self.lent.clone();

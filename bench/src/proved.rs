@@ -1,37 +1,75 @@
-//! The proved box behind its C functions. The second program's board has the same fields, so its arrays and numbers are what is lent.
+//! The proved box behind its C functions: a board is one pointer, and so is each table.
 
-use second::board::Board;
+use second::board;
 use second::engine::Sent;
-use second::numbers::{CLASSES, PLACES};
+use second::numbers::{CLASSES, LANE_DEPTH, PLACES};
 
-type Words = [u32; PLACES];
-type Longs = [u64; PLACES];
-type Rings = [u16; PLACES];
-type Small = [u8; PLACES];
-type Links = [u8; CLASSES];
+type Ids = [u32; PLACES * LANE_DEPTH];
+type Lens = [u16; PLACES * LANE_DEPTH];
+
+/// The box's board, as C lays it out; the second program's has the same fields.
+#[repr(C)]
+#[derive(Clone)]
+pub struct Board {
+    numbers: [u32; PLACES],
+    shares: [u32; PLACES],
+    deficits: [u64; PLACES],
+    starts: [u16; PLACES],
+    counts: [u16; PLACES],
+    ready: [u64; PLACES],
+    next: [u8; PLACES],
+    heads: [u8; CLASSES],
+    tails: [u8; CLASSES],
+    held: [u32; CLASSES],
+    largest: u32,
+    clock: u64,
+    active: u32,
+    pending: u32,
+    slot: u8,
+    left: u64,
+}
+
+// A board of one side as the other's.
+#[rustfmt::skip]
+macro_rules! same_fields {
+    ($from:path => $to:path) => {
+        impl From<$from> for $to {
+            fn from(board: $from) -> $to {
+                let $from { numbers, shares, deficits, starts, counts, ready, next, heads, tails, held, .. } = board;
+                let $from { largest, clock, active, pending, slot, left, .. } = board;
+                $to { numbers, shares, deficits, starts, counts, ready, next, heads, tails, held, largest, clock, active, pending, slot, left }
+            }
+        }
+    };
+}
+
+same_fields!(board::Board => Board);
+same_fields!(Board => board::Board);
+
+/// What a serve sent.
+#[repr(C)]
+#[derive(Default)]
+struct Told {
+    block: u32,
+    number: u32,
+    length: u16,
+    clock: u64,
+}
+
+/// How many records a burst sent, and their bytes.
+#[repr(C)]
+#[derive(Default)]
+pub struct Total {
+    pub count: usize,
+    pub bytes: u64,
+}
 
 // A slice goes to C as its first element's address and its length.
-#[rustfmt::skip]
 extern "C" {
     fn box_listing(log: *const u8, log_len: usize, piece: *mut u8, piece_len: usize, out: *mut u8, out_len: usize) -> usize;
-    fn box_record(
-        ids: *mut u32, ids_len: usize, lens: *mut u16, lens_len: usize, number: u32, id: u32, length: u16,
-        numbers: &mut Words, shares: &mut Words, starts: &mut Rings, counts: &mut Rings, deficits: &mut Longs, ready: &mut Longs, next: &mut Small,
-        heads: &mut Links, tails: &mut Links, held: &mut [u32; CLASSES],
-        largest: &mut u32, clock: &mut u64, active: &mut u32, pending: &mut u32, slot: &mut u8, left: &mut u64,
-    ) -> u8;
-    fn box_serve(
-        ids: *const u32, ids_len: usize, lens: *const u16, lens_len: usize, block: &mut u32, number: &mut u32, length: &mut u16, time: &mut u64,
-        numbers: &mut Words, shares: &mut Words, starts: &mut Rings, counts: &mut Rings, deficits: &mut Longs, ready: &mut Longs, next: &mut Small,
-        heads: &mut Links, tails: &mut Links, held: &mut [u32; CLASSES],
-        largest: &mut u32, clock: &mut u64, active: &mut u32, pending: &mut u32, slot: &mut u8, left: &mut u64,
-    ) -> u8;
-    fn box_burst(
-        ids: *const u32, ids_len: usize, lens: *const u16, lens_len: usize, bytes: u64, list: *mut u32, list_len: usize, count: &mut usize, sent: &mut u64,
-        numbers: &mut Words, shares: &mut Words, starts: &mut Rings, counts: &mut Rings, deficits: &mut Longs, ready: &mut Longs, next: &mut Small,
-        heads: &mut Links, tails: &mut Links, held: &mut [u32; CLASSES],
-        largest: &mut u32, clock: &mut u64, active: &mut u32, pending: &mut u32, slot: &mut u8, left: &mut u64,
-    ) -> u8;
+    fn box_record(b: &mut Board, ids: &mut Ids, lens: &mut Lens, block: u32, id: u32, length: u16) -> u8;
+    fn box_serve(b: &mut Board, ids: &Ids, lens: &Lens, sent: &mut Told) -> u8;
+    fn box_burst(b: &mut Board, ids: &Ids, lens: &Lens, bytes: u64, list: *mut u32, list_len: usize, total: &mut Total) -> u8;
 }
 
 /// Writes a log's listing to the front of a buffer, by pieces that go through another, and gives its length.
@@ -39,53 +77,23 @@ pub fn listing(log: &[u8], piece: &mut [u8], out: &mut [u8]) -> usize {
     unsafe { box_listing(log.as_ptr(), log.len(), piece.as_mut_ptr(), piece.len(), out.as_mut_ptr(), out.len()) }
 }
 
-#[rustfmt::skip]
 pub fn record(board: &mut Board, ids: &mut [u32], lens: &mut [u16], block: u32, number: u32, length: u16) -> u8 {
-    let b = board;
-    unsafe {
-        box_record(
-            ids.as_mut_ptr(), ids.len(), lens.as_mut_ptr(), lens.len(), block, number, length,
-            &mut b.numbers, &mut b.shares, &mut b.starts, &mut b.counts, &mut b.deficits, &mut b.ready, &mut b.next,
-            &mut b.heads, &mut b.tails, &mut b.held,
-            &mut b.largest, &mut b.clock, &mut b.active, &mut b.pending, &mut b.slot, &mut b.left,
-        )
-    }
+    let (ids, lens) = (ids.try_into().expect("2,048 numbers"), lens.try_into().expect("2,048 lengths"));
+    unsafe { box_record(board, ids, lens, block, number, length) }
 }
 
 /// The code, and what was sent, which is all zeros after a refusal.
-#[rustfmt::skip]
 pub fn serve(board: &mut Board, ids: &[u32], lens: &[u16]) -> (u8, Sent) {
-    let b = board;
-    let mut sent = Sent { block: 0, record: 0, length: 0, clock: 0 };
-    let code = unsafe {
-        box_serve(
-            ids.as_ptr(), ids.len(), lens.as_ptr(), lens.len(), &mut sent.block, &mut sent.record, &mut sent.length, &mut sent.clock,
-            &mut b.numbers, &mut b.shares, &mut b.starts, &mut b.counts, &mut b.deficits, &mut b.ready, &mut b.next,
-            &mut b.heads, &mut b.tails, &mut b.held,
-            &mut b.largest, &mut b.clock, &mut b.active, &mut b.pending, &mut b.slot, &mut b.left,
-        )
-    };
-    (code, sent)
+    let (ids, lens) = (ids.try_into().expect("2,048 numbers"), lens.try_into().expect("2,048 lengths"));
+    let mut told = Told::default();
+    let code = unsafe { box_serve(board, ids, lens, &mut told) };
+    (code, Sent { block: told.block, record: told.number, length: told.length, clock: told.clock })
 }
 
-/// How many records a burst sent, their bytes, and the code that stopped it.
-pub struct Burst {
-    pub count: usize,
-    pub bytes: u64,
-    pub code: u8,
-}
-
-#[rustfmt::skip]
-pub fn burst(board: &mut Board, ids: &[u32], lens: &[u16], budget: u64, list: &mut [u32]) -> Burst {
-    let b = board;
-    let (mut count, mut bytes) = (0, 0);
-    let code = unsafe {
-        box_burst(
-            ids.as_ptr(), ids.len(), lens.as_ptr(), lens.len(), budget, list.as_mut_ptr(), list.len(), &mut count, &mut bytes,
-            &mut b.numbers, &mut b.shares, &mut b.starts, &mut b.counts, &mut b.deficits, &mut b.ready, &mut b.next,
-            &mut b.heads, &mut b.tails, &mut b.held,
-            &mut b.largest, &mut b.clock, &mut b.active, &mut b.pending, &mut b.slot, &mut b.left,
-        )
-    };
-    Burst { count, bytes, code }
+/// The code that stopped a burst, and what it sent.
+pub fn burst(board: &mut Board, ids: &[u32], lens: &[u16], budget: u64, list: &mut [u32]) -> (u8, Total) {
+    let (ids, lens) = (ids.try_into().expect("2,048 numbers"), lens.try_into().expect("2,048 lengths"));
+    let mut total = Total::default();
+    let code = unsafe { box_burst(board, ids, lens, budget, list.as_mut_ptr(), list.len(), &mut total) };
+    (code, total)
 }

@@ -10,6 +10,8 @@ use units::Parts;
 
 // A link to place p is p + 1, and 0 is none: `next` behind each place, `heads` and `tails` of each class's order, `slot`.
 // `deficits` are parts, as `left` is: an array that is lent holds numbers, which are wrapped at each read.
+// A board lies in memory as C lays it out, so that a program in C holds one by its address.
+#[repr(C)]
 pub struct Board {
     pub numbers: [u32; PLACES],
     pub shares: [u32; PLACES],

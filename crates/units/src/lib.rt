@@ -8,7 +8,8 @@ use numbers::GREATEST_SHARE;
 use numbers::LAST_CLASS;
 use numbers::PARTS_PER_BYTE;
 
-// An amount of credit: one byte is 65,536 parts.
+// An amount of credit: one byte is 65,536 parts. It stands in a board, which C lays out too.
+#[repr(C)]
 pub struct Parts(pub u64);
 
 // An amount of data.

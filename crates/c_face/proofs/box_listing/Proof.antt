@@ -1,4 +1,4 @@
--- `exports::box_listing` meets its contract. What is written up to a piece, and what is left, is the listing; the rest of the log gets shorter. Assumes nothing.
+-- `c_face::box_listing` meets its contract. What is written up to a piece, and what is left, is the listing; the rest of the log gets shorter. Assumes nothing.
 use denote.Ref.{now}
 use borrow.Author.Needs.{needs}
 use native.Mathlib.Omega.{arith}
@@ -8,9 +8,9 @@ use lib.ListN.{length, replicate}
 use lib.Seq.{length-take-le}
 use Rattle.player.specs.Pieces.{readTo}
 use Rattle.player.proofs.Pieces.{before-first-ready, piece-fits, piece-next, piece-moves}
-use Rattle.exports.proofs.Whole.{Going, nothing-yet, no-room, too-long, piece-room, one-more, all-written}
-use Rattle.exports.proofs.box_listing.Statement.{statement}
-use Rattle.exports.proofs.box_listing.Tie as tie
+use Rattle.c_face.proofs.Whole.{Going, nothing-yet, no-room, too-long, piece-room, one-more, all-written}
+use Rattle.c_face.proofs.box_listing.Statement.{statement}
+use Rattle.c_face.proofs.box_listing.Tie as tie
 
 abbrev Inv-loop : tie.InvT-loop
 Inv-loop log piece₀ out₀ ids₀ lens₀ state₀ end₀ piece out ids lens state end = Going log piece₀ out₀ piece out ids lens state end

@@ -12,7 +12,7 @@ use Rattle.plays.specs.Listing.{listingOf}
 use Rattle.player.specs.declared.State.{State}
 use Rattle.player.specs.declared.Piece.{Piece}
 use Rattle.player.specs.Pieces.{beforeFirst, readTo, restOf, restAfter, pieceCode, PieceDone, PieceOf}
-use Rattle.exports.specs.Listed.{Listed}
+use Rattle.c_face.specs.Listed.{Listed}
 
 -- what is written so far, and what is left, is the listing
 pub record SoFar (log before : List ℕ) (s : State) (ids lens : List ℕ) (end : ℕ) (out : List ℕ) : Type 0 where
