@@ -62,7 +62,7 @@ same-length-2 : tie.Need-same-length-2
 same-length-2 c = search needs
 
 returns : tie.Need-returns
-returns c = serve-plays _ (search needs) _ _ _ _ (search needs) _ _ (c .play-serve .ensures)
+returns c = serve-plays _ (c .before .before .before .before .before .before .before .before .before .before .before .before .before .before .before .before .before .before .pre .0) _ _ _ _ (search needs) _ _ (c .play-serve .ensures)
 
 enum-told-2 : tie.Need-enum-told-2
 enum-told-2 c = search needs
