@@ -19,6 +19,19 @@ sizeInRange largest = leb 64 largest && leb largest 2048
 
 -- ---- A PLACE
 
+-- what the arrays of a board say of place p
+abbrev pub placeNow : Board → ℕ → PlaceNow
+placeNow b p =
+    record {
+      number = getD (b .numbers) p 0;
+      share = getD (b .shares) p 0;
+      start = getD (b .starts) p 0;
+      count = getD (b .counts) p 0;
+      deficit = record { 0 = getD (b .deficits) p 0 };
+      ready = getD (b .ready) p 0;
+      next = getD (b .next) p 0;
+    }
+
 -- open block numbers distinct: a number but 0 stands at one place only
 unfoldable pub timesFound : List ℕ → ℕ → ℕ
 timesFound numbers n = below (λ q. oneIf (eqb (getD numbers q 0) n)) 64
@@ -51,7 +64,9 @@ deficitInRange largest queued x = ltb (x .deficit .0) (chargeOf largest) && (que
 
 -- all not in use 0: a free place; a ready time and a link outside an order
 unfoldable pub freeIsZero : PlaceNow → Bool
-freeIsZero x = ltb 0 (x .share) || (eqb (x .number) 0 && (eqb (x .start) 0 && (eqb (x .count) 0 && eqb (x .deficit .0) 0)))
+freeIsZero x =
+    ltb 0 (x .share)
+    || (eqb (x .number) 0 && (eqb (x .start) 0 && (eqb (x .count) 0 && eqb (x .deficit .0) 0)))
 
 unfoldable pub unusedIsZero : Bool → PlaceNow → Bool
 unusedIsZero queued x = queued || (eqb (x .ready) 0 && eqb (x .next) 0)
@@ -68,19 +83,6 @@ placeRules largest slot p x =
 
 unfoldable pub placeInRange : ℕ → ℕ → ℕ → PlaceNow → Bool
 placeInRange largest slot p x = every (placeRules largest slot p x)
-
--- what the arrays of a board say of place p
-abbrev pub placeNow : Board → ℕ → PlaceNow
-placeNow b p =
-    record {
-      number = getD (b .numbers) p 0;
-      share = getD (b .shares) p 0;
-      start = getD (b .starts) p 0;
-      count = getD (b .counts) p 0;
-      deficit = record { 0 = getD (b .deficits) p 0 };
-      ready = getD (b .ready) p 0;
-      next = getD (b .next) p 0;
-    }
 
 unfoldable pub placesInRange : Board → Bool
 placesInRange b = allBelow 64 (λ p. placeInRange (b .largest) (b .slot) p (placeNow b p))
