@@ -37,7 +37,10 @@ macro_rules! same_fields {
             fn from(board: $from) -> $to {
                 let $from { numbers, shares, deficits, starts, counts, ready, next, heads, tails, held, .. } = board;
                 let $from { largest, clock, active, pending, slot, left, .. } = board;
-                $to { numbers, shares, deficits, starts, counts, ready, next, heads, tails, held, largest, clock, active, pending, slot, left }
+                $to {
+                    numbers, shares, deficits, starts, counts, ready, next, heads, tails, held,
+                    largest, clock, active, pending, slot, left,
+                }
             }
         }
     };

@@ -1,7 +1,7 @@
 // The box for programs in C: a board is one pointer, and so is each table. Each function promises what the call or the
 // player below it promises, and asks nothing of a caller but what the types say.
-// A function for C passes what it is given and the board's value to one function, stores the board of the reply whole and
-// returns the code. Its proof is a walk of these steps (tools/walks), so whatever is more stands in the function below it.
+// A function for C passes what it is given and the board's value to one function, stores the reply's board whole and
+// returns the code. Its proof is a walk of these steps (tools/walks), so whatever is more stands in the function below.
 ghost use mathlib.Core.Path.{_≡_};
 ghost use Rattle.rules.specs.Blocks.{opening};
 ghost use Rattle.rules.specs.Calls.{open!, rename!, close!, record! };
@@ -34,17 +34,17 @@ pub struct Total {
 }
 
 // The answer of a serve, what C is told as one value.
-pub struct ServeReply {
-    pub code: u8,
-    pub sent: Sent,
-    pub board: Board,
+struct ServeReply {
+    code: u8,
+    sent: Sent,
+    board: Board,
 }
 
 // The answer of a burst, what C is told as one value.
-pub struct BurstReply {
-    pub code: u8,
-    pub total: Total,
-    pub board: Board,
+struct BurstReply {
+    code: u8,
+    total: Total,
+    board: Board,
 }
 
 // ---- The calls on tables of their one length

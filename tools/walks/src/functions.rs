@@ -49,9 +49,11 @@ pub fn all() -> Vec<Function> {
         function("box_close", read, &[number("block")], PLAIN,
             "returned r (ids .now) (lens .now) ≡ called (b .now) (ids .now) (lens .now) (close! block)"),
         function("box_record", written, &[number("block"), number("id"), ("len", Number("u16"))], PLAIN,
-            "returned r ids′ lens′ ≡ called (b .now) (ids .now) (lens .now) (record! block (record { number = id; bytes = len }))"),
+            "returned r ids′ lens′ \
+             ≡ called (b .now) (ids .now) (lens .now) (record! block (record { number = id; bytes = len }))"),
         function("box_serve", read, &[("sent", Told("Sent"))], SERVE,
-            "returned (servedOf (r .code) (r .sent) (r .board)) (ids .now) (lens .now) ≡ calledServe (b .now) (ids .now) (lens .now)"),
+            "returned (servedOf (r .code) (r .sent) (r .board)) (ids .now) (lens .now) \
+             ≡ calledServe (b .now) (ids .now) (lens .now)"),
         function("box_burst", read, &[("bytes", Number("u64")), ("list", List("u32")), ("total", Told("Total"))], BURST,
             "returned (burstNow (burstedOf (r .code) (r .total) (r .board)) list′) (ids .now) (lens .now) \
              ≡ calledBurst (b .now) (ids .now) (lens .now) bytes (list .now)"),

@@ -8,8 +8,10 @@ use crate::script::Script;
 use crate::text::{list, product};
 use crate::walk::Walk;
 
+/// The place itself, with no field and no step behind a pointer.
+const HERE: &str = "(from ! (stop !))";
+
 impl Walk<'_> {
-    /// The walk itself, statement by statement of the MIR.
     pub fn steps(&self) -> Vec<String> {
         let locals = Locals::new(self);
         let mut items: Vec<String> = Vec::new();
@@ -81,17 +83,19 @@ impl Walk<'_> {
         for (p, temporary) in self.passed().zip(&locals.passed) {
             let (from, to) = (s.at(&local(locals.of(p))), s.at(&local(*temporary)));
             match p.kind {
-                WrittenTable(_) => s.step(format!(
-                    "assigns ! (addr ! (from ! (hop ! (look ! {from} refl) (stop !)))) (from ! (stop !)) (init ! {to} refl (tt, tt))"
-                )),
+                WrittenTable(_) => {
+                    let place = format!("(from ! (hop ! (look ! {from} refl) (stop !)))");
+                    s.step(format!("assigns ! (addr ! {place}) {HERE} (init ! {to} refl (tt, tt))"));
+                }
                 List(_) => {
                     let pointer = s.at(&local(*temporary - 1));
-                    let place = format!("(from ! (fld ! refl (hop ! (look-in ! {from} (sub ! 0 refl (whole !))) (stop !))))");
-                    s.step(format!("assigns ! (addr ! {place}) (from ! (stop !)) (init ! {pointer} refl (tt, tt))"));
-                    let first = format!("load ! (from ! (stop !)) (look ! {pointer} refl)");
-                    let second = format!("load ! (from ! (fld ! refl (stop !))) (look-in ! {from} (sub ! 1 refl (whole !)))");
+                    let part = |field| format!("look-in ! {from} (sub ! {field} refl (whole !))");
+                    let place = format!("(from ! (fld ! refl (hop ! ({}) (stop !))))", part(0));
+                    s.step(format!("assigns ! (addr ! {place}) {HERE} (init ! {pointer} refl (tt, tt))"));
+                    let first = format!("load ! {HERE} (look ! {pointer} refl)");
+                    let second = format!("load ! (from ! (fld ! refl (stop !))) ({})", part(1));
                     let both = format!("and-then ! ({first}) (and-then ! ({second}) (no-more !))");
-                    s.step(format!("assigns ! (agg ! ({both})) (from ! (stop !)) (init ! {to} refl {})", list_typed(p)));
+                    s.step(format!("assigns ! (agg ! ({both})) {HERE} (init ! {to} refl {})", list_typed(p)));
                 }
                 _ => (),
             }
@@ -101,7 +105,7 @@ impl Walk<'_> {
             let (from, raw, to) = (s.at(&local(1)), s.at(&cell(&self.all[0])), s.at(&local(board)));
             let typed = "LL.lawful B.the-type B′.the-laws 𝓤 H A W .typed (b .now) _ was .0";
             let load = format!("load ! (from ! (hop ! (look ! {from} refl) (stop !))) (look-raw ! {raw} refl)");
-            s.step(format!("assigns ! (of-opd ! ({load})) (from ! (stop !)) (init ! {to} refl ({typed}))"));
+            s.step(format!("assigns ! (of-opd ! ({load})) {HERE} (init ! {to} refl ({typed}))"));
             arguments.push(board);
         }
         let names = self.passed_names();
@@ -113,7 +117,7 @@ impl Walk<'_> {
         let gives = if self.function.reads_board { "(gives was)" } else { "gives" };
         s.step(format!("use1 W (raw (Callee .pre to)) {gives}"));
         let operands = arguments.iter().rev().fold("no-more !".to_string(), |rest, &argument| {
-            format!("and-then ! (load ! (from ! (stop !)) (look ! {} refl)) ({rest})", s.at(&local(argument)))
+            format!("and-then ! (load ! {HERE} (look ! {} refl)) ({rest})", s.at(&local(argument)))
         });
         s.bind(&format!("calls-at ! fm Callee known to ({operands})"), "v");
         s.replace(1, &["answer"]);
@@ -148,9 +152,8 @@ impl Walk<'_> {
         s.bind("peeks ! R.the-row (Is R.the-row) (shows 𝓤 H A R.the-row) r (v ∷ [])", "is");
         s.drop("reply");
         let at = s.at(&local(locals.reply));
-        s.step(format!(
-            "land ! (from ! (stop !)) (init ! {at} refl (LL.lawful R.the-type R′.the-laws 𝓤 H A W .typed r _ is .0))"
-        ));
+        let typed = "LL.lawful R.the-type R′.the-laws 𝓤 H A W .typed r _ is .0";
+        s.step(format!("land ! {HERE} (init ! {at} refl ({typed}))"));
         let item = format!("(λ (u : Val). ‵ (fat fullShare R′.mir l{} 0 u))", locals.reply);
         s.step(format!("rewrite ! {at} {item} (ap only (LL.tells R.the-type R′.the-laws r _ is)) refl"));
     }
@@ -193,7 +196,7 @@ impl Walk<'_> {
         }
         let result = s.at(&local(0));
         let fits = format!("(tt, record {{ fits = {} .1 }})", owed(0));
-        s.step(format!("assigns ! (of-opd ! ({})) (from ! (stop !)) (init ! {result} refl {fits})", load(0)));
+        s.step(format!("assigns ! (of-opd ! ({})) {HERE} (init ! {result} refl {fits})", load(0)));
         for p in self.structs() {
             let (t, field) = (p.module(), self.field(p));
             s.add(owned_struct(t, &format!("(r .{field}) _ ({})", owed(self.field_index(p)))), "value");

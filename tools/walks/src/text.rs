@@ -84,8 +84,8 @@ fn fitted_line(line: &str, indent: usize) -> String {
     done + &rest
 }
 
-/// The last of the spaces that have the fewest brackets around them and leave a line that fits. A mark that belongs to what
-/// is behind it stays with it, and `where` with what is before it.
+/// The last of the spaces that have the fewest brackets around them and leave a line that fits. A mark that belongs to
+/// what is behind it stays with it, and `where` with what is before it.
 fn break_of(line: &str) -> usize {
     let (mut depth, mut best) = (0, None);
     let text = line.len() - line.trim_start().len();

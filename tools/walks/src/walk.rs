@@ -81,8 +81,9 @@ impl<'a> Walk<'a> {
 
     fn head(&self) -> String {
         format!(
-            "-- `{CRATE}::{}` meets its contract: a walk of its MIR, written by tools/walks. The board behind the borrow is one machine value\n\
-             -- from beginning to end, whatever its fields are; all that is known of `{}` is that it meets its contract. Assumes nothing.\n",
+            "-- `{CRATE}::{}` meets its contract: a walk of its MIR, written by tools/walks.\n\
+             -- The board behind the borrow is one machine value from beginning to end, whatever its fields are.\n\
+             -- All that is known of `{}` is that it meets its contract. Assumes nothing.\n",
             self.function.name, self.callee
         )
     }
@@ -330,7 +331,8 @@ impl<'a> Walk<'a> {
             abbrev(6, "Start", "List (Item 𝓤)", format!("{all_tokens} ∷ ‵ (owns ({}) a at) ∷ []", list(&owners))),
             abbrev(6, "arguments", "List Val", list(&values)),
             format!(
-                "      walk : ent 𝓤 (onEntry 𝓤 H A f.signature {lfts} {shares} a at) (WpFn 𝓤 H C Λ code.function arguments Post)"
+                "      walk : ent 𝓤 (onEntry 𝓤 H A f.signature {lfts} {shares} a at) \
+                 (WpFn 𝓤 H C Λ code.function arguments Post)"
             ),
             format!("      walk =\n          qed W Start ∵\n{}\n", packed(&self.steps(), 10)),
         ]
@@ -352,13 +354,15 @@ impl<'a> Walk<'a> {
         let known = |c: &str| format!("Triple 𝓤 ({c} #{}) Callee", self.callee_key);
         [
             format!(
-                "  walks : (C : Calls 𝓤 H) (Λ : Loops 𝓤 H) → FmC 𝓤 H (W .laws) C → {} → Walks 𝓤 H A f.ended stayed {} clauses",
+                "  walks : (C : Calls 𝓤 H) (Λ : Loops 𝓤 H) → FmC 𝓤 H (W .laws) C → {} \
+                 → Walks 𝓤 H A f.ended stayed {} clauses",
                 known("C"),
                 runs("C", "Λ")
             ),
             "  walks C Λ fm known =".into(),
             format!("      walked 𝓤 H A f.ended stayed clauses {} spells tells", runs("C", "Λ")),
-            format!("      (λ κs qs bounds a _ are. via 𝓤 _ (fst∗ 𝓤 _ (emp 𝓤)) (walk{lfts}{shares}{arguments}{facts} C Λ fm known))\n"),
+            "      (λ κs qs bounds a _ are. via 𝓤 _ (fst∗ 𝓤 _ (emp 𝓤))".into(),
+            format!("      (walk{lfts}{shares}{arguments}{facts} C Λ fm known))\n"),
             format!(
                 "  meets : (𝓣 : Tables 𝓤 H) → {} → Meets 𝓤 H A f.signature {} (f.spec 𝓤 H A at-mem run)",
                 known("𝓣 .C"),
@@ -366,7 +370,8 @@ impl<'a> Walk<'a> {
             ),
             "  meets 𝓣 known =".into(),
             format!("      walk-meets 𝓤 H A f.ended stayed W goes clauses {}", runs("(𝓣 .C)", "(𝓣 .Λ)")),
-            "      (WpFn-mono 𝓤 H (W .laws) 𝓣 code.function) (walks (𝓣 .C) (𝓣 .Λ) (fmOf 𝓤 H (W .laws) 𝓣) known)\n".into(),
+            "      (WpFn-mono 𝓤 H (W .laws) 𝓣 code.function)".into(),
+            "      (walks (𝓣 .C) (𝓣 .Λ) (fmOf 𝓤 H (W .laws) 𝓣) known)\n".into(),
         ]
         .join("\n")
     }

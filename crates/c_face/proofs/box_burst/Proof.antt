@@ -1,5 +1,6 @@
--- `c_face::box_burst` meets its contract: a walk of its MIR, written by tools/walks. The board behind the borrow is one machine value
--- from beginning to end, whatever its fields are; all that is known of `burst_on` is that it meets its contract. Assumes nothing.
+-- `c_face::box_burst` meets its contract: a walk of its MIR, written by tools/walks.
+-- The board behind the borrow is one machine value from beginning to end, whatever its fields are.
+-- All that is known of `burst_on` is that it meets its contract. Assumes nothing.
 use mathlib.Core.Path.{_≡_, refl, ap}
 use Prim.Native.Nat.{ℕ, _<_, _^_}
 use mathlib.Core.List.{[], _∷_, List}
@@ -19,8 +20,8 @@ use contract.Monad.{Fun, fact}
 use contract.Running.{givenOf, tables, tablesOf}
 use types.Kit.{Given, Item, ‵, raw, _⊛_, ⋆, some, later, _$_, _∵_, !, qed, by, move, keep, drop, use1, split, join, pick, rewrite}
 use types.Kit.{fsplit, fsplit3, fjoin, fjoin3, feqL, feqI, suffices, frame, await, done}
-use types.Run.{look, look-raw, init, store-raw, forget, stop, hop, fld, from, load, of-opd, addr, and-then, no-more, assigns, land}
-use types.Run.{returns, enter, alloc1, alloc0, params1, pass1, pass0, free1, free0}
+use types.Run.{look, look-raw, init, store-raw, forget, stop, hop, fld, from, load, of-opd, addr, and-then, no-more}
+use types.Run.{assigns, land, returns, enter, alloc1, alloc0, params1, pass1, pass0, free1, free0}
 use types.Part.{agg, whole, sub, look-in}
 use types.SemTy.{Body}
 use sound.WpLaws.{FmC, fmOf, WpFn-mono}
@@ -42,8 +43,8 @@ use denote.Triple.Clauses.{Clauses, ensured, lasts}
 use denote.Triple.Entry.{onEntry}
 use denote.Triple.Spec.{Meets, tripleOf}
 use denote.Triple.Table.{entered, cited}
-use denote.Triple.Walked.{says, Stays, stay-ref, gave-slice, stay-dropped, walkOf, Walks, ends-at, walked, walk-meets}
-use denote.Triple.Walked.{AllGo, goes-ref, goes-gave-slice, goes-dropped}
+use denote.Triple.Walked.{says, Stays, stay-ref, gave-slice, stay-dropped, walkOf, Walks, ends-at}
+use denote.Triple.Walked.{walked, walk-meets, AllGo, goes-ref, goes-gave-slice, goes-dropped}
 use denote.Exit.{yes}
 use Rattle.board.specs.declared.Board.{Board}
 use Rattle.board.specs.Leaving.{returned}
@@ -289,7 +290,8 @@ module _ {M : Type 1} (𝓤 : URA M) (H : Heap 𝓤) (A : Atoms 𝓤) (W : Given
   meets : (𝓣 : Tables 𝓤 H) → Triple 𝓤 (𝓣 .C #c-face·burst-on) Callee → Meets 𝓤 H A f.signature (WpFn 𝓤 H (𝓣 .C) (𝓣 .Λ) code.function) (f.spec 𝓤 H A at-mem run)
   meets 𝓣 known =
       walk-meets 𝓤 H A f.ended stayed W goes clauses (WpFn 𝓤 H (𝓣 .C) (𝓣 .Λ) code.function)
-      (WpFn-mono 𝓤 H (W .laws) 𝓣 code.function) (walks (𝓣 .C) (𝓣 .Λ) (fmOf 𝓤 H (W .laws) 𝓣) known)
+      (WpFn-mono 𝓤 H (W .laws) 𝓣 code.function)
+      (walks (𝓣 .C) (𝓣 .Λ) (fmOf 𝓤 H (W .laws) 𝓣) known)
 
 pub box-burst-spec : {M : Type 1} → stated.statement M
 unfolding code.routine tablesOf
