@@ -8,7 +8,7 @@ use lib.ListN.{length, take, length-append}
 use lib.Seq.{take-at, take-length, length-take-le}
 use Rattle.lines.specs.Text.{Written, Line}
 use Rattle.lines.proofs.Texts.{none, then, from-front}
-use Rattle.plays.specs.Listing.{listingOf}
+use Rattle.listing_rules.specs.Listing.{listingOf}
 use Rattle.player.specs.declared.State.{State}
 use Rattle.player.specs.declared.Piece.{Piece}
 use Rattle.player.specs.Pieces.{beforeFirst, readTo, restOf, restAfter, pieceCode, PieceDone, PieceOf}

@@ -43,7 +43,7 @@ use Rattle.taking.proofs.Answers.{record-known}
 use Rattle.blocks.proofs.Answers.{rename-known, open-known, close-known}
 use Rattle.board.proofs.Next.{Follows, call-follows}
 use Rattle.serving.proofs.Known.{within, spells, can-known, by-cases, after-is, known-next, refused-stays}
-use Rattle.plays.specs.Listing.{after, played, fieldLine, servedLine}
+use Rattle.listing_rules.specs.Listing.{after, played, fieldLine, servedLine}
 use Rattle.fields.specs.Fields.{Memory, memory, reads, KnownMemory, FieldPlayed, stepLine, ServeNeeds, ServeShown}
 
 -- only a serve sends bytes

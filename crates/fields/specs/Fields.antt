@@ -14,7 +14,7 @@ use Rattle.log.specs.declared.Event.{Event}
 use Rattle.lines.specs.Text.{Line}
 use Rattle.lines.specs.Listing.{outLine, refusedLine}
 use Rattle.board.specs.Leaving.{Known}
-use Rattle.plays.specs.Listing.{Playing, played, fieldLine}
+use Rattle.listing_rules.specs.Listing.{Playing, played, fieldLine}
 
 -- what stands between two fields
 pub record Memory : Type 0 where

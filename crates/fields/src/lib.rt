@@ -6,7 +6,7 @@ ghost use Prim.Native.Nat.{_^_, _<_, _≤_};
 ghost use lib.ListN.{length};
 ghost use Rattle.log.specs.Format.{isL};
 ghost use Rattle.lines.specs.Text.{Line};
-ghost use Rattle.plays.specs.Listing.{lastOf};
+ghost use Rattle.listing_rules.specs.Listing.{lastOf};
 ghost use Rattle.board.specs.Memory.{numbersNow, boardNow, Engine, engineNow};
 ghost use Rattle.serving.specs.Serving.{servedWithin};
 ghost use Rattle.fields.specs.Fields.{Memory, memory, KnownMemory, FieldPlayed};

@@ -42,8 +42,8 @@ use Rattle.board.proofs.Tables.{right-tables, none-wrong}
 use Rattle.spoilt.proofs.Before.{sound-known, early-none}
 use Rattle.board.proofs.Fresh.{Starts, starts}
 use Rattle.blocks.specs.Blocks.{freshIn}
-use Rattle.plays.specs.Listing.{Playing, unmade, waiting, lastOf, lastLine, listingFrom, listingOf}
-use Rattle.plays.proofs.Listing.{listing-whole, listing-ends, listing-first}
+use Rattle.listing_rules.specs.Listing.{Playing, unmade, waiting, lastOf, lastLine, listingFrom, listingOf}
+use Rattle.listing_rules.proofs.Listing.{listing-whole, listing-ends, listing-first}
 use Rattle.player.specs.declared.State.{State}
 use Rattle.player.specs.declared.Piece.{Piece}
 use Rattle.fields.specs.Fields.{Memory, memory, reads, KnownMemory, FieldPlayed}

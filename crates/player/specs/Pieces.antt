@@ -12,7 +12,7 @@ use Rattle.board.specs.Reading.{encode, isSound}
 use Rattle.log.specs.declared.Stage.the-variants.{BeforeL}
 use Rattle.log.specs.Format.{pastL}
 use Rattle.log.specs.Rows.{nextAt, endsLong}
-use Rattle.plays.specs.Listing.{listingFrom, listingOf}
+use Rattle.listing_rules.specs.Listing.{listingFrom, listingOf}
 use Rattle.fields.specs.Fields.{memory, reads, KnownMemory}
 use Rattle.player.specs.declared.State.{State}
 use Rattle.player.specs.declared.Piece.{Piece}

@@ -9,7 +9,7 @@ use Rattle.log.proofs.Ends.{goes-only, long-anywhere}
 use Rattle.log.proofs.Readings.{goes-next}
 use Rattle.log.proofs.Stages.{turn-later}
 use Rattle.board.specs.Memory.{boardNow}
-use Rattle.plays.specs.Listing.{listingFrom}
+use Rattle.listing_rules.specs.Listing.{listingFrom}
 use Rattle.fields.specs.Fields.{memory, reads}
 use Rattle.player.proofs.Pieces.{UnderWay, under-first, under-room, under-fits, under-small, under-next, under-last, under-more}
 use Rattle.player.proofs.Pieces.{end-listing, left-is, read-is}

@@ -5,8 +5,8 @@ use Prim.Native.Nat.{ℕ}
 use Rattle.log.specs.declared.End.the-variants.{Whole as whole, Broken as broken}
 use Rattle.log.specs.Rows.{Reading, readLog}
 use Rattle.log.proofs.Readings.{read-whole, read-ends, long-log}
-use Rattle.plays.specs.Listing.{Playing, unmade, linesOf, listingOf}
-use Rattle.plays.specs.Laws.{ListingWhole, ListingEnds, ListingEnd, ListingBroken, ListingFirst, ListingLong}
+use Rattle.listing_rules.specs.Listing.{Playing, unmade, linesOf, listingOf}
+use Rattle.listing_rules.specs.Laws.{ListingWhole, ListingEnds, ListingEnd, ListingBroken, ListingFirst, ListingLong}
 
 -- the listing of a reading
 abbrev listed : Playing → Reading → List ℕ
