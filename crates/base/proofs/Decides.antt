@@ -81,4 +81,6 @@ unfolding sameList
 d-list [] [] = record { yes = λ e. refl; no = λ e. refl }
 d-list [] (y ∷ ys) = record { yes = λ e. absurd (false≢true e); no = λ e. absurd (omega (arith, ap length e)) }
 d-list (x ∷ xs) [] = record { yes = λ e. absurd (false≢true e); no = λ e. absurd (omega (arith, ap length e)) }
-d-list (x ∷ xs) (y ∷ ys) = d-iff (d-and (d-eqb x y) (d-list xs ys)) (λ w. ap₂ (λ (z : ℕ) (zs : List ℕ). z ∷ zs) (w .0) (w .1)) (λ e. (ap (λ (l : List ℕ). getD l 0 0) e, ap (λ (l : List ℕ). drop 1 l) e))
+d-list (x ∷ xs) (y ∷ ys) =
+    d-iff (d-and (d-eqb x y) (d-list xs ys)) (λ w. ap₂ (λ (z : ℕ) (zs : List ℕ). z ∷ zs) (w .0) (w .1))
+    (λ e. (ap (λ (l : List ℕ). getD l 0 0) e, ap (λ (l : List ℕ). drop 1 l) e))

@@ -2,7 +2,8 @@
 use mathlib.Core.Path.{_≡_, refl, sym, ap, _∙_}
 use mathlib.Core.Logic.{_⊎_, inl, inr}
 use Prim.Native.Nat.{ℕ, zero, suc, _+_, _-_, _*_, _/_, _%_, _^_, _≤_, _<_, max}
-use native.Mathlib.Nat.{mod-lt, one-mul, div-eq-of-lt, div-self, mul-mod-left, pow-suc, mul-div-cancel, add-div-right, zero-mul, sub-zero, div-one, lt-of-lt-of-le}
+use native.Mathlib.Nat.{mod-lt, one-mul, div-eq-of-lt, div-self, mul-mod-left, pow-suc, mul-div-cancel, add-div-right, zero-mul, sub-zero, div-one}
+use native.Mathlib.Nat.{lt-of-lt-of-le}
 use native.Mathlib.Omega.{arith}
 use native.Mathlib.Decide.{decLt}
 use native.Mathlib.Numerals.{lt-of-le-of-ne, one-add}
@@ -32,7 +33,9 @@ or-digits a b ha hb = or-cases a b (two-cases a ha) (two-cases b hb)
 
 pub bit-or : (x y j : ℕ) → bitAt (bitOr x y) j ≡ max (bitAt x j) (bitAt y j)
 unfolding bitAt
-bit-or x y j = ap (λ (n : ℕ). n % 2) (or-shr x y j) ∙ or-mod (x / 2 ^ j) (y / 2 ^ j) 1 ∙ or-digits (x / 2 ^ j % 2) (y / 2 ^ j % 2) (mod-lt _ (lit< tt)) (mod-lt _ (lit< tt))
+bit-or x y j =
+    ap (λ (n : ℕ). n % 2) (or-shr x y j) ∙ or-mod (x / 2 ^ j) (y / 2 ^ j) 1
+    ∙ or-digits (x / 2 ^ j % 2) (y / 2 ^ j % 2) (mod-lt _ (lit< tt)) (mod-lt _ (lit< tt))
 
 -- a power of two has one bit
 pub bit-power-own : (k : ℕ) → bitAt (2 ^ k) k ≡ 1
@@ -142,7 +145,13 @@ bit-suc n j = ap (λ (m : ℕ). m % 2) (ap (λ (i : ℕ). n / 2 ^ i) (sym (one-a
 -- two numbers below 2 ^ w with the same bits are one
 pub bits-ext : (w a b : ℕ) → a < 2 ^ w → b < 2 ^ w → ((k : ℕ) → k < w → bitAt a k ≡ bitAt b k) → a ≡ b
 bits-ext zero a b h g e = omega arith
-bits-ext (suc w) a b h g e = omega (arith, bits-ext w (a / 2) (b / 2) (omega (arith, pow-suc 2 w)) (omega (arith, pow-suc 2 w)) (λ k l. sym (bit-suc a k) ∙ e (suc k) (omega arith) ∙ bit-suc b k), sym (bit-zero a) ∙ e 0 (omega arith) ∙ bit-zero b)
+bits-ext (suc w) a b h g e =
+    omega (
+      arith,
+      bits-ext w (a / 2) (b / 2) (omega (arith, pow-suc 2 w)) (omega (arith, pow-suc 2 w))
+          (λ k l. sym (bit-suc a k) ∙ e (suc k) (omega arith) ∙ bit-suc b k),
+      sym (bit-zero a) ∙ e 0 (omega arith) ∙ bit-zero b,
+    )
 
 pub bit-high : (w a k : ℕ) → a < 2 ^ w → w ≤ k → bitAt a k ≡ 0
 unfolding bitAt

@@ -26,7 +26,8 @@ unfolding setBelow
 set-bit f zero k h = absurd (omega arith)
 set-bit f (suc n) k h = go (f n) refl (eq-or-lt-of-le (le-of-suc-le-suc h)) (λ g. set-bit f n k g)
   where
-    go : (t : Bool) → f n ≡ t → (k ≡ n) ⊎ (k < n) → (k < n → bitAt (setBelow n f) k ≡ oneIf (f k)) → bitAt (cond t (withBit (setBelow n f) n) (setBelow n f)) k ≡ oneIf (f k)
+    go : (t : Bool) → f n ≡ t → (k ≡ n) ⊎ (k < n) → (k < n → bitAt (setBelow n f) k ≡ oneIf (f k))
+        → bitAt (cond t (withBit (setBelow n f) n) (setBelow n f)) k ≡ oneIf (f k)
     go true e (inl q) rest = rw (q, e) (with-own (setBelow n f) n)
     go true e (inr g) rest = with-other (setBelow n f) n k (λ q. omega arith) ∙ rest g
     go false e (inl q) rest = rw (q, e) (bit-high n (setBelow n f) n (set-lt f n) (omega arith))

@@ -96,7 +96,8 @@ module _ (m : Board.Board) (f : Fit m) (ids lens : List ℕ) (o : Opening) where
       p : ℕ
       p = freeAt m
 
-      go : (at m p ≡ freePlace) ⊎ ((1 ≤ at m p .number) × (1 ≤ at m p .share)) → withBlocks (encode m) (openAt p o (blocksOf (encode m))) ≡ encode (goOn m p (opened (meant o)))
+      go : (at m p ≡ freePlace) ⊎ ((1 ≤ at m p .number) × (1 ≤ at m p .share))
+          → withBlocks (encode m) (openAt p o (blocksOf (encode m))) ≡ encode (goOn m p (opened (meant o)))
       go (inl q) =
           open-is m (f .tidy) p (inside m f p (false-lt 64 p e)) (ap (λ (y : Place). y .stand) q) (ap (λ (y : Place). length (y .lane)) q)
           (ap (λ (y : Place). y .deficit) q) o (ap (λ (y : Place). y .start) q)
@@ -162,8 +163,12 @@ module _ (b : struct.Board) (ids lens : List ℕ) (k : Known b ids lens) where
   pub close-needs : CloseNeeds (b .numbers) (b .shares) (b .held)
   close-needs = subst (λ (c : struct.Board). CloseNeeds (c .numbers) (c .shares) (c .held)) (k .sound .spells) (written-close-needs m f)
 
-  pub rename-known : (old new : ℕ) (x : Renaming) → x ≡ renamedIn (b .numbers) old new → returned (replied (x .code) (withRenaming b x)) ids lens ≡ ruled b ids lens (rename! old new)
-  rename-known old new x e = rw e (by-spelling b ids lens k (rename! old new) (λ c. returned (replied (renamedIn (c .numbers) old new .code) (withRenaming c (renamedIn (c .numbers) old new))) ids lens) (renamed-is m f ids lens old new))
+  pub rename-known : (old new : ℕ) (x : Renaming) → x ≡ renamedIn (b .numbers) old new
+      → returned (replied (x .code) (withRenaming b x)) ids lens ≡ ruled b ids lens (rename! old new)
+  rename-known old new x e =
+      rw e (by-spelling b ids lens k (rename! old new)
+      (λ c. returned (replied (renamedIn (c .numbers) old new .code) (withRenaming c (renamedIn (c .numbers) old new))) ids lens)
+      (renamed-is m f ids lens old new))
 
   -- the board with what was answered on its arrays
   abbrev in-board : struct.Board → Answered → Returned Reply

@@ -39,7 +39,8 @@ held-of : (m : Board.Board) → encode m .held ≡ tab 17 (m .held)
 unfolding encode
 held-of m = refl
 
-held-eq : (active s : ℕ) (held : List ℕ) (t : Bool) → eqb active 0 ≡ t → heldWith active s held ≡ cond t held (set held (classOf s) (getD held (classOf s) 0 + s))
+held-eq : (active s : ℕ) (held : List ℕ) (t : Bool) → eqb active 0 ≡ t
+    → heldWith active s held ≡ cond t held (set held (classOf s) (getD held (classOf s) 0 + s))
 unfolding heldWith
 held-eq active s held t e = rw e
 
@@ -65,7 +66,9 @@ module _ (m : Board.Board) (g : Tidy m) (p : ℕ) (inL : p < length (m .places))
     largest = refl;
     clock = refl;
     active = set-ext _ _ 17 (λ j h. sym (active-set j p l y refl));
-    pending = set-ext _ _ 17 (λ j h. sym (due-ext l (set l p y) (m .clock) (m .orders j) (λ q c. ap (dueBy (m .clock)) (set-field (λ (w : Place). w .stand) l p y inL refl q))));
+    pending =
+        set-ext _ _ 17 (λ j h.
+        sym (due-ext l (set l p y) (m .clock) (m .orders j) (λ q c. ap (dueBy (m .clock)) (set-field (λ (w : Place). w .stand) l p y inL refl q))));
     slot = refl;
     left = sym (left-same l p y (m .slot) inL refl);
   })
@@ -80,7 +83,8 @@ module _ (m : Board.Board) (g : Tidy m) (p : ℕ) (inL : p < length (m .places))
 
     idle-is : (n s st : ℕ) (H : ℕ → ℕ) (held′ : List ℕ) → held′ ≡ tab 17 H
         → withBlocks (encode m) (blocksNow (set (encode m .numbers) p n) (set (encode m .shares) p s) (set (encode m .starts) p st) held′)
-        ≡ encode (lit (m .largest) (m .clock) (set (m .places) p (record { number = n; share = s; start = st; lane = []; deficit = 0; stand = out })) (m .orders) (m .slot) H)
+        ≡ encode (lit (m .largest) (m .clock) (set (m .places) p (record { number = n; share = s; start = st; lane = []; deficit = 0; stand = out }))
+        (m .orders) (m .slot) H)
     unfolding encode
     idle-is n s st H held′ e = same (record {
       numbers = sym (map-set (λ (w : Place). w .number) l p y);
@@ -105,7 +109,9 @@ module _ (m : Board.Board) (g : Tidy m) (p : ℕ) (inL : p < length (m .places))
         y = record { number = n; share = s; start = st; lane = []; deficit = 0; stand = out }
 
         link : (j : ℕ) → Dec (j ≡ p) → behind j (m .orders (blockClass (at m j))) ≡ behind j (m .orders (blockClass (pl (set l p y) j)))
-        link j (yes q) = rw q (behind-none p (m .orders (blockClass (at m p))) (gone (blockClass (at m p))) ∙ sym (behind-none p (m .orders (blockClass (pl (set l p y) p))) (gone (blockClass (pl (set l p y) p)))))
+        link j (yes q) =
+            rw q (behind-none p (m .orders (blockClass (at m p))) (gone (blockClass (at m p)))
+            ∙ sym (behind-none p (m .orders (blockClass (pl (set l p y) p))) (gone (blockClass (pl (set l p y) p)))))
         link j (no q) = ap (λ (w : Place). behind j (m .orders (blockClass w))) (sym (getD-set-other l p j y freePlace q))
 
     -- a field that is 0 already, set to 0
@@ -120,19 +126,23 @@ module _ (m : Board.Board) (g : Tidy m) (p : ℕ) (inL : p < length (m .places))
     pub open-is : (o : Opening) → at m p .start ≡ 0
         → withBlocks (encode m) (openAt p o (blocksOf (encode m))) ≡ encode (goOn m p (opened (meant o)))
     open-is o z =
-        ap (λ (st : List ℕ). let x = openAt p o (blocksOf (encode m)) in withBlocks (encode m) (blocksNow (x .numbers) (x .shares) st (x .held))) (sym (start-kept z))
+        ap (λ (st : List ℕ). let x = openAt p o (blocksOf (encode m)) in withBlocks (encode m) (blocksNow (x .numbers) (x .shares) st (x .held)))
+        (sym (start-kept z))
         ∙ idle-is (o .number) (o .share) 0 (m .held) (encode m .held) (held-of m)
 
     -- CLOSE: the share is held, unless nobody waits
     abbrev H : Bool → ℕ → ℕ
     H t = cond t (m .held) (upd (m .held) (blockClass (at m p)) (m .held (blockClass (at m p)) + at m p .share))
 
-    held-close : (t : Bool) → cond t (encode m .held) (set (encode m .held) (blockClass (at m p)) (getD (encode m .held) (blockClass (at m p)) 0 + at m p .share)) ≡ tab 17 (H t)
+    held-close : (t : Bool)
+        → cond t (encode m .held) (set (encode m .held) (blockClass (at m p)) (getD (encode m .held) (blockClass (at m p)) 0 + at m p .share)) ≡ tab 17 (H t)
     unfolding encode
     held-close true = refl
     held-close false =
         ap (λ (h : ℕ). set (tab 17 (m .held)) (blockClass (at m p)) (h + at m p .share)) (getD-tab 17 (m .held) (blockClass (at m p)) 0 k17)
-        ∙ tab-set 17 (m .held) (upd (m .held) (blockClass (at m p)) (m .held (blockClass (at m p)) + at m p .share)) (blockClass (at m p)) (m .held (blockClass (at m p)) + at m p .share) k17 (upd-same (m .held) (blockClass (at m p)) (m .held (blockClass (at m p)) + at m p .share)) (λ j h ne. upd-other (m .held) (blockClass (at m p)) (m .held (blockClass (at m p)) + at m p .share) j ne)
+        ∙ tab-set 17 (m .held) (upd (m .held) (blockClass (at m p)) (m .held (blockClass (at m p)) + at m p .share)) (blockClass (at m p))
+        (m .held (blockClass (at m p)) + at m p .share) k17 (upd-same (m .held) (blockClass (at m p)) (m .held (blockClass (at m p)) + at m p .share))
+        (λ j h ne. upd-other (m .held) (blockClass (at m p)) (m .held (blockClass (at m p)) + at m p .share) j ne)
       where
         k17 : blockClass (at m p) < 17
         k17 = omega (arith, class-le (at m p .share))
@@ -149,7 +159,8 @@ unfolding someWait
 some-at [] e = absurd (false≢true e)
 some-at (x ∷ xs) e = go (waits x) refl e (some-at xs)
   where
-    go : (t : Bool) → waits x ≡ t → t || someWait xs ≡ true → (someWait xs ≡ true → (p : ℕ) × (p < length xs) × (waits (pl xs p) ≡ true)) → (p : ℕ) × (p < length (x ∷ xs)) × (waits (pl (x ∷ xs) p) ≡ true)
+    go : (t : Bool) → waits x ≡ t → t || someWait xs ≡ true → (someWait xs ≡ true → (p : ℕ) × (p < length xs) × (waits (pl xs p) ≡ true))
+        → (p : ℕ) × (p < length (x ∷ xs)) × (waits (pl (x ∷ xs) p) ≡ true)
     go true f q rest = (0, omega arith, f)
     go false f q rest = let r = rest q in (suc (r .0), omega (arith, r .1), r .2)
 
@@ -158,7 +169,8 @@ unfolding someWait anyWaits
 none-active k [] e = refl
 none-active k (x ∷ xs) e = go (waits x) refl e (none-active k xs)
   where
-    go : (t : Bool) → waits x ≡ t → t || someWait xs ≡ false → (someWait xs ≡ false → anyWaits k xs ≡ false) → (t && eqb k (blockClass x)) || anyWaits k xs ≡ false
+    go : (t : Bool) → waits x ≡ t → t || someWait xs ≡ false → (someWait xs ≡ false → anyWaits k xs ≡ false)
+        → (t && eqb k (blockClass x)) || anyWaits k xs ≡ false
     go true f q rest = absurd (true≢false q)
     go false f q rest = rest q
 
@@ -170,7 +182,9 @@ quiet-active m g = go (quiet m) (some-quiet m g)
     on k = anyWaits k (m .places)
 
     go : (t : Bool) → someWait (m .places) ≡ not t → eqb (setBelow 17 on) 0 ≡ t
-    go true e = eq-eqb (setBelow 17 on) 0 (sym (set-is on 17 0 (omega arith) (λ k h. bit-high 0 0 k (omega arith) (omega arith) ∙ ap oneIf (sym (none-active k (m .places) e)))))
+    go true e =
+        eq-eqb (setBelow 17 on) 0
+        (sym (set-is on 17 0 (omega arith) (λ k h. bit-high 0 0 k (omega arith) (omega arith) ∙ ap oneIf (sym (none-active k (m .places) e)))))
     go false e = let w = some-at (m .places) e in is-on (w .0) (w .1) (w .2)
       where
         is-on : (p : ℕ) → p < length (m .places) → waits (at m p) ≡ true → eqb (setBelow 17 on) 0 ≡ false
@@ -183,4 +197,6 @@ quiet-active m g = go (quiet m) (some-quiet m g)
             busy = active-here (blockClass (at m p)) p (m .places) h (rw w (eqb-yes (blockClass (at m p)) (blockClass (at m p)) refl))
 
             bit : setBelow 17 on ≡ 0 → _≡_ {A = ℕ} 0 1
-            bit z = sym (bit-high 0 0 k (omega arith) (omega arith)) ∙ ap (λ (s : ℕ). bitAt s k) (sym z) ∙ set-bit on 17 k (omega (arith, class-le (at m p .share))) ∙ ap oneIf busy
+            bit z =
+                sym (bit-high 0 0 k (omega arith) (omega arith)) ∙ ap (λ (s : ℕ). bitAt s k) (sym z) ∙ set-bit on 17 k (omega (arith, class-le (at m p .share)))
+                ∙ ap oneIf busy

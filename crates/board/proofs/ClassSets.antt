@@ -49,7 +49,9 @@ both-ways false false f g = refl
 
 -- ---- A MOVE OF THE CLOCK: at any clock the first block of an order tells
 pub due-first : (l : List Place) (t q : ℕ) (qs : List ℕ) → Rising l (q ∷ qs) → isQueued (pl l q .stand) ≡ true → anyDue l t (q ∷ qs) ≡ leb (ready l q) t
-due-first l t q qs r e = both-ways (anyDue l t (q ∷ qs)) (leb (ready l q) t) (λ d. leb-yes (ready l q) t (first-due l t q qs r d)) (λ d. due-any l t q (q ∷ qs) (in-head q qs) e (true-le (ready l q) t d))
+due-first l t q qs r e =
+    both-ways (anyDue l t (q ∷ qs)) (leb (ready l q) t) (λ d. leb-yes (ready l q) t (first-due l t q qs r d))
+    (λ d. due-any l t q (q ∷ qs) (in-head q qs) e (true-le (ready l q) t d))
 
 pub and-never : (t : Bool) → t && false ≡ false
 and-never true = refl
@@ -64,13 +66,16 @@ module _ (m : Board.Board) (p : ℕ) (x : Place) (inside : p < length (m .places
   k17 = omega (arith, class-le (x .share))
 
   -- a block that waits now, of the class that the place had
-  pub active-join : waits x ≡ true → blockClass (pl (m .places) p) ≡ blockClass x → withBit (setBelow 17 (active m)) (blockClass x) ≡ setBelow 17 (active (joining m p x))
+  pub active-join : waits x ≡ true → blockClass (pl (m .places) p) ≡ blockClass x
+      → withBit (setBelow 17 (active m)) (blockClass x) ≡ setBelow 17 (active (joining m p x))
   active-join w same = set-more (active m) (active (joining m p x)) 17 (blockClass x) k17
-      (active-here (blockClass x) p (set (m .places) p x) (rw (length-set (m .places) p x) inside) (rw (getD-set-same (m .places) p x freePlace inside) (rw (w, eqb-yes (blockClass x) (blockClass x) refl))))
+      (active-here (blockClass x) p (set (m .places) p x) (rw (length-set (m .places) p x) inside)
+      (rw (getD-set-same (m .places) p x freePlace inside) (rw (w, eqb-yes (blockClass x) (blockClass x) refl))))
       (λ j ne. active-set j p (m .places) x (other-class j x ne ∙ sym (other-class j (pl (m .places) p) (λ e. ne (e ∙ same)))))
 
   -- and whose ready time is above the clock
-  pub pending-join : dueBy (m .clock) (x .stand) ≡ false → ((k : ℕ) → count p (m .orders k) ≡ 0) → setBelow 17 (pending m) ≡ setBelow 17 (pending (joining m p x))
+  pub pending-join : dueBy (m .clock) (x .stand) ≡ false → ((k : ℕ) → count p (m .orders k) ≡ 0)
+      → setBelow 17 (pending m) ≡ setBelow 17 (pending (joining m p x))
   pending-join late away = set-ext (pending m) (pending (joining m p x)) 17 (λ k h. sym (go k (ℕ-discrete k (blockClass x))))
     where
       l′ : List Place
@@ -80,11 +85,15 @@ module _ (m : Board.Board) (p : ℕ) (x : Place) (inside : p < length (m .places
       grown = m .orders (blockClass x) ++ (p ∷ [])
 
       go : (k : ℕ) → Dec (k ≡ blockClass x) → anyDue l′ (m .clock) (upd (m .orders) (blockClass x) grown k) ≡ anyDue (m .places) (m .clock) (m .orders k)
-      go k (yes e) = rw (e, upd-same (m .orders) (blockClass x) grown) (due-snoc l′ (m .clock) p (m .orders (blockClass x)) (rw (getD-set-same (m .places) p x freePlace inside) late) ∙ due-away (m .places) (m .clock) p x (m .orders (blockClass x)) (away (blockClass x)))
+      go k (yes e) =
+          rw (e, upd-same (m .orders) (blockClass x) grown)
+          (due-snoc l′ (m .clock) p (m .orders (blockClass x)) (rw (getD-set-same (m .places) p x freePlace inside) late)
+          ∙ due-away (m .places) (m .clock) p x (m .orders (blockClass x)) (away (blockClass x)))
       go k (no e) = rw (upd-other (m .orders) (blockClass x) grown k e) (due-away (m .places) (m .clock) p x (m .orders k) (away k))
 
 -- ---- LEAVING: the block at p no longer waits, and no other of its class does
-pub active-leave : (m n : Board.Board) (p : ℕ) (x : Place) → n .places ≡ set (m .places) p x → waits x ≡ false → active n (blockClass (pl (m .places) p)) ≡ false
+pub active-leave : (m n : Board.Board) (p : ℕ) (x : Place) → n .places ≡ set (m .places) p x → waits x ≡ false
+    → active n (blockClass (pl (m .places) p)) ≡ false
     → withoutBit (setBelow 17 (active m)) (blockClass (pl (m .places) p)) ≡ setBelow 17 (active n)
 active-leave m n p x e w none = set-less (active m) (active n) 17 (blockClass (pl (m .places) p)) (omega (arith, class-le (pl (m .places) p .share))) none
     (λ j ne. ap (anyWaits j) e ∙ active-set j p (m .places) x (ap (λ (t : Bool). t && eqb j (blockClass x)) w ∙ sym (other-class j (pl (m .places) p) ne)))

@@ -27,7 +27,12 @@ pub record Starts (b : struct.Board) (ids lens : List ℕ) (L : ℕ) : Type 0 wh
 
 pub starts : (L : ℕ) (ids lens : List ℕ) → 64 ≤ L → L ≤ 2048 → length ids ≡ 2048 → length lens ≡ 2048
     → Starts (encode (fresh L)) ids lens L
-starts L ids lens lo hi a d = record { reads = view-encode (fresh L) ids lens fit (holds-fresh L ids lens); good = record { sound = sound-encode (fresh L) ids lens fit (holds-fresh L ids lens); ids-all = a; lens-all = d } }
+starts L ids lens lo hi a d =
+    record {
+      reads = view-encode (fresh L) ids lens fit (holds-fresh L ids lens);
+      good =
+          record { sound = sound-encode (fresh L) ids lens fit (holds-fresh L ids lens); ids-all = a; lens-all = d };
+    }
   where
     fit : Fit (fresh L)
     fit = record { tidy = tidy-fresh L lo hi; classes = seventeen-fresh L }

@@ -43,8 +43,11 @@ tab-ext (suc n) f g h = ap₂ (λ x xs. x ∷ xs) (h 0 (omega arith)) (tab-ext n
 pub tab-set : {A : Type 0} (n : ℕ) (f g : ℕ → A) (p : ℕ) (y : A) → p < n → g p ≡ y → ((i : ℕ) → i < n → i ≢ p → g i ≡ f i) → set (tab n f) p y ≡ tab n g
 unfolding tab
 tab-set zero f g p y h e o = absurd (omega arith)
-tab-set (suc n) f g zero y h e o = ap₂ (λ x xs. x ∷ xs) (sym e) (tab-ext n (λ i. f (suc i)) (λ i. g (suc i)) (λ i l. sym (o (suc i) (omega arith) (omega arith))))
-tab-set (suc n) f g (suc p) y h e o = ap₂ (λ x xs. x ∷ xs) (sym (o 0 (omega arith) (omega arith))) (tab-set n (λ i. f (suc i)) (λ i. g (suc i)) p y (omega arith) e (λ i l k. o (suc i) (omega arith) (λ q. k (suc-inj q))))
+tab-set (suc n) f g zero y h e o =
+    ap₂ (λ x xs. x ∷ xs) (sym e) (tab-ext n (λ i. f (suc i)) (λ i. g (suc i)) (λ i l. sym (o (suc i) (omega arith) (omega arith))))
+tab-set (suc n) f g (suc p) y h e o =
+    ap₂ (λ x xs. x ∷ xs) (sym (o 0 (omega arith) (omega arith)))
+    (tab-set n (λ i. f (suc i)) (λ i. g (suc i)) p y (omega arith) e (λ i l k. o (suc i) (omega arith) (λ q. k (suc-inj q))))
 
 -- a list is the table of its values
 pub tab-of : {A : Type 0} (d : A) (l : List A) (n : ℕ) (f : ℕ → A) → length l ≡ n → ((i : ℕ) → i < n → getD l i d ≡ f i) → l ≡ tab n f
@@ -136,12 +139,19 @@ linked-behind next (x ∷ xs) once h = (h x (omega (arith, here)) ∙ behind-hea
 
 -- ---- NO LONGER THAN n
 pub one-below : (n x : ℕ) → x < n → below (λ q. oneIf (eqb q x)) n ≡ 1
-one-below n x h = omega (arith, below-one (λ q. oneIf (eqb q x)) (λ q. 0) n x h (λ j e. ap oneIf (eqb-no j x e)), below-zero (λ q. 0) n (λ j l. refl), ap oneIf (eqb-yes x x refl))
+one-below n x h =
+    omega (
+      arith,
+      below-one (λ q. oneIf (eqb q x)) (λ q. 0) n x h (λ j e. ap oneIf (eqb-no j x e)),
+      below-zero (λ q. 0) n (λ j l. refl),
+      ap oneIf (eqb-yes x x refl),
+    )
 
 pub count-length : (n : ℕ) (xs : List ℕ) → ((q : ℕ) → n ≤ q → count q xs ≡ 0) → below (λ q. count q xs) n ≡ length xs
 unfolding count
 count-length n [] h = below-zero (λ q. 0) n (λ j l. refl)
-count-length n (x ∷ xs) h = omega (arith, below-add (λ q. oneIf (eqb q x)) (λ q. count q xs) n, count-length n xs (λ q l. omega (arith, h q l)), one-below n x small)
+count-length n (x ∷ xs) h =
+    omega (arith, below-add (λ q. oneIf (eqb q x)) (λ q. count q xs) n, count-length n xs (λ q l. omega (arith, h q l)), one-below n x small)
   where
     small : x < n
     small = go (split n x)

@@ -19,7 +19,8 @@ use Rattle.rules.specs.Spoilt.{count, isAt}
 use Rattle.rules.specs.Choice.{upd, leftOf}
 use Rattle.rules.proofs.Orders.{upd-same, upd-other, pl}
 use Rattle.board.specs.Reading.{tab, firstLink, lastLink, behind, slotLeft}
-use Rattle.board.proofs.Lists.{getD-tab, tab-ext, tab-set, behind-none, behind-head, behind-tail, behind-snoc, behind-last, behind-own, last-none, last-snoc, last-in}
+use Rattle.board.proofs.Lists.{getD-tab, tab-ext, tab-set, behind-none, behind-head, behind-tail, behind-snoc, behind-last, behind-own, last-none}
+use Rattle.board.proofs.Lists.{last-snoc, last-in}
 
 -- ---- ORDERS, as lists by class; kj j is the class of place j
 module _ (o : ℕ → List ℕ) (kj : ℕ → ℕ) where
@@ -48,11 +49,14 @@ module _ (o : ℕ → List ℕ) (kj : ℕ → ℕ) (p k : ℕ) (p64 : p < 64) (k
 
   pub tails-join : set (tails o kj) k (suc p) ≡ tails (upd o k (o k ++ (p ∷ []))) kj
   unfolding o-join
-  tails-join = tab-set 17 (λ j. lastLink (o j)) (λ j. lastLink (o-join j)) k (suc p) k17 (ap lastLink at-k ∙ last-snoc (o k) p) (λ j l e. ap lastLink (off-k j e))
+  tails-join =
+      tab-set 17 (λ j. lastLink (o j)) (λ j. lastLink (o-join j)) k (suc p) k17 (ap lastLink at-k ∙ last-snoc (o k) p) (λ j l e. ap lastLink (off-k j e))
 
   pub heads-join : (t : Bool) → eqb (lastLink (o k)) 0 ≡ t → cond t (set (heads o kj) k (suc p)) (heads o kj) ≡ heads (upd o k (o k ++ (p ∷ []))) kj
   unfolding o-join lastLink
-  heads-join true e = tab-set 17 (λ j. firstLink (o j)) (λ j. firstLink (o-join j)) k (suc p) k17 (ap firstLink (at-k ∙ ap (λ (r : List ℕ). r ++ (p ∷ [])) (last-none (o k) (eqb-true (lastLink (o k)) 0 e)))) (λ j l ne. ap firstLink (off-k j ne))
+  heads-join true e =
+      tab-set 17 (λ j. firstLink (o j)) (λ j. firstLink (o-join j)) k (suc p) k17
+      (ap firstLink (at-k ∙ ap (λ (r : List ℕ). r ++ (p ∷ [])) (last-none (o k) (eqb-true (lastLink (o k)) 0 e)))) (λ j l ne. ap firstLink (off-k j ne))
   heads-join false e = tab-ext 17 (λ j. firstLink (o j)) (λ j. firstLink (o-join j)) (λ j l. go j (ℕ-discrete j k))
     where
       grown : (xs : List ℕ) → eqb (lastLink xs) 0 ≡ false → firstLink xs ≡ firstLink (xs ++ (p ∷ []))
@@ -63,7 +67,8 @@ module _ (o : ℕ → List ℕ) (kj : ℕ → ℕ) (p k : ℕ) (p64 : p < 64) (k
       go j (yes q) = rw (q, at-k) (grown (o k) e)
       go j (no q) = ap firstLink (sym (off-k j q))
 
-  pub nexts-join : (t : Bool) → eqb (lastLink (o k)) 0 ≡ t → set (cond t (nexts o kj) (set (nexts o kj) (lastLink (o k) - 1) (suc p))) p 0 ≡ nexts (upd o k (o k ++ (p ∷ []))) kj
+  pub nexts-join : (t : Bool) → eqb (lastLink (o k)) 0 ≡ t
+      → set (cond t (nexts o kj) (set (nexts o kj) (lastLink (o k) - 1) (suc p))) p 0 ≡ nexts (upd o k (o k ++ (p ∷ []))) kj
   unfolding o-join
   nexts-join true e = tab-set 64 (λ j. behind j (o (kj j))) (λ j. behind j (o-join (kj j))) p 0 p64 here (λ j l ne. there j ne (ℕ-discrete (kj j) k))
     where
@@ -83,7 +88,10 @@ module _ (o : ℕ → List ℕ) (kj : ℕ → ℕ) (p k : ℕ) (p64 : p < 64) (k
     where
       go : (t : ℕ) → lastLink (o k) ≡ t → set (set (nexts o kj) (t - 1) (suc p)) p 0 ≡ nexts o-join kj
       go zero f = absurd (true≢false (sym (eq-eqb (lastLink (o k)) 0 f) ∙ e))
-      go (suc z) f = ap (λ (i : ℕ). set (set (nexts o kj) i (suc p)) p 0) less ∙ ap (λ (r : List ℕ). set r p 0) (tab-set 64 (λ j. behind j (o (kj j))) mid z (suc p) z64 mid-z (λ j l ne. ap (λ (b : Bool). cond b (suc p) (behind j (o (kj j)))) (eqb-no j z ne)))
+      go (suc z) f =
+          ap (λ (i : ℕ). set (set (nexts o kj) i (suc p)) p 0) less
+          ∙ ap (λ (r : List ℕ). set r p 0)
+          (tab-set 64 (λ j. behind j (o (kj j))) mid z (suc p) z64 mid-z (λ j l ne. ap (λ (b : Bool). cond b (suc p) (behind j (o (kj j)))) (eqb-no j z ne)))
           ∙ tab-set 64 mid (λ j. behind j (o-join (kj j))) p 0 p64 here (λ j l ne. there j ne (ℕ-discrete (kj j) k) (ℕ-discrete j z))
         where
           less : suc z - 1 ≡ z
@@ -108,13 +116,17 @@ module _ (o : ℕ → List ℕ) (kj : ℕ → ℕ) (p k : ℕ) (p64 : p < 64) (k
           here = rw (own, at-k) (behind-own p (o k) away)
 
           there : (j : ℕ) → j ≢ p → Dec (kj j ≡ k) → Dec (j ≡ z) → behind j (o-join (kj j)) ≡ mid j
-          there j ne (yes q) (yes w) = ap₂ (λ (i n : ℕ). behind i (o-join n)) w q ∙ ap (behind z) at-k ∙ behind-last z (o k) p f (once z) ∙ sym (ap mid w ∙ mid-z)
-          there j ne (yes q) (no w) = rw (q, at-k) (behind-snoc j (o k) p ne (λ h. w (suc-inj (sym (sym f ∙ h)))) ∙ sym (ap (λ (b : Bool). cond b (suc p) (behind j (o k))) (eqb-no j z w)))
+          there j ne (yes q) (yes w) =
+              ap₂ (λ (i n : ℕ). behind i (o-join n)) w q ∙ ap (behind z) at-k ∙ behind-last z (o k) p f (once z) ∙ sym (ap mid w ∙ mid-z)
+          there j ne (yes q) (no w) =
+              rw (q, at-k) (behind-snoc j (o k) p ne (λ h. w (suc-inj (sym (sym f ∙ h))))
+              ∙ sym (ap (λ (b : Bool). cond b (suc p) (behind j (o k))) (eqb-no j z w)))
           there j ne (no q) (yes w) = absurd (q (ap kj w ∙ kz))
           there j ne (no q) (no w) = ap (behind j) (off-k (kj j) q) ∙ sym (ap (λ (b : Bool). cond b (suc p) (behind j (o (kj j)))) (eqb-no j z w))
 
 -- the first of the order of class k leaves it
-module _ (o : ℕ → List ℕ) (kj : ℕ → ℕ) (p k : ℕ) (ps : List ℕ) (p64 : p < 64) (k17 : k < 17) (own : kj p ≡ k) (first : o k ≡ p ∷ ps) (away : count p ps ≡ 0) where
+module _ (o : ℕ → List ℕ) (kj : ℕ → ℕ) (p k : ℕ) (ps : List ℕ) (p64 : p < 64) (k17 : k < 17) (own : kj p ≡ k) (first : o k ≡ p ∷ ps)
+    (away : count p ps ≡ 0) where
   o-left : ℕ → List ℕ
   o-left = upd o k ps
 
@@ -131,7 +143,9 @@ module _ (o : ℕ → List ℕ) (kj : ℕ → ℕ) (p k : ℕ) (ps : List ℕ) (
 
   pub nexts-leave : set (nexts o kj) p 0 ≡ nexts (upd o k ps) kj
   unfolding o-left
-  nexts-leave = tab-set 64 (λ j. behind j (o (kj j))) (λ j. behind j (o-left (kj j))) p 0 p64 (rw (own, left-k) (behind-none p ps away)) (λ j l ne. there j ne (ℕ-discrete (kj j) k))
+  nexts-leave =
+      tab-set 64 (λ j. behind j (o (kj j))) (λ j. behind j (o-left (kj j))) p 0 p64 (rw (own, left-k) (behind-none p ps away))
+      (λ j l ne. there j ne (ℕ-discrete (kj j) k))
     where
       there : (j : ℕ) → j ≢ p → Dec (kj j ≡ k) → behind j (o-left (kj j)) ≡ behind j (o (kj j))
       there j ne (yes q) = rw (q, left-k, first) (sym (behind-tail j p ps ne))
@@ -154,13 +168,15 @@ module _ (o : ℕ → List ℕ) (kj : ℕ → ℕ) (p k : ℕ) (ps : List ℕ) (
           same j (no w) = ap lastLink (sym (left-off j w))
 
 -- ---- CLASSES THAT ARE PENDING
-pub due-ext : (l l′ : List Place) (t : ℕ) (ps : List ℕ) → ((q : ℕ) → 1 ≤ count q ps → dueBy t (pl l′ q .stand) ≡ dueBy t (pl l q .stand)) → anyDue l′ t ps ≡ anyDue l t ps
+pub due-ext : (l l′ : List Place) (t : ℕ) (ps : List ℕ) → ((q : ℕ) → 1 ≤ count q ps → dueBy t (pl l′ q .stand) ≡ dueBy t (pl l q .stand))
+    → anyDue l′ t ps ≡ anyDue l t ps
 unfolding anyDue count
 due-ext l l′ t [] h = refl
 due-ext l l′ t (p ∷ ps) h = ap₂ (λ (a b : Bool). a || b) (h p (omega (arith, ap oneIf (eqb-yes p p refl)))) (due-ext l l′ t ps (λ q c. h q (omega arith)))
 
 pub due-away : (l : List Place) (t p : ℕ) (x : Place) (ps : List ℕ) → count p ps ≡ 0 → anyDue (set l p x) t ps ≡ anyDue l t ps
-due-away l t p x ps z = due-ext l (set l p x) t ps (λ q c. ap (λ (y : Place). dueBy t (y .stand)) (getD-set-other l p q x freePlace (λ e. omega (arith, z, rw e at c))))
+due-away l t p x ps z =
+    due-ext l (set l p x) t ps (λ q c. ap (λ (y : Place). dueBy t (y .stand)) (getD-set-other l p q x freePlace (λ e. omega (arith, z, rw e at c))))
 
 pub due-snoc : (l : List Place) (t p : ℕ) (ps : List ℕ) → dueBy t (pl l p .stand) ≡ false → anyDue l t (ps ++ (p ∷ [])) ≡ anyDue l t ps
 unfolding anyDue
@@ -197,7 +213,8 @@ pub left-away : (l : List Place) (p : ℕ) (x : Place) (s : Option ℕ) → isAt
 left-away l p x none e = refl
 left-away l p x (some q) e = ap (λ (y : Place). leftOf (y .stand)) (getD-set-other l p q x freePlace (λ f. true≢false (sym (eqb-yes p q (sym f)) ∙ e)))
 
-pub left-same : (l : List Place) (p : ℕ) (x : Place) (s : Option ℕ) → p < length l → leftOf (x .stand) ≡ leftOf (pl l p .stand) → slotLeft (set l p x) s ≡ slotLeft l s
+pub left-same : (l : List Place) (p : ℕ) (x : Place) (s : Option ℕ) → p < length l → leftOf (x .stand) ≡ leftOf (pl l p .stand)
+    → slotLeft (set l p x) s ≡ slotLeft l s
 left-same l p x none h e = refl
 left-same l p x (some q) h e = go (ℕ-discrete q p)
   where

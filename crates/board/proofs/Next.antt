@@ -48,11 +48,16 @@ module _ (m : Board.Board) (ids lens : List ℕ) (f : Fit m) (holds : Holds m id
   inside : p < length (m .places)
   inside = omega (arith, f .tidy .shape .all64)
 
-  holds-idle : (y : Place) → y .lane ≡ [] → (i : ℕ) → pl (set (m .places) p y) i .lane ≡ laneOf ids lens i (pl (set (m .places) p y) i) (length (pl (set (m .places) p y) i .lane))
-  holds-idle y e = holds-set (m .places) p y ids lens ids lens inside holds (e ∙ sym (ap (λ (l : List Record). laneOf ids lens p y (length l)) e ∙ empty-lane ids lens p y)) (λ i ne. refl)
+  holds-idle : (y : Place) → y .lane ≡ [] → (i : ℕ)
+      → pl (set (m .places) p y) i .lane ≡ laneOf ids lens i (pl (set (m .places) p y) i) (length (pl (set (m .places) p y) i .lane))
+  holds-idle y e =
+      holds-set (m .places) p y ids lens ids lens inside holds (e ∙ sym (ap (λ (l : List Record). laneOf ids lens p y (length l)) e ∙ empty-lane ids lens p y))
+      (λ i ne. refl)
 
   holds-renamed : (n : ℕ) → Holds (goOn m p (renamed n (at m p))) ids lens
-  holds-renamed n = holds-set (m .places) p (renamed n (at m p)) ids lens ids lens inside holds (holds p ∙ lane-by ids lens p (at m p) (renamed n (at m p)) (length (at m p .lane)) refl) (λ i ne. refl)
+  holds-renamed n =
+      holds-set (m .places) p (renamed n (at m p)) ids lens ids lens inside holds
+      (holds p ∙ lane-by ids lens p (at m p) (renamed n (at m p)) (length (at m p .lane)) refl) (λ i ne. refl)
 
   module _ (x : Record) (room : length (at m p .lane) < depth (at m p)) (a : length ids ≡ 2048) (d : length lens ≡ 2048) where
     abbrev e : ℕ
@@ -68,7 +73,9 @@ module _ (m : Board.Board) (ids lens : List ℕ) (f : Fit m) (holds : Holds m id
     put-is = ap (λ (r : List Record). r ++ (x ∷ [])) (holds p) ∙ sym (lane-put ids lens p (at m p) (length (at m p .lane)) (x .number) (x .bytes) p64 room a d)
 
     away : (i : ℕ) → i ≢ p → laneOf ids′ lens′ i (at m i) (length (at m i .lane)) ≡ laneOf ids lens i (at m i) (length (at m i .lane))
-    away i ne = lane-away ids lens i (at m i) (length (at m i .lane)) (entry p (at m p) (length (at m p .lane))) (x .number) (x .bytes) (λ j l. entry-apart i p (at m i) (at m p) j (length (at m p .lane)) ne)
+    away i ne =
+        lane-away ids lens i (at m i) (length (at m i .lane)) (entry p (at m p) (length (at m p .lane))) (x .number) (x .bytes)
+        (λ j l. entry-apart i p (at m i) (at m p) j (length (at m p .lane)) ne)
 
     empty : (xs : List Record) → length xs ≤ 0 → xs ≡ []
     empty [] h = refl
@@ -85,14 +92,17 @@ module _ (m : Board.Board) (ids lens : List ℕ) (f : Fit m) (holds : Holds m id
             none! = empty (at m p .lane) (true-le (length (at m p .lane)) 0 q)
 
             single : x ∷ [] ≡ laneOf ids′ lens′ p (joins (m .clock) (at m p) x) 1
-            single = ap (λ (r : List Record). r ++ (x ∷ [])) (sym none!) ∙ put-is ∙ ap (λ (n : ℕ). laneOf ids′ lens′ p (at m p) (suc n)) (ap length none!) ∙ lane-by ids′ lens′ p (at m p) (joins (m .clock) (at m p) x) 1 refl
+            single =
+                ap (λ (r : List Record). r ++ (x ∷ [])) (sym none!) ∙ put-is ∙ ap (λ (n : ℕ). laneOf ids′ lens′ p (at m p) (suc n)) (ap length none!)
+                ∙ lane-by ids′ lens′ p (at m p) (joins (m .clock) (at m p) x) 1 refl
         go false q = holds-set (m .places) p (more (at m p) x) ids lens ids′ lens′ inside holds longer-is away
           where
             longer : suc (length (at m p .lane)) ≡ length (at m p .lane ++ (x ∷ []))
             longer = omega (arith, length-append (at m p .lane) (x ∷ []))
 
             longer-is : at m p .lane ++ (x ∷ []) ≡ laneOf ids′ lens′ p (more (at m p) x) (length (at m p .lane ++ (x ∷ [])))
-            longer-is = put-is ∙ ap (laneOf ids′ lens′ p (at m p)) longer ∙ lane-by ids′ lens′ p (at m p) (more (at m p) x) (length (at m p .lane ++ (x ∷ []))) refl
+            longer-is =
+                put-is ∙ ap (laneOf ids′ lens′ p (at m p)) longer ∙ lane-by ids′ lens′ p (at m p) (more (at m p) x) (length (at m p .lane ++ (x ∷ []))) refl
 
 -- ---- THE NEXT BOARD
 
@@ -105,7 +115,8 @@ pub record Follows (b : struct.Board) (ids lens : List ℕ) (r : Returned Reply)
 
 -- no second answer fits a promise
 pub only-one : (A : Type 0) → NoSecondAnswer A
-only-one A w r s ids lens ids′ lens′ e f = let g = e ∙ sym f in (ap (λ (x : Returned A). x .reply) g, ap (λ (x : Returned A). x .ids) g, ap (λ (x : Returned A). x .lens) g)
+only-one A w r s ids lens ids′ lens′ e f =
+    let g = e ∙ sym f in (ap (λ (x : Returned A). x .reply) g, ap (λ (x : Returned A). x .ids) g, ap (λ (x : Returned A). x .lens) g)
 
 fit-step : (m : Board.Board) (x : Single) → Fit m → Fit (step m x .next)
 fit-step m x f = record { tidy = tidy-step m x (f .tidy); classes = seventeen-step m x (f .classes) }
@@ -121,8 +132,16 @@ module _ (b : struct.Board) (ids lens : List ℕ) (k : Known b ids lens) where
   holds = holds-view b ids lens (k .sound)
 
   -- a next board that fits, whose lanes the tables hold
-  next-good : (t : Turn) (ids′ lens′ : List ℕ) → 0 ≡ codeOf (told m (t .out)) → Fit (t .next) → Holds (t .next) ids′ lens′ → length ids′ ≡ 2048 → length lens′ ≡ 2048 → Follows b ids lens (returned (replied 0 (encode (t .next))) ids′ lens′) t
-  next-good t ids′ lens′ e fit h a d = record { code = e; same = λ ne. absurd (ne refl); reads = view-encode (t .next) ids′ lens′ fit h; good = record { sound = sound-encode (t .next) ids′ lens′ fit h; ids-all = a; lens-all = d } }
+  next-good : (t : Turn) (ids′ lens′ : List ℕ) → 0 ≡ codeOf (told m (t .out)) → Fit (t .next) → Holds (t .next) ids′ lens′ → length ids′ ≡ 2048
+      → length lens′ ≡ 2048 → Follows b ids lens (returned (replied 0 (encode (t .next))) ids′ lens′) t
+  next-good t ids′ lens′ e fit h a d =
+      record {
+        code = e;
+        same = λ ne. absurd (ne refl);
+        reads = view-encode (t .next) ids′ lens′ fit h;
+        good =
+            record { sound = sound-encode (t .next) ids′ lens′ fit h; ids-all = a; lens-all = d };
+      }
 
   abbrev Goal : Single → Turn → Type 0
   Goal x t = Fit (t .next) → isServe x ≡ false → Follows b ids lens (turned b ids lens m x t) t
@@ -134,7 +153,9 @@ module _ (b : struct.Board) (ids lens : List ℕ) (k : Known b ids lens) where
     opens = λ o can fit e. next-good _ ids lens refl fit (holds-idle m ids lens f holds (freeAt m) (can .inside) (opened o) refl) (k .ids-all) (k .lens-all);
     renames = λ p old new can fit e. next-good _ ids lens refl fit (holds-renamed m ids lens f holds p (can .has .inside) new) (k .ids-all) (k .lens-all);
     closes = λ p n can fit e. next-good _ ids lens refl fit (holds-idle m ids lens f holds p (can .has .inside) freePlace refl) (k .ids-all) (k .lens-all);
-    takes = λ p n r can fit e. next-good _ _ _ refl fit (holds-taken m ids lens f holds p (can .has .inside) r (can .room) (k .ids-all) (k .lens-all)) (length-set ids _ (r .number) ∙ k .ids-all) (length-set lens _ (r .bytes) ∙ k .lens-all);
+    takes =
+        λ p n r can fit e. next-good _ _ _ refl fit (holds-taken m ids lens f holds p (can .has .inside) r (can .room) (k .ids-all) (k .lens-all))
+        (length-set ids _ (r .number) ∙ k .ids-all) (length-set lens _ (r .bytes) ∙ k .lens-all);
     goesOn = λ p on fit e. absurd (true≢false e);
     begins = λ r t p on q fit e. absurd (true≢false e);
   }

@@ -44,7 +44,10 @@ stand-is l slot i L = go (pl l i .stand) refl slot
     go (queued r) f none e h = rw (ne-eqb n 0 (λ z. omega arith), ne-eqb 0 (suc i) (λ z. omega arith))
     go (queued r) f (some q) e h = rw (ne-eqb n 0 (λ z. omega arith), ne-eqb (suc q) (suc i) (λ z. false≢true (e ∙ eq-eqb i q (suc-inj (sym z)))))
     go (serving k) f none e h = absurd (true≢false e)
-    go (serving k) f (some q) e h = let w : i ≡ q = eqb-true i q (sym e) in rw (ne-eqb n 0 (λ z. omega arith), eq-eqb (suc q) (suc i) (ap suc (sym w))) (ap serving (sym (ap (λ (j : ℕ). leftOf (pl l j .stand)) (sym w) ∙ ap leftOf f)))
+    go (serving k) f (some q) e h =
+        let w : i ≡ q = eqb-true i q (sym e) in
+        rw (ne-eqb n 0 (λ z. omega arith), eq-eqb (suc q) (suc i) (ap suc (sym w)))
+        (ap serving (sym (ap (λ (j : ℕ). leftOf (pl l j .stand)) (sym w) ∙ ap leftOf f)))
 
 -- an order lists no place twice, none above 63, and those of its class
 module _ (m : Board.Board) (g : Tidy m) where
@@ -93,15 +96,21 @@ module _ (m : Board.Board) (ids lens : List ℕ) (f : Fit m) (holds : Holds m id
       lane : at m i .lane ≡ laneOf ids lens i (bareOf (encode m) i) (getD (map (λ (x : Place). length (x .lane)) (m .places)) i 0)
       lane = holds i ∙ lane-by ids lens i (at m i) (bareOf (encode m) i) (length (at m i .lane)) start ∙ ap (laneOf ids lens i (bareOf (encode m) i)) n
 
-      stand : at m i .stand ≡ standBy i (getD (map (λ (x : Place). length (x .lane)) (m .places)) i 0) (slotLink (m .slot)) (slotLeft (m .places) (m .slot)) (getD (map (λ (x : Place). readyNum (x .stand)) (m .places)) i 0)
-      stand = stand-is (m .places) (m .slot) i (m .largest) (g .one i) (g .shape .placeOk i .standOk) ∙ ap₂ (λ (a c : ℕ). standBy i a (slotLink (m .slot)) (slotLeft (m .places) (m .slot)) c) n r
+      stand : at m i .stand
+          ≡ standBy i (getD (map (λ (x : Place). length (x .lane)) (m .places)) i 0) (slotLink (m .slot)) (slotLeft (m .places) (m .slot))
+          (getD (map (λ (x : Place). readyNum (x .stand)) (m .places)) i 0)
+      stand =
+          stand-is (m .places) (m .slot) i (m .largest) (g .one i) (g .shape .placeOk i .standOk)
+          ∙ ap₂ (λ (a c : ℕ). standBy i a (slotLink (m .slot)) (slotLeft (m .places) (m .slot)) c) n r
 
   next-is : (k q : ℕ) → 1 ≤ count q (m .orders k) → getD (encode m .next) q 0 ≡ behind q (m .orders k)
   unfolding encode
   next-is k q h = getD-tab 64 (λ i. behind i (m .orders (blockClass (at m i)))) q 0 (small m g k q h) ∙ ap (λ (j : ℕ). behind q (m .orders j)) (class m g k q h)
 
   order-is : (k : ℕ) → follow (encode m .next) 64 (firstLink (m .orders k)) ≡ m .orders k
-  order-is k = follow-linked (encode m .next) 64 (m .orders k) (short-list 64 (m .orders k) (few m g k) (once m g k)) (linked-behind (encode m .next) (m .orders k) (once m g k) (next-is k))
+  order-is k =
+      follow-linked (encode m .next) 64 (m .orders k) (short-list 64 (m .orders k) (few m g k) (once m g k))
+      (linked-behind (encode m .next) (m .orders k) (once m g k) (next-is k))
 
   orders-are : (k : ℕ) → follow (encode m .next) 64 (getD (encode m .heads) k 0) ≡ m .orders k
   unfolding encode follow

@@ -68,15 +68,18 @@ lane-at ids lens p x c j h = getD-tab c (λ i. recordAt ids lens (entry p x i)) 
 pub lane-drop : LaneDrop
 unfolding laneOf tab
 lane-drop ids lens p x y zero e = refl
-lane-drop ids lens p x y (suc c) e = ap (λ (n : ℕ). tab n (λ j. recordAt ids lens (entry p y j))) less ∙ tab-ext c _ _ (λ j l. ap (recordAt ids lens) (entry-on p x y j e))
+lane-drop ids lens p x y (suc c) e =
+    ap (λ (n : ℕ). tab n (λ j. recordAt ids lens (entry p y j))) less ∙ tab-ext c _ _ (λ j l. ap (recordAt ids lens) (entry-on p x y j e))
   where
     less : suc c - 1 ≡ c
     less = omega arith
 
 -- a store elsewhere
-pub lane-away : (ids lens : List ℕ) (i : ℕ) (x : Place) (c e id len : ℕ) → ((j : ℕ) → j < c → entry i x j ≢ e) → laneOf (set ids e id) (set lens e len) i x c ≡ laneOf ids lens i x c
+pub lane-away : (ids lens : List ℕ) (i : ℕ) (x : Place) (c e id len : ℕ) → ((j : ℕ) → j < c → entry i x j ≢ e)
+    → laneOf (set ids e id) (set lens e len) i x c ≡ laneOf ids lens i x c
 unfolding laneOf
-lane-away ids lens i x c e id len h = tab-ext c _ _ (λ j l k. record { number = getD-set-other ids e (entry i x j) id 0 (h j l) k; bytes = getD-set-other lens e (entry i x j) len 0 (h j l) k })
+lane-away ids lens i x c e id len h =
+    tab-ext c _ _ (λ j l k. record { number = getD-set-other ids e (entry i x j) id 0 (h j l) k; bytes = getD-set-other lens e (entry i x j) len 0 (h j l) k })
 
 -- a record is put behind the last
 pub lane-put : LanePut
@@ -84,4 +87,8 @@ unfolding laneOf
 lane-put ids lens p x c id len hp hc a b =
     tab-snoc c (λ j. recordAt (set ids (entry p x c) id) (set lens (entry p x c) len) (entry p x j))
     ∙ ap₂ (λ (xs : List Record) (r : Record). xs ++ (r ∷ [])) (lane-away ids lens p x c (entry p x c) id len (λ j l. entry-own p x j c l hc))
-    (λ k. record { number = getD-set-same ids (entry p x c) id 0 (omega (arith, entry-in p x c hp)) k; bytes = getD-set-same lens (entry p x c) len 0 (omega (arith, entry-in p x c hp)) k })
+    (λ k. record {
+      number = getD-set-same ids (entry p x c) id 0 (omega (arith, entry-in p x c hp)) k;
+      bytes =
+          getD-set-same lens (entry p x c) len 0 (omega (arith, entry-in p x c hp)) k;
+    })

@@ -27,7 +27,10 @@ use Rattle.board.proofs.Reading.{Fit, view-encode}
 
 -- what a value that is alike in each field gives
 alike-same : (a b : struct.Board) → Each (alikeInEach a b) → Same a b
-alike-same a b (numbers, (shares, (deficits, (starts, (counts, (ready, (next, (heads, (tails, (held, (largest, (clock, (active, (pending, (slot, (left, _)))))))))))))))) = record {
+alike-same a b (
+  numbers,
+  (shares, (deficits, (starts, (counts, (ready, (next, (heads, (tails, (held, (largest, (clock, (active, (pending, (slot, (left, _))))))))))))))),
+) = record {
   numbers = d-list (a .numbers) (b .numbers) .yes numbers;
   shares = d-list (a .shares) (b .shares) .yes shares;
   deficits = d-list (a .deficits) (b .deficits) .yes deficits;
@@ -68,7 +71,8 @@ spelt-decides b ids lens = record {
 
 pub is-sound-decides : IsSoundDecides
 unfolding isSound
-is-sound-decides b ids lens = d-iff (d-and (spelt-decides b ids lens) (d-true (unspoilt (view b ids lens)))) (λ w. record { spells = w .0; keeps = w .1 }) (λ s. (s .spells, s .keeps))
+is-sound-decides b ids lens =
+    d-iff (d-and (spelt-decides b ids lens) (d-true (unspoilt (view b ids lens)))) (λ w. record { spells = w .0; keeps = w .1 }) (λ s. (s .spells, s .keeps))
 
 -- NO SECOND VALUE: two that are not spoilt and spell one board are one
 pub sound-one : SoundOne
@@ -119,11 +123,14 @@ module _ (b : struct.Board) (ids lens : List ℕ) (s : Sound b ids lens) where
   holds-view i = go (split 64 i)
     where
       lane : (x : Place) → x ≡ placeOf b ids lens i → x .lane ≡ laneOf ids lens i x (length (x .lane))
-      lane x e = rw e (lane-by ids lens i (bareOf b i) (placeOf b ids lens i) (getD (b .counts) i 0) refl ∙ ap (laneOf ids lens i (placeOf b ids lens i)) (sym (length-lane ids lens i (bareOf b i) (getD (b .counts) i 0))))
+      lane x e =
+          rw e (lane-by ids lens i (bareOf b i) (placeOf b ids lens i) (getD (b .counts) i 0) refl
+          ∙ ap (laneOf ids lens i (placeOf b ids lens i)) (sym (length-lane ids lens i (bareOf b i) (getD (b .counts) i 0))))
 
       free : (x : Place) → x ≡ freePlace → x .lane ≡ laneOf ids lens i x (length (x .lane))
       free x e = rw e (sym (empty-lane ids lens i freePlace))
 
       go : (64 ≤ i) ⊎ (i < 64) → at (view b ids lens) i .lane ≡ laneOf ids lens i (at (view b ids lens) i) (length (at (view b ids lens) i .lane))
-      go (inl h) = free (at (view b ids lens) i) (List·getD-eq-default (tab 64 (placeOf b ids lens)) freePlace (omega (arith, length-tab 64 (placeOf b ids lens))))
+      go (inl h) =
+          free (at (view b ids lens) i) (List·getD-eq-default (tab 64 (placeOf b ids lens)) freePlace (omega (arith, length-tab 64 (placeOf b ids lens))))
       go (inr h) = lane (at (view b ids lens) i) (getD-tab 64 (placeOf b ids lens) i freePlace h)

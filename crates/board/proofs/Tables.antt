@@ -24,7 +24,10 @@ pub none-wrong : (ids lens : ℕ) → ids ≡ 2048 → lens ≡ 2048 → wrongTa
 none-wrong ids lens e f = rw (eq-eqb ids 2048 e, eq-eqb lens 2048 f)
 
 pub right-tables : (n m : ℕ) → wrongTables n m ≡ false → (n ≡ tableLength) × (m ≡ tableLength)
-right-tables n m e = (eqb-true n tableLength (and-left (eqb n tableLength) (eqb m tableLength) (passed _ e)), eqb-true m tableLength (and-right (eqb n tableLength) (eqb m tableLength) (passed _ e)))
+right-tables n m e = (
+  eqb-true n tableLength (and-left (eqb n tableLength) (eqb m tableLength) (passed _ e)),
+  eqb-true m tableLength (and-right (eqb n tableLength) (eqb m tableLength) (passed _ e)),
+)
   where
     passed : (t : Bool) → not t ≡ false → t ≡ true
     passed true f = refl

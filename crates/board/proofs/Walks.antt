@@ -33,19 +33,22 @@ ends-length next (suc n) zero (suc p) a b = absurd (false≢true b)
 ends-length next (suc n) (suc m) (suc p) a b = ap suc (ends-length next n m (getD next p 0) a b)
 
 -- from a member on the walk is no longer, and ends too
-ends-member : (next : List ℕ) (n h q : ℕ) → ends next n h ≡ true → 1 ≤ count q (follow next n h) → (m : ℕ) × (ends next m (suc q) ≡ true) × (length (follow next m (suc q)) ≤ length (follow next n h))
+ends-member : (next : List ℕ) (n h q : ℕ) → ends next n h ≡ true → 1 ≤ count q (follow next n h)
+    → (m : ℕ) × (ends next m (suc q) ≡ true) × (length (follow next m (suc q)) ≤ length (follow next n h))
 unfolding ends follow count
 ends-member next zero zero q a c = absurd (omega arith)
 ends-member next (suc n) zero q a c = absurd (omega arith)
 ends-member next zero (suc p) q a c = absurd (false≢true a)
 ends-member next (suc n) (suc p) q a c = go (ℕ-discrete q p) (ends-member next n (getD next p 0) q a)
   where
-    go : Dec (q ≡ p) → (1 ≤ count q (follow next n (getD next p 0)) → (m : ℕ) × (ends next m (suc q) ≡ true) × (length (follow next m (suc q)) ≤ length (follow next n (getD next p 0))))
+    go : Dec (q ≡ p) → (1 ≤ count q (follow next n (getD next p 0))
+        → (m : ℕ) × (ends next m (suc q) ≡ true) × (length (follow next m (suc q)) ≤ length (follow next n (getD next p 0))))
         → (m : ℕ) × (ends next m (suc q) ≡ true) × (length (follow next m (suc q)) ≤ suc (length (follow next n (getD next p 0))))
     go (yes e) r = rw e (suc n, a, omega arith)
     go (no e) r = let w = r (omega (arith, ap oneIf (eqb-no q p e))) in (w .0, w .1, omega (arith, w .2))
 
-whole : (next : List ℕ) (n p q : ℕ) → q ≡ p → ends next n (getD next p 0) ≡ true → (m : ℕ) → ends next m (suc q) ≡ true → length (follow next m (suc q)) ≤ length (follow next n (getD next p 0))
+whole : (next : List ℕ) (n p q : ℕ) → q ≡ p → ends next n (getD next p 0) ≡ true → (m : ℕ) → ends next m (suc q) ≡ true
+    → length (follow next m (suc q)) ≤ length (follow next n (getD next p 0))
     → suc (length (follow next n (getD next p 0))) ≤ length (follow next n (getD next p 0))
 unfolding ends follow
 whole next n p q e a m b l = omega (arith, l, ends-length next m (suc n) (suc p) (rw e at b) a, ap (λ (i : ℕ). length (follow next m (suc i))) e)
@@ -58,7 +61,9 @@ ends-once next (suc n) zero a q = omega arith
 ends-once next zero (suc p) a q = absurd (false≢true a)
 ends-once next (suc n) (suc p) a q = go (ℕ-discrete q p) (ends-once next n (getD next p 0) a q) (split 1 (count q (follow next n (getD next p 0))))
   where
-    go : Dec (q ≡ p) → count q (follow next n (getD next p 0)) ≤ 1 → (1 ≤ count q (follow next n (getD next p 0))) ⊎ (count q (follow next n (getD next p 0)) < 1) → oneIf (eqb q p) + count q (follow next n (getD next p 0)) ≤ 1
+    go : Dec (q ≡ p) → count q (follow next n (getD next p 0)) ≤ 1
+        → (1 ≤ count q (follow next n (getD next p 0))) ⊎ (count q (follow next n (getD next p 0)) < 1)
+        → oneIf (eqb q p) + count q (follow next n (getD next p 0)) ≤ 1
     go (no e) r c = omega (arith, ap oneIf (eqb-no q p e))
     go (yes e) r (inr c) = omega (arith, ap oneIf (eqb-yes q p e))
     go (yes e) r (inl c) = absurd (omega (arith, longer))
@@ -100,7 +105,8 @@ ends-behind next zero (suc p) q a c = absurd (false≢true a)
 ends-behind next (suc n) zero q a c = absurd (omega arith)
 ends-behind next (suc n) (suc p) q a c = go (ℕ-discrete q p) (ends-behind next n (getD next p 0) q a)
   where
-    go : Dec (q ≡ p) → (1 ≤ count q (follow next n (getD next p 0)) → behind q (follow next n (getD next p 0)) ≡ getD next q 0) → behind q (p ∷ follow next n (getD next p 0)) ≡ getD next q 0
+    go : Dec (q ≡ p) → (1 ≤ count q (follow next n (getD next p 0)) → behind q (follow next n (getD next p 0)) ≡ getD next q 0)
+        → behind q (p ∷ follow next n (getD next p 0)) ≡ getD next q 0
     go (yes e) r = rw e (behind-head p (follow next n (getD next p 0)) ∙ ends-first next n (getD next p 0) a)
     go (no e) r = behind-tail q p (follow next n (getD next p 0)) e ∙ r (omega (arith, ap oneIf (eqb-no q p e)))
 

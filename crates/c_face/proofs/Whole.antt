@@ -38,7 +38,12 @@ pub record Going (log piece₀ out₀ piece out ids lens : List ℕ) (s : State)
 
 -- a buffer for a piece that is too short for a line
 pub no-room : (log piece out : List ℕ) → length piece < 64 → Listed log piece out 0 out
-no-room log piece out h = record { front = record { counts = refl; text = refl; rest = refl }; whole = λ (r : 64 ≤ length piece) (f : length (listingOf log) ≤ length out). omega (arith, h, r) }
+no-room log piece out h =
+    record {
+      front = record { counts = refl; text = refl; rest = refl };
+      whole =
+          λ (r : 64 ≤ length piece) (f : length (listingOf log) ≤ length out). omega (arith, h, r);
+    }
 
 module _ (log before : List ℕ) (s : State) (ids lens : List ℕ) (end : ℕ) (out : List ℕ) (f : SoFar log before s ids lens end out) where
   text-length : length (f .text) ≡ end
@@ -46,12 +51,15 @@ module _ (log before : List ℕ) (s : State) (ids lens : List ℕ) (end : ℕ) (
 
   -- what is written so far is the front of the listing
   pub stopped : Line before (take end (listingOf log)) end out
-  stopped = subst-line (sym (ap (take end) (sym (f .joined)) ∙ take-at (f .text) (restOf log s ids lens) end text-length)) (from-front before (f .text) out end (omega (arith, text-length, f .fits)) (f .written))
+  stopped =
+      subst-line (sym (ap (take end) (sym (f .joined)) ∙ take-at (f .text) (restOf log s ids lens) end text-length))
+      (from-front before (f .text) out end (omega (arith, text-length, f .fits)) (f .written))
     where
       subst-line : {x y : List ℕ} → x ≡ y → Line before x end out → Line before y end out
       subst-line e l = record { counts = l .counts ∙ ap length e; text = l .text ∙ e; rest = l .rest }
 
-  module _ (piece : List ℕ) (r : Piece) (ids′ lens′ piece′ : List ℕ) (p : PieceOf log s ids lens piece r ids′ lens′ piece′) (z : pieceCode log s ids lens ≡ 0) where
+  module _ (piece : List ℕ) (r : Piece) (ids′ lens′ piece′ : List ℕ) (p : PieceOf log s ids lens piece r ids′ lens′ piece′)
+      (z : pieceCode log s ids lens ≡ 0) where
     d : PieceDone log s ids lens piece r ids′ lens′ piece′
     d = p .done (p .code ∙ z)
 
@@ -60,19 +68,29 @@ module _ (log before : List ℕ) (s : State) (ids lens : List ℕ) (end : ℕ) (
       used-length = length-take-le (r .used) piece′ (omega (arith, d .fits, same!))
 
       left-length : length (restOf log s ids lens) ≡ r .used + length (restAfter log r ids′ lens′)
-      left-length = ap length (sym (d .joined)) ∙ length-append (take (r .used) piece′) (restAfter log r ids′ lens′) ∙ ap (λ (n : ℕ). n + length (restAfter log r ids′ lens′)) used-length
+      left-length =
+          ap length (sym (d .joined)) ∙ length-append (take (r .used) piece′) (restAfter log r ids′ lens′)
+          ∙ ap (λ (n : ℕ). n + length (restAfter log r ids′ lens′)) used-length
 
       listing-length : length (listingOf log) ≡ end + (r .used + length (restAfter log r ids′ lens′))
-      listing-length = ap length (sym (f .joined)) ∙ length-append (f .text) (restOf log s ids lens) ∙ ap (λ (n : ℕ). n + length (restOf log s ids lens)) text-length ∙ ap (λ (n : ℕ). end + n) left-length
+      listing-length =
+          ap length (sym (f .joined)) ∙ length-append (f .text) (restOf log s ids lens) ∙ ap (λ (n : ℕ). n + length (restOf log s ids lens)) text-length
+          ∙ ap (λ (n : ℕ). end + n) left-length
 
       -- the piece has no room: the listing is longer than the buffer
       pub too-long : length out - end < r .used → (piece₀ : List ℕ) → Listed log piece₀ before end out
-      too-long h piece₀ = record { front = stopped; whole = λ (a : 64 ≤ length piece₀) (b : length (listingOf log) ≤ length before). omega (arith, h, b, listing-length, f .same) }
+      too-long h piece₀ =
+          record {
+            front = stopped;
+            whole =
+                λ (a : 64 ≤ length piece₀) (b : length (listingOf log) ≤ length before). omega (arith, h, b, listing-length, f .same);
+          }
 
       pub piece-room : r .used ≤ length out - end → end + length (take (r .used) piece′) ≤ length out
       piece-room h = omega (arith, h, used-length, f .fits, f .same)
 
-      module _ (h : r .used ≤ length out - end) (end′ : ℕ) (out′ : List ℕ) (w : Written out end (take (r .used) piece′) end′ out′) (same′ : length out′ ≡ length out) where
+      module _ (h : r .used ≤ length out - end) (end′ : ℕ) (out′ : List ℕ) (w : Written out end (take (r .used) piece′) end′ out′)
+          (same′ : length out′ ≡ length out) where
         ends : end′ ≡ end + r .used
         ends = w .ends ∙ ap (λ (n : ℕ). end + n) used-length
 
@@ -81,7 +99,10 @@ module _ (log before : List ℕ) (s : State) (ids lens : List ℕ) (end : ℕ) (
         one-more e = record {
           text = f .text ++ take (r .used) piece′;
           written = then (f .text) (take (r .used) piece′) (f .written) w;
-          joined = append-assoc (f .text) (take (r .used) piece′) (restOf log (r .state) ids′ lens′) ∙ ap (λ (t : List ℕ). f .text ++ t) (sym (ap (λ (t : Bool). take (r .used) piece′ ++ cond t [] (restOf log (r .state) ids′ lens′)) e) ∙ d .joined) ∙ f .joined;
+          joined =
+              append-assoc (f .text) (take (r .used) piece′) (restOf log (r .state) ids′ lens′)
+              ∙ ap (λ (t : List ℕ). f .text ++ t) (sym (ap (λ (t : Bool). take (r .used) piece′ ++ cond t [] (restOf log (r .state) ids′ lens′)) e) ∙ d .joined)
+              ∙ f .joined;
           fits = omega (arith, ends, h, f .fits, f .same);
           same = same′ ∙ f .same;
         }
@@ -91,7 +112,10 @@ module _ (log before : List ℕ) (s : State) (ids lens : List ℕ) (end : ℕ) (
         all-written e piece₀ = record { front = front!; whole = λ (a : 64 ≤ length piece₀) (b : length (listingOf log) ≤ length before). end-length }
           where
             text! : f .text ++ take (r .used) piece′ ≡ listingOf log
-            text! = ap (λ (t : List ℕ). f .text ++ t) (sym (append-nil (take (r .used) piece′)) ∙ sym (ap (λ (t : Bool). take (r .used) piece′ ++ cond t [] (restOf log (r .state) ids′ lens′)) e) ∙ d .joined) ∙ f .joined
+            text! =
+                ap (λ (t : List ℕ). f .text ++ t)
+                (sym (append-nil (take (r .used) piece′)) ∙ sym (ap (λ (t : Bool). take (r .used) piece′ ++ cond t [] (restOf log (r .state) ids′ lens′)) e)
+                ∙ d .joined) ∙ f .joined
 
             wrote : Written before 0 (f .text ++ take (r .used) piece′) end′ out′
             wrote = then (f .text) (take (r .used) piece′) (f .written) w
@@ -103,4 +127,6 @@ module _ (log before : List ℕ) (s : State) (ids lens : List ℕ) (end : ℕ) (
             whole-text = text! ∙ sym (ap (λ (n : ℕ). take n (listingOf log)) end-length ∙ take-length (listingOf log))
 
             front! : Line before (take end′ (listingOf log)) end′ out′
-            front! = let l = from-front before (f .text ++ take (r .used) piece′) out′ end′ (omega (arith, wrote .ends, ends, h, f .fits, f .same)) wrote in record { counts = l .counts ∙ ap length whole-text; text = l .text ∙ whole-text; rest = l .rest }
+            front! =
+                let l = from-front before (f .text ++ take (r .used) piece′) out′ end′ (omega (arith, wrote .ends, ends, h, f .fits, f .same)) wrote in
+                record { counts = l .counts ∙ ap length whole-text; text = l .text ∙ whole-text; rest = l .rest }

@@ -26,7 +26,8 @@ module _ (b : struct.Board) (ids lens : List ℕ) (c : Call) where
   call-early n = go (wrongTables (length ids) (length lens)) refl (isSpelt b ids lens) refl (unspoilt (view b ids lens)) refl n
     where
       go : (t : Bool) → wrongTables (length ids) (length lens) ≡ t → (u : Bool) → isSpelt b ids lens ≡ u → (v : Bool) → unspoilt (view b ids lens) ≡ v
-          → (first t (u && v) ≡ 0 → ⊥) → byTables (lent b ids lens) c (wrongTables (length ids) (length lens)) ≡ refusedBy (lent b ids lens) c (first t (u && v))
+          → (first t (u && v) ≡ 0 → ⊥)
+          → byTables (lent b ids lens) c (wrongTables (length ids) (length lens)) ≡ refusedBy (lent b ids lens) c (first t (u && v))
       go true e u f v g k = rw e
       go false e false f v g k = rw (e, f)
       go false e true f false g k = rw (e, f, g)
@@ -63,10 +64,14 @@ module _ (b : struct.Board) (ids lens : List ℕ) (k : Known b ids lens) where
 
   pub serve-known : (r : Served) → r ≡ goodServe b ids lens → returned r ids lens ≡ calledServe b ids lens
   unfolding calledServe goodServe step
-  serve-known r e = rw e (ap (λ (o : Outcome). returned (servedBy b (o .answer) (boardOr (view b ids lens) (o .board))) (idsAfter (o .entries) ids) (lensAfter (o .entries) lens))
+  serve-known r e =
+      rw e (ap (λ (o : Outcome). returned (servedBy b (o .answer) (boardOr (view b ids lens) (o .board))) (idsAfter (o .entries) ids)
+      (lensAfter (o .entries) lens))
       (sym (call-known b ids lens (one serve!) k)))
 
-  pub burst-known : (bytes : ℕ) (list : List ℕ) (r : BurstOutcome) → r ≡ goodBurst b ids lens bytes list → returned r ids lens ≡ calledBurst b ids lens bytes list
+  pub burst-known : (bytes : ℕ) (list : List ℕ) (r : BurstOutcome) → r ≡ goodBurst b ids lens bytes list
+      → returned r ids lens ≡ calledBurst b ids lens bytes list
   unfolding calledBurst goodBurst
-  burst-known bytes list r e = rw e (ap (λ (o : Outcome). returned (burstedBy b (o .answer) (o .board) (o .list)) (idsAfter (o .entries) ids) (lensAfter (o .entries) lens))
+  burst-known bytes list r e =
+      rw e (ap (λ (o : Outcome). returned (burstedBy b (o .answer) (o .board) (o .list)) (idsAfter (o .entries) ids) (lensAfter (o .entries) lens))
       (sym (call-known b ids lens (burst! bytes list) k)))

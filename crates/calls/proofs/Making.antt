@@ -33,13 +33,16 @@ pub made-starts : (ids lens : List ℕ) (L : ℕ) → made ids lens L .reply .co
 unfolding made make
 made-starts ids lens L = go (wrongTables (length ids) (length lens)) (not (leb 64 L && leb L 2048)) refl refl
   where
-    go : (t u : Bool) → wrongTables (length ids) (length lens) ≡ t → not (leb 64 L && leb L 2048) ≡ u → byTests ids lens L t u .reply .code ≡ 0 → StartsBy (byTests ids lens L t u) L
+    go : (t u : Bool) → wrongTables (length ids) (length lens) ≡ t → not (leb 64 L && leb L 2048) ≡ u → byTests ids lens L t u .reply .code ≡ 0
+        → StartsBy (byTests ids lens L t u) L
     go true u e f z = absurd (omega arith)
     go false true e f z = absurd (omega arith)
     go false false e f z =
         let w = both (eqb (length ids) 2048) (eqb (length lens) 2048) e in
         let v = both (leb 64 L) (leb L 2048) f in
-        starts L (replicate (length ids) 0) (replicate (length lens) 0) (true-le 64 L (v .0)) (true-le L 2048 (v .1)) (length-replicate {A = ℕ} (length ids) 0 ∙ eqb-true (length ids) 2048 (w .0)) (length-replicate {A = ℕ} (length lens) 0 ∙ eqb-true (length lens) 2048 (w .1))
+        starts L (replicate (length ids) 0) (replicate (length lens) 0) (true-le 64 L (v .0)) (true-le L 2048 (v .1))
+        (length-replicate {A = ℕ} (length ids) 0 ∙ eqb-true (length ids) 2048 (w .0))
+        (length-replicate {A = ℕ} (length lens) 0 ∙ eqb-true (length lens) 2048 (w .1))
 
 -- ---- A REFUSED MAKING gives a board that is spoilt, with whatever tables
 
@@ -47,7 +50,8 @@ zero-spoilt : (ids lens : List ℕ) → Sound (encode (fresh 0)) ids lens → �
 unfolding view encode fresh
 zero-spoilt ids lens s = omega (arith, fit-view (encode (fresh 0)) ids lens s .tidy .shape .least)
 
-pub refused-spoilt : (ids lens : List ℕ) (L : ℕ) → made ids lens L .reply .code ≢ 0 → (ids′ lens′ : List ℕ) → Sound (made ids lens L .reply .board) ids′ lens′ → ⊥
+pub refused-spoilt : (ids lens : List ℕ) (L : ℕ) → made ids lens L .reply .code ≢ 0 → (ids′ lens′ : List ℕ) → Sound (made ids lens L .reply .board) ids′ lens′
+    → ⊥
 unfolding made make
 refused-spoilt ids lens L = go (wrongTables (length ids) (length lens)) (not (leb 64 L && leb L 2048))
   where

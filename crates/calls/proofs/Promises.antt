@@ -42,21 +42,47 @@ module _ (b : struct.Board) (ids lens : List ℕ) (known : Known b ids lens) whe
         go (inr g) = absurd (ne (g .code))
         go (inl s) = why (s .why)
           where
-            why : (serve m .out ≡ refused (w .step .code)) ⊎ ((_≡_ {A = ℕ} 1 0) ⊎ ((r : Record) × (bytes < charge r) × (charge r < 65536))) → notServed b (w .step .code) ≡ goodServe b ids lens
+            why : (serve m .out ≡ refused (w .step .code)) ⊎ ((_≡_ {A = ℕ} 1 0) ⊎ ((r : Record) × (bytes < charge r) × (charge r < 65536)))
+                → notServed b (w .step .code) ≡ goodServe b ids lens
             why (inl e) = rw e
             why (inr (inl z)) = absurd (omega arith)
             why (inr (inr x)) = absurd (omega (arith, x .1, x .2))
 
     -- n is the board made again
     pub serve-goes : w .step .code ≡ 0 → (n : struct.Board) → n ≡ withEngine b (engineAfter w)
-        → record { code = 0; block = getD (b .numbers) (w .step .place) 0; number = getD ids (w .step .entry) 0; length = getD lens (w .step .entry) 0; clock = w .step .«slot_clock»; board = n } ≡ goodServe b ids lens
+        → record {
+          code = 0;
+          block = getD (b .numbers) (w .step .place) 0;
+          number = getD ids (w .step .entry) 0;
+          length = getD lens (w .step .entry) 0;
+          clock =
+              w .step .«slot_clock»;
+          board = n;
+        } ≡ goodServe b ids lens
     unfolding goodServe
     serve-goes z n n-is = go (by-cases b ids lens known bytes 1 w w-is)
       where
         go : Stops m bytes 1 w ⊎ Goes m ids lens bytes 1 w
-            → _≡_ {A = Served} (record { code = 0; block = getD (b .numbers) (w .step .place) 0; number = getD ids (w .step .entry) 0; length = getD lens (w .step .entry) 0; clock = w .step .«slot_clock»; board = n }) (goodServe b ids lens)
+            → _≡_ {A = Served} (record {
+              code = 0;
+              block = getD (b .numbers) (w .step .place) 0;
+              number = getD ids (w .step .entry) 0;
+              length = getD lens (w .step .entry) 0;
+              clock =
+                  w .step .«slot_clock»;
+              board = n;
+            }) (goodServe b ids lens)
         go (inl s) = absurd (s .code z)
-        go (inr g) = rw (g .out) (λ j. record { code = 0; block = block j; number = g .number-is j; length = g .bytes-is j; clock = g .clock-is j; board = (n-is ∙ after-is b ids lens known w (g .next)) j })
+        go (inr g) =
+            rw (g .out) (λ j. record {
+              code = 0;
+              block = block j;
+              number = g .number-is j;
+              length = g .bytes-is j;
+              clock = g .clock-is j;
+              board =
+                  (n-is ∙ after-is b ids lens known w (g .next)) j;
+            })
           where
             block : getD (b .numbers) (w .step .place) 0 ≡ at m (g .sends .place) .number
             block =
@@ -69,13 +95,16 @@ module _ (b : struct.Board) (ids lens : List ℕ) (known : Known b ids lens) whe
   unfolding goodServe ByAnswer
   serve-known = go (serve m .out) refl (serve-by m (fit b ids lens known) ids lens (holds b ids lens known))
     where
-      go : (o : Out) → serve m .out ≡ o → ByAnswer m ids lens o (serve m .next) → Known (goodServe b ids lens .board) ids lens × (view (goodServe b ids lens .board) ids lens ≡ serve m .next)
+      go : (o : Out) → serve m .out ≡ o → ByAnswer m ids lens o (serve m .next)
+          → Known (goodServe b ids lens .board) ids lens × (view (goodServe b ids lens .board) ids lens ≡ serve m .next)
       go (refused code) e w = rw e (known, sym (w .stays))
       go (sent s) e w = rw e (known-next b ids lens known (w .holds), view-encode (serve m .next) ids lens (fit-serve m (fit b ids lens known)) (w .holds))
 
 -- ---- A burst under way: count records are sent, and total bytes; the rest is a burst of the rules
 abbrev then : ℕ → ℕ → List ℕ → Burst → BurstOutcome
-then count total list r = burstNow (record { count = count + r .count; bytes = record { 0 = total + r .total }; code = r .code; board = encode (r .next) }) (take count list ++ (r .numbers ++ drop (length (r .numbers)) (drop count list)))
+then count total list r =
+    burstNow (record { count = count + r .count; bytes = record { 0 = total + r .total }; code = r .code; board = encode (r .next) })
+    (take count list ++ (r .numbers ++ drop (length (r .numbers)) (drop count list)))
 
 unfoldable pub burstFrom : struct.Board → List ℕ → List ℕ → ℕ → ℕ → ℕ → List ℕ → BurstOutcome
 burstFrom b ids lens bytes count total list = then count total list (burst (view b ids lens) (bytes - total) (length list - count))
@@ -84,20 +113,29 @@ pub burst-start : (b : struct.Board) (ids lens : List ℕ) (bytes : ℕ) (list :
 unfolding goodBurst burstFrom
 burst-start b ids lens bytes list = rw (sub-zero bytes, sub-zero (length list)) (first (burst (view b ids lens) bytes (length list)))
   where
-    first : (r : Burst) → burstBy r list ≡ burstNow (record { count = 0 + r .count; bytes = record { 0 = 0 + r .total }; code = r .code; board = encode (r .next) }) (take 0 list ++ (r .numbers ++ drop (length (r .numbers)) (drop 0 list)))
-    first r = λ j. burstNow (record { count = sym (zero-add (r .count)) j; bytes = record { 0 = sym (zero-add (r .total)) j }; code = r .code; board = encode (r .next) }) (r .numbers ++ drop (length (r .numbers)) list)
+    first : (r : Burst) → burstBy r list
+        ≡ burstNow (record { count = 0 + r .count; bytes = record { 0 = 0 + r .total }; code = r .code; board = encode (r .next) })
+        (take 0 list ++ (r .numbers ++ drop (length (r .numbers)) (drop 0 list)))
+    first r =
+        λ j. burstNow (record
+        { count = sym (zero-add (r .count)) j; bytes = record { 0 = sym (zero-add (r .total)) j }; code = r .code; board = encode (r .next) })
+        (r .numbers ++ drop (length (r .numbers)) list)
 
 -- one entry of the list more
 list-on : (list : List ℕ) (count v : ℕ) (ns : List ℕ) → count < length list
-    → take count list ++ ((v ∷ ns) ++ drop (suc (length ns)) (drop count list)) ≡ take (suc count) (set list count v) ++ (ns ++ drop (length ns) (drop (suc count) (set list count v)))
+    → take count list ++ ((v ∷ ns) ++ drop (suc (length ns)) (drop count list))
+    ≡ take (suc count) (set list count v) ++ (ns ++ drop (length ns) (drop (suc count) (set list count v)))
 list-on [] count v ns h = absurd (omega arith)
 list-on (x ∷ xs) zero v ns h = refl
 list-on (x ∷ xs) (suc count) v ns h = ap (λ (r : List ℕ). x ∷ r) (list-on xs count v ns (omega arith))
 
 -- one record more: r is sent, next is the rules' board after it and v what is written
-sent-first : (bytes count total : ℕ) (list : List ℕ) (r : Record) → count < length list → (next m : Board.Board) (x v : ℕ) → m ≡ next → x ≡ charge r → v ≡ r .number
-    → then count total list (sentFirst r (burst next (bytes - total - charge r) (length list - count - 1))) ≡ then (count + 1) (total + x) (set list count v) (burst m (bytes - (total + x)) (length (set list count v) - (count + 1)))
-sent-first bytes count total list r h next m x v m-is x-is v-is = rw (m-is, x-is, v-is, length-set list count (r .number), left, room, add-one count) (more (burst next (bytes - total - charge r) (length list - count - 1)))
+sent-first : (bytes count total : ℕ) (list : List ℕ) (r : Record) → count < length list → (next m : Board.Board) (x v : ℕ) → m ≡ next → x ≡ charge r
+    → v ≡ r .number
+    → then count total list (sentFirst r (burst next (bytes - total - charge r) (length list - count - 1)))
+    ≡ then (count + 1) (total + x) (set list count v) (burst m (bytes - (total + x)) (length (set list count v) - (count + 1)))
+sent-first bytes count total list r h next m x v m-is x-is v-is =
+    rw (m-is, x-is, v-is, length-set list count (r .number), left, room, add-one count) (more (burst next (bytes - total - charge r) (length list - count - 1)))
   where
     left : bytes - (total + charge r) ≡ bytes - total - charge r
     left = omega arith
@@ -106,7 +144,9 @@ sent-first bytes count total list r h next m x v m-is x-is v-is = rw (m-is, x-is
     room = omega arith
 
     more : (rest : Burst) → then count total list (sentFirst r rest) ≡ then (suc count) (total + charge r) (set list count (r .number)) rest
-    more rest = λ j. burstNow (record { count = counts j; bytes = record { 0 = totals j }; code = rest .code; board = encode (rest .next) }) (list-on list count (r .number) (rest .numbers) h j)
+    more rest =
+        λ j. burstNow (record { count = counts j; bytes = record { 0 = totals j }; code = rest .code; board = encode (rest .next) })
+        (list-on list count (r .number) (rest .numbers) h j)
       where
         counts : count + suc (rest .count) ≡ suc count + rest .count
         counts = omega arith
@@ -114,7 +154,8 @@ sent-first bytes count total list r h next m x v m-is x-is v-is = rw (m-is, x-is
         totals : total + (charge r + rest .total) ≡ total + charge r + rest .total
         totals = omega arith
 
-module _ (b : struct.Board) (ids lens : List ℕ) (known : Known b ids lens) (bytes count total : ℕ) (list : List ℕ) (w : Within) (w-is : w ≡ within b lens (bytes - total) (length list - count)) where
+module _ (b : struct.Board) (ids lens : List ℕ) (known : Known b ids lens) (bytes count total : ℕ) (list : List ℕ) (w : Within)
+    (w-is : w ≡ within b lens (bytes - total) (length list - count)) where
   abbrev mb : Board.Board
   mb = view b ids lens
 
@@ -122,24 +163,32 @@ module _ (b : struct.Board) (ids lens : List ℕ) (known : Known b ids lens) (by
   cases = by-cases b ids lens known (bytes - total) (length list - count) w w-is
 
   -- it stops; n is the board made again
-  pub burst-stop : w .step .code ≢ 0 → (n : struct.Board) → n ≡ withEngine b (engineAfter w) → burstNow (record { count = count; bytes = record { 0 = total }; code = w .step .code; board = n }) list ≡ burstFrom b ids lens bytes count total list
+  pub burst-stop : w .step .code ≢ 0 → (n : struct.Board) → n ≡ withEngine b (engineAfter w)
+      → burstNow (record { count = count; bytes = record { 0 = total }; code = w .step .code; board = n }) list ≡ burstFrom b ids lens bytes count total list
   unfolding burstFrom
   burst-stop ne n n-is = go cases
     where
       go : Stops mb (bytes - total) (length list - count) w ⊎ Goes mb ids lens (bytes - total) (length list - count) w
-          → burstNow (record { count = count; bytes = record { 0 = total }; code = w .step .code; board = n }) list ≡ burstFrom b ids lens bytes count total list
+          → burstNow (record { count = count; bytes = record { 0 = total }; code = w .step .code; board = n }) list
+          ≡ burstFrom b ids lens bytes count total list
       go (inr g) = absurd (ne (g .code))
-      go (inl s) = rw (s .burst-is) (λ j. burstNow (record { count = sym (add-zero count) j; bytes = record { 0 = sym (add-zero total) j }; code = w .step .code; board = board j }) (sym (take-append-drop count list) j))
+      go (inl s) =
+          rw (s .burst-is) (λ j. burstNow
+          (record { count = sym (add-zero count) j; bytes = record { 0 = sym (add-zero total) j }; code = w .step .code; board = board j })
+          (sym (take-append-drop count list) j))
         where
           board : n ≡ encode mb
-          board = n-is ∙ ap (λ (x : Within). withEngine b (engineAfter x)) (s .same) ∙ ap (λ (c : struct.Board). withEngine c (engineOf (encode mb))) (sym (spells b ids lens known))
+          board =
+              n-is ∙ ap (λ (x : Within). withEngine b (engineAfter x)) (s .same)
+              ∙ ap (λ (c : struct.Board). withEngine c (engineOf (encode mb))) (sym (spells b ids lens known))
 
   -- it goes on
   module _ (z : w .step .code ≡ 0) where
     goes : Goes mb ids lens (bytes - total) (length list - count) w
     goes = go cases
       where
-        go : Stops mb (bytes - total) (length list - count) w ⊎ Goes mb ids lens (bytes - total) (length list - count) w → Goes mb ids lens (bytes - total) (length list - count) w
+        go : Stops mb (bytes - total) (length list - count) w ⊎ Goes mb ids lens (bytes - total) (length list - count) w
+            → Goes mb ids lens (bytes - total) (length list - count) w
         go (inl s) = absurd (s .code z)
         go (inr g) = g
 
@@ -162,12 +211,17 @@ module _ (b : struct.Board) (ids lens : List ℕ) (known : Known b ids lens) (by
     view-is : view (withEngine b (engineAfter w)) ids lens ≡ serve mb .next
     view-is = ap (λ (c : struct.Board). view c ids lens) next-is ∙ view-encode (serve mb .next) ids lens (fit-serve mb (fit b ids lens known)) (goes .holds)
 
-    pub burst-on : burstFrom b ids lens bytes count total list ≡ burstFrom (withEngine b (engineAfter w)) ids lens bytes (count + 1) (total + w .step .bytes .0) (set list count (getD ids (w .step .entry) 0))
+    pub burst-on : burstFrom b ids lens bytes count total list
+        ≡ burstFrom (withEngine b (engineAfter w)) ids lens bytes (count + 1) (total + w .step .bytes .0) (set list count (getD ids (w .step .entry) 0))
     unfolding burstFrom
-    burst-on = ap (then count total list) (goes .burst-is) ∙ sent-first bytes count total list (goes .sends .front) on-room (serve mb .next) (view (withEngine b (engineAfter w)) ids lens) (w .step .bytes .0) (getD ids (w .step .entry) 0) view-is (goes .charge-is) (goes .number-is)
+    burst-on =
+        ap (then count total list) (goes .burst-is)
+        ∙ sent-first bytes count total list (goes .sends .front) on-room (serve mb .next) (view (withEngine b (engineAfter w)) ids lens) (w .step .bytes .0)
+        (getD ids (w .step .entry) 0) view-is (goes .charge-is) (goes .number-is)
 
 -- so many serves leave a board whose lanes the tables hold
-burst-kept : (room bytes : ℕ) (m : Board.Board) (ids lens : List ℕ) → Fit m → Holds m ids lens → Fit (burst m bytes room .next) × Holds (burst m bytes room .next) ids lens
+burst-kept : (room bytes : ℕ) (m : Board.Board) (ids lens : List ℕ) → Fit m → Holds m ids lens
+    → Fit (burst m bytes room .next) × Holds (burst m bytes room .next) ids lens
 unfolding burst ByAnswer
 burst-kept zero bytes m ids lens f h = go (serve m .out)
   where
@@ -176,22 +230,26 @@ burst-kept zero bytes m ids lens f h = go (serve m .out)
     go done = (f, h)
     go (taken a) = (f, h)
     go (sent s) = (f, h)
-burst-kept (suc room) bytes m ids lens f h = go (serve m .out) (serve-by m f ids lens h) (λ x. burst-kept room (bytes - chargeNext (serve m .out)) (serve m .next) ids lens (fit-serve m f) x)
+burst-kept (suc room) bytes m ids lens f h =
+    go (serve m .out) (serve-by m f ids lens h) (λ x. burst-kept room (bytes - chargeNext (serve m .out)) (serve m .next) ids lens (fit-serve m f) x)
   where
     rest : Burst
     rest = burst (serve m .next) (bytes - chargeNext (serve m .out)) room
 
-    either : (t : Bool) (r : Record) → Fit (rest .next) × Holds (rest .next) ids lens → Fit (cond t (stopped m 13) (sentFirst r rest) .next) × Holds (cond t (stopped m 13) (sentFirst r rest) .next) ids lens
+    either : (t : Bool) (r : Record) → Fit (rest .next) × Holds (rest .next) ids lens
+        → Fit (cond t (stopped m 13) (sentFirst r rest) .next) × Holds (cond t (stopped m 13) (sentFirst r rest) .next) ids lens
     either true r k = (f, h)
     either false r k = k
 
-    go : (o : Out) → ByAnswer m ids lens o (serve m .next) → (Holds (serve m .next) ids lens → Fit (rest .next) × Holds (rest .next) ids lens) → Fit (withRoom m bytes o rest .next) × Holds (withRoom m bytes o rest .next) ids lens
+    go : (o : Out) → ByAnswer m ids lens o (serve m .next) → (Holds (serve m .next) ids lens → Fit (rest .next) × Holds (rest .next) ids lens)
+        → Fit (withRoom m bytes o rest .next) × Holds (withRoom m bytes o rest .next) ids lens
     go (refused code) w k = (f, h)
     go (sent s) w k = either (ltb bytes (charge (s .front))) (s .front) (k (w .holds))
 
 -- AFTER A BURST the board is not spoilt, and reads as the rules' next board
 pub burst-known : (b : struct.Board) (ids lens : List ℕ) (bytes : ℕ) (list : List ℕ) → Known b ids lens
-    → Known (goodBurst b ids lens bytes list .answer .board) ids lens × (view (goodBurst b ids lens bytes list .answer .board) ids lens ≡ burst (view b ids lens) bytes (length list) .next)
+    → Known (goodBurst b ids lens bytes list .answer .board) ids lens
+    × (view (goodBurst b ids lens bytes list .answer .board) ids lens ≡ burst (view b ids lens) bytes (length list) .next)
 unfolding goodBurst
 burst-known b ids lens bytes list k = (known-encode r ids lens (w .0) (w .1) (k .ids-all) (k .lens-all), view-encode r ids lens (w .0) (w .1))
   where

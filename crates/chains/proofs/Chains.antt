@@ -75,11 +75,13 @@ served-told b m = go (serve m .out) (serve-codes m)
     go (taken a) e = absurd e
     go (sent s) e = refl
 
-burst-told : (b : struct.Board) (ids lens : List ℕ) (bytes : ℕ) (list : List ℕ) → burstTells (goodBurst b ids lens bytes list .answer) ≡ done! (view b ids lens) (burst! bytes list) .answer
+burst-told : (b : struct.Board) (ids lens : List ℕ) (bytes : ℕ) (list : List ℕ)
+    → burstTells (goodBurst b ids lens bytes list .answer) ≡ done! (view b ids lens) (burst! bytes list) .answer
 unfolding goodBurst
 burst-told b ids lens bytes list = refl
 
-good-serve : (b : struct.Board) (ids lens : List ℕ) → goodServe b ids lens ≡ servedBy b (told (view b ids lens) (serve (view b ids lens) .out)) (serve (view b ids lens) .next)
+good-serve : (b : struct.Board) (ids lens : List ℕ)
+    → goodServe b ids lens ≡ servedBy b (told (view b ids lens) (serve (view b ids lens) .out)) (serve (view b ids lens) .next)
 unfolding goodServe
 good-serve b ids lens = refl
 
@@ -100,7 +102,9 @@ pub did-agrees : CallAgrees
 did-agrees s m c a k (byReply x e r ids lens p) = record {
   good = subst (λ (w : Returned Reply). Known (w .reply .board) (w .ids) (w .lens)) (sym q) (f .good);
   after = ap (λ (w : Returned Reply). view (w .reply .board) (w .ids) (w .lens)) q ∙ f .reads;
-  told! = ap (λ (w : Returned Reply). replyTells x (w .reply)) q ∙ reply-told (reads s) (fit-view b (s .ids) (s .lens) (k .sound) .tidy) x e (ruled b (s .ids) (s .lens) x .reply) (f .code);
+  told! =
+      ap (λ (w : Returned Reply). replyTells x (w .reply)) q
+      ∙ reply-told (reads s) (fit-view b (s .ids) (s .lens) (k .sound) .tidy) x e (ruled b (s .ids) (s .lens) x .reply) (f .code);
 }
   where
     b : struct.Board
@@ -114,7 +118,9 @@ did-agrees s m c a k (byReply x e r ids lens p) = record {
 did-agrees s m c a k (byServe r ids lens p) = record {
   good = subst (λ (w : Returned Served). Known (w .reply .board) (w .ids) (w .lens)) (sym q) (w! .0);
   after = ap (λ (w : Returned Served). view (w .reply .board) (w .ids) (w .lens)) q ∙ w! .1 ∙ serve-next (reads s);
-  told! = ap (λ (w : Returned Served). servedTells (w .reply)) q ∙ ap servedTells (good-serve b (s .ids) (s .lens)) ∙ served-told b (reads s) ∙ serve-step (reads s);
+  told! =
+      ap (λ (w : Returned Served). servedTells (w .reply)) q ∙ ap servedTells (good-serve b (s .ids) (s .lens)) ∙ served-told b (reads s)
+      ∙ serve-step (reads s);
 }
   where
     b : struct.Board
@@ -123,7 +129,8 @@ did-agrees s m c a k (byServe r ids lens p) = record {
     q : returned r ids lens ≡ returned (goodServe b (s .ids) (s .lens)) (s .ids) (s .lens)
     q = p ∙ sym (Calling.serve-known b (s .ids) (s .lens) k (goodServe b (s .ids) (s .lens)) refl)
 
-    w! : Known (goodServe b (s .ids) (s .lens) .board) (s .ids) (s .lens) × (view (goodServe b (s .ids) (s .lens) .board) (s .ids) (s .lens) ≡ serve (reads s) .next)
+    w! : Known (goodServe b (s .ids) (s .lens) .board) (s .ids) (s .lens)
+        × (view (goodServe b (s .ids) (s .lens) .board) (s .ids) (s .lens) ≡ serve (reads s) .next)
     w! = Promises.serve-known b (s .ids) (s .lens) k
 did-agrees s m c a k (byBurst bytes list r list′ ids lens p) = record {
   good = subst (λ (w : Returned BurstOutcome). Known (w .reply .answer .board) (w .ids) (w .lens)) (sym q) (w! .0);
@@ -155,12 +162,16 @@ unfolding runs answersOf
 chain-from k stops = (k, refl, refl)
 chain-from {s = s} {e = e} k (goes {m = m} {c = c} {a = a} {cs = cs} d rest) =
     let g = did-agrees s m c a k d in
-    let t = chain-from (g .good) rest in
-    (t .0, t .1 ∙ ap (λ (b : Board.Board). runs b cs) (g .after), ap₂ (λ (x : Answer) (xs : List Answer). x ∷ xs) (g .told!) (t .2 ∙ ap (λ (b : Board.Board). answersOf b cs) (g .after)))
+    let t = chain-from (g .good) rest in (
+      t .0,
+      t .1 ∙ ap (λ (b : Board.Board). runs b cs) (g .after),
+      ap₂ (λ (x : Answer) (xs : List Answer). x ∷ xs) (g .told!) (t .2 ∙ ap (λ (b : Board.Board). answersOf b cs) (g .after)),
+    )
 
 -- THE DEMANDS OF THE REAL CALLS: from a done making, what the calls leave and answer is what the rules' run leaves and answers
 pub chain-is-run : ChainIsRun
-chain-is-run L s e cs answers made! chain = record { good = t .0; board = t .1 ∙ ap (λ (b : Board.Board). runs b cs) fresh!; answer = t .2 ∙ ap (λ (b : Board.Board). answersOf b cs) fresh! }
+chain-is-run L s e cs answers made! chain =
+    record { good = t .0; board = t .1 ∙ ap (λ (b : Board.Board). runs b cs) fresh!; answer = t .2 ∙ ap (λ (b : Board.Board). answersOf b cs) fresh! }
   where
     start : StartsBy (made (made! .ids) (made! .lens) L) L
     start = made-starts (made! .ids) (made! .lens) L (ap (λ (w : Returned Reply). w .reply .code) (sym (made! .promise)) ∙ made! .done)
@@ -172,7 +183,9 @@ chain-is-run L s e cs answers made! chain = record { good = t .0; board = t .1 �
     known = held (made (made! .ids) (made! .lens) L) (made! .promise) (start .good)
 
     fresh! : reads s ≡ fresh L
-    fresh! = ap (λ (b : struct.Board). view b (s .ids) (s .lens)) (made! .board) ∙ ap (λ (w : Returned Reply). view (w .reply .board) (w .ids) (w .lens)) (made! .promise) ∙ start .reads
+    fresh! =
+        ap (λ (b : struct.Board). view b (s .ids) (s .lens)) (made! .board)
+        ∙ ap (λ (w : Returned Reply). view (w .reply .board) (w .ids) (w .lens)) (made! .promise) ∙ start .reads
 
     t : KnownHolding e × (reads e ≡ runs (reads s) cs) × (answers ≡ answersOf (reads s) cs)
     t = chain-from known chain
@@ -192,4 +205,5 @@ in-range L s made! = record { low = subst (λ (n : ℕ). 64 ≤ n) size (shape .
 
 -- so what a chain holds reads as a board of a run, and every promise of the rules' page holds of it and of what is answered next
 pub chain-of-run : ChainOfRun
-chain-of-run L s e cs answers made! chain = record { size = in-range L s made!; calls = row (fresh L) cs; is = chain-is-run L s e cs answers made! chain .board ∙ run-is-row (fresh L) cs }
+chain-of-run L s e cs answers made! chain =
+    record { size = in-range L s made!; calls = row (fresh L) cs; is = chain-is-run L s e cs answers made! chain .board ∙ run-is-row (fresh L) cs }

@@ -15,7 +15,8 @@ use Rattle.rules.specs.Board.{Place, freePlace, at, waits, someWait, fresh, Has
 use Rattle.rules.specs.Choice.{Out, refused, done, taken, Sending, sent, send}
 use Rattle.rules.specs.Blocks.{Opening}
 use Rattle.rules.specs.Burst.{Burst, burst}
-use Rattle.rules.specs.Calls.{Single, open!, rename!, close!, record!, serve!, step, Call, one, burst!, Sent, Answer, gives, takes, sends, bursts, told, codeOf, make}
+use Rattle.rules.specs.Calls.{Single, open!, rename!, close!, record!, serve!, step, Call, one, burst!, Sent, Answer, gives, takes, sends, bursts, told, codeOf}
+use Rattle.rules.specs.Calls.{make}
 use Rattle.rules.specs.Runs
 use Rattle.rules.specs.Runs.{play, runs, answer, laneOf, classAt, isFor, isDone, recordOf, clockOf, closes, isServe, Story, begins, goesOn, tells}
 use Rattle.rules.specs.Promises as Promised
@@ -39,7 +40,8 @@ use Rattle.chains.specs.Demands.{reads, clock, bytesIn, slotBytes, NoneR
 use Rattle.chains.specs.Demands.{BurstIsServes, NeverRefused, Opened, Life, Conserved, SendsFront, ComesToFront, intoEmpty, nextUp, StaysInFront}
 use Rattle.chains.specs.Demands.{ServesSend, BurstSends, beginsSlot, slotsIn, WaitsAt, SlotsSmall, OnlyOne, HasChain}
 use Rattle.chains.proofs.Chains.{did-agrees, chain-is-run}
-use Rattle.chains.proofs.Rows.{At, at-made, at-tidy, at-on, at-did, saidOf, play-join, Along, along, bytes-said, slot-bytes-said, story-said, unsent-said, spent-said, spelt-bytes, burst-is, row-from}
+use Rattle.chains.proofs.Rows.{At, at-made, at-tidy, at-on, at-did, saidOf, play-join, Along, along, bytes-said, slot-bytes-said, story-said}
+use Rattle.chains.proofs.Rows.{unsent-said, spent-said, spelt-bytes, burst-is, row-from}
 use Rattle.chains.proofs.Slots.{Seen, seen-fresh, seen-play, seen-step, begins-said, slots-said}
 
 -- ---- bursts
@@ -51,7 +53,8 @@ pub same-bytes : SameBytes
 same-bytes s e cs told xs said r = spelt-bytes (r .spelt)
 
 pub burst-is-serves : BurstIsServes
-burst-is-serves L s m before told₁ made! first bytes list r list′ ids lens p = burst-is m bytes list r list′ ids lens (at-on L (at-made L s made!) first .good) p
+burst-is-serves L s m before told₁ made! first bytes list r list′ ids lens p =
+    burst-is m bytes list r list′ ids lens (at-on L (at-made L s made!) first .good) p
 
 -- ---- demand 1
 
@@ -72,7 +75,8 @@ never-refused L s e cs told made! chain = not-refused L (at-made L s made!) chai
 abbrev Seat : ℕ → Story → Board.Board → ℕ → Type 0
 Seat share st b p = st .closed ≡ false → Has b p (st .number) × (at b p .share ≡ share)
 
-seat-step : (share : ℕ) (st : Story) (b : Board.Board) (p : ℕ) (x : Single) → Tidy b → Seat share st b p → Seat share (tells (st .closed) st x (answer b x)) (step b x .next) p
+seat-step : (share : ℕ) (st : Story) (b : Board.Board) (p : ℕ) (x : Single) → Tidy b → Seat share st b p
+    → Seat share (tells (st .closed) st x (answer b x)) (step b x .next) p
 seat-step share st b p x g s = go (st .closed) refl
   where
     go : (c : Bool) → st .closed ≡ c → Seat share (tells c st x (answer b x)) (step b x .next) p
@@ -82,7 +86,8 @@ seat-step share st b p x g s = go (st .closed) refl
 seat-story : (share : ℕ) (st : Story) (b : Board.Board) (p : ℕ) (xs : List Single) → Tidy b → Seat share st b p → Seat share (Runs.story st b xs) (play b xs) p
 unfolding Runs.story play
 seat-story share st b p [] g s = s
-seat-story share st b p (x ∷ xs) g s = seat-story share (tells (st .closed) st x (answer b x)) (step b x .next) p xs (tidy-step b x g) (seat-step share st b p x g s)
+seat-story share st b p (x ∷ xs) g s =
+    seat-story share (tells (st .closed) st x (answer b x)) (step b x .next) p xs (tidy-step b x g) (seat-step share st b p x g s)
 
 -- what is known of a block on the board b after its story
 record Lives (given : Opening) (st : Story) (b : Board.Board) : Type 0 where
@@ -101,12 +106,16 @@ record FromOpening (L : ℕ) (given : Opening) (st : Story) (b : Board.Board) : 
 opening-lives : (L : ℕ) (given : Opening) (st : Story) (b : Board.Board) → FromOpening L given st b → Lives given st b
 opening-lives L given st b o = rw (o .is, o .tale) (record {
   accounted = Promises.conserved-all L (o .from) (o .run) given (o .xs) (o .opens);
-  seat = λ c. let w = opened-by (o .from) (o .tidy) given (o .opens) in
-      (w .0, seat-story (given .share) (begins (given .number)) (step (o .from) (open! given) .next) (w .0) (o .xs) (tidy-step (o .from) (open! given) (o .tidy)) (λ _. (w .1, ap (λ (x : Place). x .share) (w .2))));
+  seat = λ c. let w = opened-by (o .from) (o .tidy) given (o .opens) in (
+    w .0,
+    seat-story (given .share) (begins (given .number)) (step (o .from) (open! given) .next) (w .0) (o .xs)
+        (tidy-step (o .from) (open! given) (o .tidy)) (λ _. (w .1, ap (λ (x : Place). x .share) (w .2))),
+  );
 })
 
 -- one call more
-story-more : (st : Story) (b : Board.Board) (xs : List Single) (x : Single) → let t = Runs.story st b xs in Runs.story st b (xs ++ (x ∷ [])) ≡ tells (t .closed) t x (answer (play b xs) x)
+story-more : (st : Story) (b : Board.Board) (xs : List Single) (x : Single) → let t =
+    Runs.story st b xs in Runs.story st b (xs ++ (x ∷ [])) ≡ tells (t .closed) t x (answer (play b xs) x)
 unfolding Runs.story play
 story-more st b [] x = refl
 story-more st b (y ∷ xs) x = story-more (tells (st .closed) st y (answer b y)) (step b y .next) xs x
@@ -115,7 +124,8 @@ play-more : (b : Board.Board) (xs : List Single) (x : Single) → step (play b x
 unfolding play
 play-more b xs x = play-join b xs (x ∷ [])
 
-opening-more : (L : ℕ) (given : Opening) (st : Story) (b : Board.Board) (x : Single) → FromOpening L given st b → FromOpening L given (tells (st .closed) st x (answer b x)) (step b x .next)
+opening-more : (L : ℕ) (given : Opening) (st : Story) (b : Board.Board) (x : Single) → FromOpening L given st b
+    → FromOpening L given (tells (st .closed) st x (answer b x)) (step b x .next)
 opening-more L given st b x o = record {
   from = o .from;
   run = o .run;
@@ -123,7 +133,9 @@ opening-more L given st b x o = record {
   opens = o .opens;
   xs = o .xs ++ (x ∷ []);
   is = ap (λ (z : Board.Board). step z x .next) (o .is) ∙ play-more (step (o .from) (open! given) .next) (o .xs) x;
-  tale = ap₂ (λ (t : Story) (z : Board.Board). tells (t .closed) t x (answer z x)) (o .tale) (o .is) ∙ sym (story-more (begins (given .number)) (step (o .from) (open! given) .next) (o .xs) x);
+  tale =
+      ap₂ (λ (t : Story) (z : Board.Board). tells (t .closed) t x (answer z x)) (o .tale) (o .is)
+      ∙ sym (story-more (begins (given .number)) (step (o .from) (open! given) .next) (o .xs) x);
 }
 
 opened-at : (L : ℕ) (given : Opening) (last : Option ℕ) (o : Holding) → Opened L given last o → At L o
@@ -140,7 +152,9 @@ life-opening L given st last e l = record {
   opens = ap codeOf (sym (d .told!));
   xs = l .xs;
   is = a .board ∙ ap (λ (b : Board.Board). play b (l .xs)) (d .after);
-  tale = sym (l .told!) ∙ ap (story (begins (given .number)) (l .xs)) (a .answers) ∙ story-said (begins (given .number)) (reads (l .opening)) (l .xs) ∙ ap (λ (b : Board.Board). Runs.story (begins (given .number)) b (l .xs)) (d .after);
+  tale =
+      sym (l .told!) ∙ ap (story (begins (given .number)) (l .xs)) (a .answers) ∙ story-said (begins (given .number)) (reads (l .opening)) (l .xs)
+      ∙ ap (λ (b : Board.Board). Runs.story (begins (given .number)) b (l .xs)) (d .after);
 }
   where
     w : Opened L given (l .first) (l .opening)
@@ -188,7 +202,9 @@ isSend (sends a) = true
 isSend (bursts r) = false
 
 pub sends-front : SendsFront
-sends-front L s f g cs told′ a made! chain d = subst (λ (z : Board.Board). laneOf b (a .block) ≡ record { number = a .number; bytes = a .bytes } ∷ laneOf z (a .block)) (sym (w .after)) (go (step b serve! .out) refl (named b tidy) (w .told!))
+sends-front L s f g cs told′ a made! chain d =
+    subst (λ (z : Board.Board). laneOf b (a .block) ≡ record { number = a .number; bytes = a .bytes } ∷ laneOf z (a .block)) (sym (w .after))
+    (go (step b serve! .out) refl (named b tidy) (w .told!))
   where
     h : At L f
     h = at-on L (at-made L s made!) chain
@@ -215,13 +231,16 @@ sends-front L s f g cs told′ a made! chain d = subst (λ (z : Board.Board). la
         ∙ flow-step b serve! tidy p
         ∙ ap (λ (o : Out). sentOne p o ++ at nb p .lane) e
         ∙ ap (λ (u : Bool). cond u (r ∷ []) [] ++ at nb p .lane) (eqb-yes p p refl)
-        ∙ ap (λ (l : List Board.Record). r ∷ l) (sym (has-lane nb p (at b p .number) (tidy-step b serve! tidy) (follows b p (at b p .number) tidy k serve! .stays refl .0)))
+        ∙ ap (λ (l : List Board.Record). r ∷ l)
+        (sym (has-lane nb p (at b p .number) (tidy-step b serve! tidy) (follows b p (at b p .number) tidy k serve! .stays refl .0)))
 
-    go : (o : Out) → step b serve! .out ≡ o → Named b o → sends a ≡ told b o → laneOf b (a .block) ≡ record { number = a .number; bytes = a .bytes } ∷ laneOf nb (a .block)
+    go : (o : Out) → step b serve! .out ≡ o → Named b o → sends a ≡ told b o
+        → laneOf b (a .block) ≡ record { number = a .number; bytes = a .bytes } ∷ laneOf nb (a .block)
     go (refused code) e k q = absurd (true≢false (ap isSend q))
     go done e k q = absurd (true≢false (ap isSend q))
     go (taken x) e k q = absurd (true≢false (ap isSend q))
-    go (sent s) e k q = subst (λ (z : Sent). laneOf b (z .block) ≡ record { number = z .number; bytes = z .bytes } ∷ laneOf nb (z .block)) (sym (ap (sentBy a) q)) (here s e k)
+    go (sent s) e k q =
+        subst (λ (z : Sent). laneOf b (z .block) ≡ record { number = z .number; bytes = z .bytes } ∷ laneOf nb (z .block)) (sym (ap (sentBy a) q)) (here s e k)
 
 -- ---- what was taken in and not sent stands in the lane
 
@@ -251,11 +270,14 @@ record Fronted (L : ℕ) (given : Opening) (b : Board.Board) (n : ℕ) (x : Sing
 class-at : (given : Opening) (st : Story) (b : Board.Board) → Tidy b → Lives given st b → st .closed ≡ false → classAt b (st .number) ≡ classOf (given .share)
 class-at given st b g l c = let w = l .seat c in let s = w .1 c in ap classOf (has-share b (w .0) (st .number) g (s .0) ∙ s .1)
 
-fronted : (L : ℕ) (given : Opening) (st : Story) (b : Board.Board) (x : Single) (a : Answer) → a ≡ answer b x → Tidy b → Lives given st b → Lives given (goesOn st x (answer b x)) (step b x .next) → st .closed ≡ false
+fronted : (L : ℕ) (given : Opening) (st : Story) (b : Board.Board) (x : Single) (a : Answer) → a ≡ answer b x → Tidy b → Lives given st b
+    → Lives given (goesOn st x (answer b x)) (step b x .next) → st .closed ≡ false
     → ComesToFront st x a → Fronted L given b (st .number) x
 fronted L given st b x a q g l l′ c (intoEmpty r a′ i e) = record {
   comes = Runs.intoEmpty r (ap isDone (sym q) ∙ i) (nothing-more (st .sent) (laneOf b (st .number)) (sym e ∙ l .accounted .whenOpen c .1));
-  class = class-at given (goesOn st (record! (st .number) r) (answer b (record! (st .number) r))) (step b (record! (st .number) r) .next) (tidy-step b (record! (st .number) r) g) l′ refl;
+  class =
+      class-at given (goesOn st (record! (st .number) r) (answer b (record! (st .number) r))) (step b (record! (st .number) r) .next)
+      (tidy-step b (record! (st .number) r) g) l′ refl;
 }
 fronted L given st b x a q g l l′ c (nextUp a′ i ne) = record {
   comes = Runs.nextUp sends! (waits-in (goesOn st serve! (answer b serve!)) (step b serve! .next) (l′ .accounted) some! .1);
@@ -266,7 +288,9 @@ fronted L given st b x a q g l l′ c (nextUp a′ i ne) = record {
     sends! = ap (isFor (st .number)) (sym q) ∙ i
 
     some! : st .taken ++ [] ≢ st .sent ++ Runs.sentFor (st .number) (answer b serve!)
-    some! e = ne (sym (append-nil (st .taken)) ∙ e ∙ ap (λ (t : Bool). st .sent ++ cond t (recordOf (answer b serve!)) []) sends! ∙ ap (λ (z : Answer). st .sent ++ recordOf z) (sym q))
+    some! e =
+        ne (sym (append-nil (st .taken)) ∙ e ∙ ap (λ (t : Bool). st .sent ++ cond t (recordOf (answer b serve!)) []) sends!
+        ∙ ap (λ (z : Answer). st .sent ++ recordOf z) (sym q))
 
 -- what a chain tells of a block, one call of it more
 record Told (L : ℕ) (given : Opening) (st : Story) (f : Holding) (x : Single) (a : Answer) (g : Holding) : Type 0 where
@@ -277,11 +301,14 @@ record Told (L : ℕ) (given : Opening) (st : Story) (f : Holding) (x : Single) 
   after : reads g ≡ step (reads f) x .next
   there : At L g
 
-told-at : (L : ℕ) (given : Opening) (st : Story) (last : Option ℕ) (f g : Holding) (x : Single) (a : Answer) → Life L given st last f → st .closed ≡ false → Did f (one x) a g → Told L given st f x a g
+told-at : (L : ℕ) (given : Opening) (st : Story) (last : Option ℕ) (f g : Holding) (x : Single) (a : Answer) → Life L given st last f → st .closed ≡ false
+    → Did f (one x) a g → Told L given st f x a g
 told-at L given st last f g x a l c d = record {
   here = h;
   lives = opening-lives L given st (reads f) o;
-  next = subst (λ (t : Bool). Lives given (tells t st x (answer (reads f) x)) (step (reads f) x .next)) c (opening-lives L given _ (step (reads f) x .next) (opening-more L given st (reads f) x o));
+  next =
+      subst (λ (t : Bool). Lives given (tells t st x (answer (reads f) x)) (step (reads f) x .next)) c
+      (opening-lives L given _ (step (reads f) x .next) (opening-more L given st (reads f) x o));
   is = w .told!;
   after = w .after;
   there = at-did L h d;
@@ -296,7 +323,8 @@ told-at L given st last f g x a l c d = record {
     w : Agrees f (one x) a g
     w = did-agrees f g (one x) a (h .good) d
 
-told-front : (L : ℕ) (given : Opening) (st : Story) (f g : Holding) (x : Single) (a : Answer) → Told L given st f x a g → st .closed ≡ false → ComesToFront st x a → Fronted L given (reads f) (st .number) x
+told-front : (L : ℕ) (given : Opening) (st : Story) (f g : Holding) (x : Single) (a : Answer) → Told L given st f x a g → st .closed ≡ false
+    → ComesToFront st x a → Fronted L given (reads f) (st .number) x
 told-front L given st f g x a t c z = fronted L given st (reads f) x a (t .is) (at-tidy L f (t .here)) (t .lives) (t .next) c z
 
 -- The byte bound, its time and the slot promises at a call of a chain, over any single calls after it: Passages has them at every moment.
@@ -358,11 +386,14 @@ serve-waiting L given st last f l c ne = Promises.serves-send L (reads f) (h .ru
     w = lives .seat c
 
     waiting : 1 ≤ length (at (reads f) (w .0) .lane)
-    waiting = subst (λ (r : List Board.Record). 1 ≤ length r) (has-lane (reads f) (w .0) (st .number) (at-tidy L f h) (w .1 c .0)) (waits-in st (reads f) (lives .accounted) ne .1)
+    waiting =
+        subst (λ (r : List Board.Record). 1 ≤ length r) (has-lane (reads f) (w .0) (st .number) (at-tidy L f h) (w .1 c .0))
+        (waits-in st (reads f) (lives .accounted) ne .1)
 
 pub serves-send : ServesSend
 serves-send L given st last f g a l c ne d =
-    subst (λ (z : Answer). (z ≡ gives 11) ⊎ ((s : Sent) × (z ≡ sends s))) (sym (did-agrees f g (one serve!) a (life-at L given st last f l .good) d .told!)) (serve-waiting L given st last f l c ne)
+    subst (λ (z : Answer). (z ≡ gives 11) ⊎ ((s : Sent) × (z ≡ sends s))) (sym (did-agrees f g (one serve!) a (life-at L given st last f l .good) d .told!))
+    (serve-waiting L given st last f l c ne)
 
 -- how many records a burst tells of
 abbrev pub countBy : Answer → ℕ
@@ -389,7 +420,8 @@ burst-sends L given st last s f g cs told bytes list r made! chain d l c ne = go
     code : r .code ≡ B .code
     code = ap codeOf (w .told!)
 
-    stops-by : (answer (reads g) serve! ≡ gives 11) ⊎ ((z : Sent) × (answer (reads g) serve! ≡ sends z)) → answer (reads g) serve! ≡ gives (B .code) → r .code ≡ 11
+    stops-by : (answer (reads g) serve! ≡ gives 11) ⊎ ((z : Sent) × (answer (reads g) serve! ≡ sends z)) → answer (reads g) serve! ≡ gives (B .code)
+        → r .code ≡ 11
     stops-by (inl e) q = code ∙ ap codeOf (sym q ∙ e)
     stops-by (inr (z, e)) q = absurd (false≢true (ap isSend (sym q ∙ e)))
 
@@ -408,7 +440,9 @@ seen-same : {u v : Option ℕ} {b c : Board.Board} → u ≡ v → b ≡ c → S
 seen-same {v = v} {b = b} e f s = subst (Seen v) f (subst (λ (o : Option ℕ). Seen o b) e s)
 
 life-seen : (L : ℕ) (given : Opening) (st : Story) (last : Option ℕ) (e : Holding) → Life L given st last e → Seen last (reads e)
-life-seen L given st last e l = seen-same (ap (lastSlot (l .first)) (sym (at-end .answers)) ∙ l .latest) (sym (at-end .board)) (seen-play (l .first) (reads (l .opening)) (l .xs) (at-tidy L (l .opening) o) opening)
+life-seen L given st last e l =
+    seen-same (ap (lastSlot (l .first)) (sym (at-end .answers)) ∙ l .latest) (sym (at-end .board))
+    (seen-play (l .first) (reads (l .opening)) (l .xs) (at-tidy L (l .opening) o) opening)
   where
     w : Opened L given (l .first) (l .opening)
     w = l .opened
@@ -432,16 +466,21 @@ life-seen L given st last e l = seen-same (ap (lastSlot (l .first)) (sym (at-end
     d = did-agrees (w .before) (l .opening) (one (open! given)) (gives 0) (h .good) (w .opens)
 
     before : Seen (l .first) (reads (w .before))
-    before = seen-same (ap (lastSlot none) (sym (a .answers)) ∙ w .latest) (sym (a .board)) (seen-play none (reads (w .start)) (w .xs) (at-tidy L (w .start) m) (seen-same refl (sym (made-fresh L (w .start) (w .made))) (seen-fresh L)))
+    before =
+        seen-same (ap (lastSlot none) (sym (a .answers)) ∙ w .latest) (sym (a .board))
+        (seen-play none (reads (w .start)) (w .xs) (at-tidy L (w .start) m) (seen-same refl (sym (made-fresh L (w .start) (w .made))) (seen-fresh L)))
 
     opening : Seen (l .first) (reads (l .opening))
-    opening = seen-same (ap (slotAfter (l .first)) (sym (d .told!))) (sym (d .after)) (seen-step (l .first) (reads (w .before)) (open! given) (at-tidy L (w .before) h) before)
+    opening =
+        seen-same (ap (slotAfter (l .first)) (sym (d .told!))) (sym (d .after))
+        (seen-step (l .first) (reads (w .before)) (open! given) (at-tidy L (w .before) h) before)
 
 pub clock-reads : (s : Holding) → reads s .clock ≡ clock s
 unfolding view
 clock-reads s = refl
 
-said-more : (b : Board.Board) (x : Single) (xs : List Single) (a : Answer) (said : List Answer) → a ≡ answer b x → said ≡ saidOf (step b x .next) xs → a ∷ said ≡ saidOf b (x ∷ xs)
+said-more : (b : Board.Board) (x : Single) (xs : List Single) (a : Answer) (said : List Answer) → a ≡ answer b x → said ≡ saidOf (step b x .next) xs
+    → a ∷ said ≡ saidOf b (x ∷ xs)
 unfolding saidOf
 said-more b x xs a said e f = ap₂ (λ (z : Answer) (zs : List Answer). z ∷ zs) e f
 
@@ -451,9 +490,11 @@ pub slot-once-from : (L : ℕ) (given : Opening) (st : Story) (last : Option ℕ
     → slotsIn lo (lo + 2 ^ classOf (given .share)) (st .number) last (serve! ∷ xs) (a ∷ said) ≡ 1
 slot-once-from L given st last f g e a lo xs said l d r w h =
     subst (λ (k : ℕ). slotsIn lo (lo + 2 ^ k) (st .number) last (serve! ∷ xs) (a ∷ said) ≡ 1) q
-    (ap (slotsIn lo (lo + 2 ^ classAt b (st .number)) (st .number) last (serve! ∷ xs)) (said-more b serve! xs a said (t .is) (s .answers ∙ ap (λ (z : Board.Board). saidOf z xs) (t .after)))
+    (ap (slotsIn lo (lo + 2 ^ classAt b (st .number)) (st .number) last (serve! ∷ xs))
+    (said-more b serve! xs a said (t .is) (s .answers ∙ ap (λ (z : Board.Board). saidOf z xs) (t .after)))
     ∙ slots-said lo (lo + 2 ^ classAt b (st .number)) (st .number) last b (serve! ∷ xs) tidy seen
-    ∙ Promises.slot-once L b (t .here .run) (st .number) lo serve! xs waiting (subst (λ (k : ℕ). lo + 2 ^ k ≤ play (step b serve! .next) xs .clock) (sym q) reached))
+    ∙ Promises.slot-once L b (t .here .run) (st .number) lo serve! xs waiting
+    (subst (λ (k : ℕ). lo + 2 ^ k ≤ play (step b serve! .next) xs .clock) (sym q) reached))
   where
     b : Board.Board
     b = reads f
@@ -474,12 +515,20 @@ slot-once-from L given st last f g e a lo xs said l d r w h =
     q = class-at given st b tidy (t .lives) (w .still)
 
     reached : lo + 2 ^ classOf (given .share) ≤ play (step b serve! .next) xs .clock
-    reached = subst (λ (n : ℕ). lo + 2 ^ classOf (given .share) ≤ n) (sym (clock-reads e) ∙ ap (λ (z : Board.Board). z .clock) (s .board ∙ ap (λ (z : Board.Board). play z xs) (t .after))) h
+    reached =
+        subst (λ (n : ℕ). lo + 2 ^ classOf (given .share) ≤ n)
+        (sym (clock-reads e) ∙ ap (λ (z : Board.Board). z .clock) (s .board ∙ ap (λ (z : Board.Board). play z xs) (t .after))) h
 
     still : (goesOn st serve! a .taken ≢ goesOn st serve! a .sent) ⊎ ((beginsSlot (st .number) last a ≡ true) × (lo ≤ clockOf a))
         → (1 ≤ length (laneOf (step b serve! .next) (st .number))) ⊎ ((Runs.beginsSlot (st .number) b serve! ≡ true) × (lo ≤ clockOf (answer b serve!)))
-    still (inl ne) = inl (waits-in (goesOn st serve! (answer b serve!)) (step b serve! .next) (t .next .accounted) (subst (λ (z : Answer). goesOn st serve! z .taken ≢ goesOn st serve! z .sent) (t .is) ne) .1)
-    still (inr (u, v)) = inr (sym (begins-said last b serve! (st .number) tidy seen) ∙ ap (beginsSlot (st .number) last) (sym (t .is)) ∙ u, subst (λ (z : Answer). lo ≤ clockOf z) (t .is) v)
+    still (inl ne) =
+        inl (waits-in (goesOn st serve! (answer b serve!)) (step b serve! .next) (t .next .accounted)
+        (subst (λ (z : Answer). goesOn st serve! z .taken ≢ goesOn st serve! z .sent) (t .is) ne) .1)
+    still (inr (u, v)) =
+        inr (
+          sym (begins-said last b serve! (st .number) tidy seen) ∙ ap (beginsSlot (st .number) last) (sym (t .is)) ∙ u,
+          subst (λ (z : Answer). lo ≤ clockOf z) (t .is) v,
+        )
 
     waiting : Promised.WaitsAt (st .number) lo b serve!
     waiting = record {
@@ -496,7 +545,8 @@ pub never-twice-from : (L : ℕ) (given : Opening) (st : Story) (last : Option �
 never-twice-from L given st last f e lo xs said l c r start =
     subst (λ (k : ℕ). slotsIn lo (lo + 2 ^ k) (st .number) last xs said ≤ 1) q
     (subst (λ (n : ℕ). n ≤ 1) (sym count)
-    (Promises.never-twice L b (h .run) (st .number) (p .0) lo xs (has-find b (p .0) (st .number) tidy (p .1 c .0)) (subst (λ (k : ℕ). Start k lo) (sym q) start)))
+    (Promises.never-twice L b (h .run) (st .number) (p .0) lo xs (has-find b (p .0) (st .number) tidy (p .1 c .0))
+    (subst (λ (k : ℕ). Start k lo) (sym q) start)))
   where
     b : Board.Board
     b = reads f
@@ -527,7 +577,8 @@ never-twice-from L given st last f e lo xs said l c r start =
 pub slots-small : SlotsSmall
 slots-small L s e cs told xs said made! r t =
     let h = at-made L s made! in
-    subst (λ (n : ℕ). n ≤ 3 * largestCharge L - 1) (sym (ap (slotBytes t) (along xs (h .good) (r .singles) .answers) ∙ slot-bytes-said t (reads s) xs)) (Promises.slots-small L (reads s) (h .run) t xs)
+    subst (λ (n : ℕ). n ≤ 3 * largestCharge L - 1) (sym (ap (slotBytes t) (along xs (h .good) (r .singles) .answers) ∙ slot-bytes-said t (reads s) xs))
+    (Promises.slots-small L (reads s) (h .run) t xs)
 
 -- ---- no second answer
 
@@ -549,14 +600,21 @@ abbrev hold : struct.Board → List ℕ → List ℕ → Holding
 hold b ids lens = record { board = b; ids = ids; lens = lens }
 
 abbrev left : Holding → Call → Holding
-left s (one x) = cond (isServe x) (hold (serveOf s .reply .board) (serveOf s .ids) (serveOf s .lens)) (hold (replyOf s x .reply .board) (replyOf s x .ids) (replyOf s x .lens))
+left s (one x) =
+    cond (isServe x) (hold (serveOf s .reply .board) (serveOf s .ids) (serveOf s .lens))
+    (hold (replyOf s x .reply .board) (replyOf s x .ids) (replyOf s x .lens))
 left s (burst! bytes list) = hold (burstOf s bytes list .reply .answer .board) (burstOf s bytes list .ids) (burstOf s bytes list .lens)
 
 did-gave : {s m : Holding} {c : Call} {a : Answer} → Did s c a m → (a ≡ gave s c) × (m ≡ left s c)
 unfolding replyOf serveOf burstOf
-did-gave (byReply x e r ids lens p) = rw e (ap (λ (w : Returned Reply). replyTells x (w .reply)) p, ap (λ (w : Returned Reply). hold (w .reply .board) (w .ids) (w .lens)) p)
-did-gave (byServe r ids lens p) = (ap (λ (w : Returned Served). servedTells (w .reply)) p, ap (λ (w : Returned Served). hold (w .reply .board) (w .ids) (w .lens)) p)
-did-gave (byBurst bytes list r list′ ids lens p) = (ap (λ (w : Returned BurstOutcome). burstTells (w .reply .answer)) p, ap (λ (w : Returned BurstOutcome). hold (w .reply .answer .board) (w .ids) (w .lens)) p)
+did-gave (byReply x e r ids lens p) =
+    rw e (ap (λ (w : Returned Reply). replyTells x (w .reply)) p, ap (λ (w : Returned Reply). hold (w .reply .board) (w .ids) (w .lens)) p)
+did-gave (byServe r ids lens p) =
+    (ap (λ (w : Returned Served). servedTells (w .reply)) p, ap (λ (w : Returned Served). hold (w .reply .board) (w .ids) (w .lens)) p)
+did-gave (byBurst bytes list r list′ ids lens p) = (
+  ap (λ (w : Returned BurstOutcome). burstTells (w .reply .answer)) p,
+  ap (λ (w : Returned BurstOutcome). hold (w .reply .answer .board) (w .ids) (w .lens)) p,
+)
 
 allGave : Holding → List Call → List Answer
 allGave s [] = []
@@ -571,8 +629,10 @@ unfolding allGave allLeft
 chain-gave stops = (refl, refl)
 chain-gave (goes {cs = cs} d rest) =
     let w = did-gave d in
-    let r = chain-gave rest in
-    (ap₂ (λ (x : Answer) (xs : List Answer). x ∷ xs) (w .0) (r .0 ∙ ap (λ (m : Holding). allGave m cs) (w .1)), r .1 ∙ ap (λ (m : Holding). allLeft m cs) (w .1))
+    let r = chain-gave rest in (
+      ap₂ (λ (x : Answer) (xs : List Answer). x ∷ xs) (w .0) (r .0 ∙ ap (λ (m : Holding). allGave m cs) (w .1)),
+      r .1 ∙ ap (λ (m : Holding). allLeft m cs) (w .1),
+    )
 
 pub only-one : OnlyOne
 only-one s e e′ cs told told′ c c′ = let w = chain-gave c in let w′ = chain-gave c′ in (w .0 ∙ sym (w′ .0), w .1 ∙ sym (w′ .1))
@@ -580,7 +640,9 @@ only-one s e e′ cs told told′ c c′ = let w = chain-gave c in let w′ = ch
 -- ---- no promise is empty
 
 did-reply : (s : Holding) (x : Single) → isServe x ≡ false → (a : Answer) × (m : Holding) × Did s (one x) a m
-did-reply s x e = let w = called (s .board) (s .ids) (s .lens) x in (replyTells x (w .reply), hold (w .reply .board) (w .ids) (w .lens), byReply x e (w .reply) (w .ids) (w .lens) refl)
+did-reply s x e =
+    let w = called (s .board) (s .ids) (s .lens) x in
+    (replyTells x (w .reply), hold (w .reply .board) (w .ids) (w .lens), byReply x e (w .reply) (w .ids) (w .lens) refl)
 
 -- each call can be made of any value
 pub has-did : (s : Holding) (c : Call) → (a : Answer) × (m : Holding) × Did s c a m
@@ -588,10 +650,15 @@ has-did s (one (open! o)) = did-reply s (open! o) refl
 has-did s (one (rename! old new)) = did-reply s (rename! old new) refl
 has-did s (one (close! n)) = did-reply s (close! n) refl
 has-did s (one (record! n r)) = did-reply s (record! n r) refl
-has-did s (one serve!) = let w = calledServe (s .board) (s .ids) (s .lens) in (servedTells (w .reply), hold (w .reply .board) (w .ids) (w .lens), byServe (w .reply) (w .ids) (w .lens) refl)
+has-did s (one serve!) =
+    let w = calledServe (s .board) (s .ids) (s .lens) in
+    (servedTells (w .reply), hold (w .reply .board) (w .ids) (w .lens), byServe (w .reply) (w .ids) (w .lens) refl)
 has-did s (burst! bytes list) =
-    let w = calledBurst (s .board) (s .ids) (s .lens) bytes list in
-    (burstTells (w .reply .answer), hold (w .reply .answer .board) (w .ids) (w .lens), byBurst bytes list (w .reply .answer) (w .reply .list) (w .ids) (w .lens) refl)
+    let w = calledBurst (s .board) (s .ids) (s .lens) bytes list in (
+      burstTells (w .reply .answer),
+      hold (w .reply .answer .board) (w .ids) (w .lens),
+      byBurst bytes list (w .reply .answer) (w .reply .list) (w .ids) (w .lens) refl,
+    )
 
 pub chain-of : (s : Holding) (cs : List Call) → (told : List Answer) × (e : Holding) × Chain s cs told e
 chain-of s [] = ([], s, stops)
@@ -602,7 +669,14 @@ unfolding made make
 made-done ids lens L e f low high = rw (e, f, leb-yes 64 L low, leb-yes L 2048 high)
 
 pub has-chain : HasChain
-has-chain L range cs = (s, c .0, c .1, record { reply = w .reply; ids = zeros; lens = zeros; promise = refl; done = made-done zeros zeros L all all (range .low) (range .high); board = refl }, c .2)
+has-chain L range cs = (
+  s,
+  c .0,
+  c .1,
+  record
+      { reply = w .reply; ids = zeros; lens = zeros; promise = refl; done = made-done zeros zeros L all all (range .low) (range .high); board = refl },
+  c .2,
+)
   where
     zeros : List ℕ
     zeros = replicate 2048 0

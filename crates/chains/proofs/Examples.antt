@@ -49,7 +49,8 @@ answers-said b (x ∷ xs) = ap (λ (r : List Answer). answer b x ∷ r) (answers
 
 -- Every chain of its thirteen calls gives these answers.
 pub worked-chain : (s e : Holding) (told : List Answer) → Made 100 s → Chain s (map one worked) told e
-    → told ≡ gives 0 ∷ gives 0 ∷ took ∷ took ∷ took ∷ took ∷ took ∷ out 11 1 100 2 ∷ out 11 2 60 4 ∷ out 12 3 100 5 ∷ out 12 4 100 8 ∷ out 12 5 100 8 ∷ gives 1 ∷ []
+    → told ≡ gives 0 ∷ gives 0 ∷ took ∷ took ∷ took ∷ took ∷ took ∷ out 11 1 100 2 ∷ out 11 2 60 4 ∷ out 12 3 100 5 ∷ out 12 4 100 8 ∷ out 12 5 100 8 ∷ gives 1
+    ∷ []
 worked-chain s e told made! c =
     along worked (at-made 100 s made! .good) c .answers
     ∙ answers-said (reads s) worked
@@ -65,7 +66,8 @@ withBurst = map one (take 7 worked) ++ (burst! 1000 (0 ∷ 0 ∷ 0 ∷ 0 ∷ 0 �
 -- with L 100: of the first burst's four records the third is block 12's; both blocks are renamed, block 11 to 12; the second burst sends a record of
 -- that one, and then the two that block 12 still has, under 13
 abbrev filling : List Single
-filling = open! (opening 11 32768) ∷ open! (opening 12 24576) ∷ record! 11 (rec 1 100) ∷ record! 11 (rec 2 100) ∷ record! 11 (rec 3 100) ∷ record! 11 (rec 4 100)
+filling =
+    open! (opening 11 32768) ∷ open! (opening 12 24576) ∷ record! 11 (rec 1 100) ∷ record! 11 (rec 2 100) ∷ record! 11 (rec 3 100) ∷ record! 11 (rec 4 100)
     ∷ record! 12 (rec 5 100) ∷ record! 12 (rec 6 100) ∷ record! 12 (rec 7 100) ∷ []
 
 abbrev renaming : List Single
@@ -326,7 +328,8 @@ not11 e = omega arith
 
 computed : Computed
 unfolding worked tight filled waiting renames answersOf Runs.row saidOf story lastSlot Unsent NotSpent slotsIn bytesIn servesIn runs play Start burst least
-    nextStart classOf framing charged largestCharge creditOf sum below charge ringEntry ringOn laneDepth laneFirst entry onward someWait anyDue spent fresh whereIs upd takenIn
+    nextStart classOf framing charged largestCharge creditOf sum below charge ringEntry ringOn laneDepth laneFirst entry onward someWait anyDue spent fresh
+    whereIs upd takenIn
     takeRecord release leastReady settle ended sendFrom send lowest begin serveBy serve freeAt openBlock renameBlock quiet step
 computed = record {
   workedBurst = refl;
@@ -428,7 +431,8 @@ passed-tightly = met 64 lastInBurst tightest range64 (computed .tightParts) (Pas
 -- ---- a block renamed while it is queued, while its slot is open, and again: each record left under the number of that moment, one still waits
 
 pub renamed : (last : Option ℕ) × (e : Holding)
-    × Life 64 (opening 1 32768) (record { number = 4; taken = rec 1 40 ∷ rec 2 20 ∷ rec 3 64 ∷ rec 4 9 ∷ []; sent = rec 1 40 ∷ rec 2 20 ∷ rec 3 64 ∷ []; closed = false }) last e
+    × Life 64 (opening 1 32768)
+    (record { number = 4; taken = rec 1 40 ∷ rec 2 20 ∷ rec 3 64 ∷ rec 4 9 ∷ []; sent = rec 1 40 ∷ rec 2 20 ∷ rec 3 64 ∷ []; closed = false }) last e
 unfolding runs
 renamed =
     let l = has-life 64 range64 [] (opening 1 32768) burstEach (computed .opensOne) in

@@ -11,7 +11,8 @@ use Rattle.base.proofs.Numbers.{eqb-true, eqb-no}
 use Rattle.rules.specs.Board
 use Rattle.rules.specs.Board.{Record, fresh}
 use Rattle.rules.specs.Burst.{burst}
-use Rattle.rules.specs.Calls.{Single, serve!, one, burst!, Answer, gives, takes, sends, bursts, codeOf, Entries, kept, Outcome, wrongTables, makeBy, done!, call, make}
+use Rattle.rules.specs.Calls.{Single, serve!, one, burst!, Answer, gives, takes, sends, bursts, codeOf, Entries, kept, Outcome, wrongTables, makeBy, done! }
+use Rattle.rules.specs.Calls.{call, make}
 use Rattle.rules.specs.Runs
 use Rattle.rules.specs.Runs.{play, recordsIn}
 use Rattle.rules.specs.Promises.{KeepsAll, serves}
@@ -45,9 +46,11 @@ pub serve-tables : (b : struct.Board) (ids lens : List ℕ) → (calledServe b i
 unfolding calledServe
 serve-tables b ids lens = (ap (λ (e : Entries). idsAfter e ids) (serve-keeps b ids lens), ap (λ (e : Entries). lensAfter e lens) (serve-keeps b ids lens))
 
-burst-tables : (b : struct.Board) (ids lens : List ℕ) (bytes : ℕ) (list : List ℕ) → (calledBurst b ids lens bytes list .ids ≡ ids) × (calledBurst b ids lens bytes list .lens ≡ lens)
+burst-tables : (b : struct.Board) (ids lens : List ℕ) (bytes : ℕ) (list : List ℕ)
+    → (calledBurst b ids lens bytes list .ids ≡ ids) × (calledBurst b ids lens bytes list .lens ≡ lens)
 unfolding calledBurst
-burst-tables b ids lens bytes list = (ap (λ (e : Entries). idsAfter e ids) (burst-keeps b ids lens bytes list), ap (λ (e : Entries). lensAfter e lens) (burst-keeps b ids lens bytes list))
+burst-tables b ids lens bytes list =
+    (ap (λ (e : Entries). idsAfter e ids) (burst-keeps b ids lens bytes list), ap (λ (e : Entries). lensAfter e lens) (burst-keeps b ids lens bytes list))
 
 -- ---- a single call
 
@@ -75,7 +78,8 @@ reply-code x r = go (isRecord x) (eqb (r .code) 0) refl
 served-code : (r : Served) → codeOf (servedTells r) ≡ r .code
 served-code r = go (eqb (r .code) 0) refl
   where
-    go : (t : Bool) → eqb (r .code) 0 ≡ t → codeOf (cond t (sends (record { block = r .block; number = r .number; bytes = r .length; clock = r .clock })) (gives (r .code))) ≡ r .code
+    go : (t : Bool) → eqb (r .code) 0 ≡ t
+        → codeOf (cond t (sends (record { block = r .block; number = r .number; bytes = r .length; clock = r .clock })) (gives (r .code))) ≡ r .code
     go true e = sym (eqb-true (r .code) 0 e)
     go false e = refl
 
@@ -85,12 +89,14 @@ refused-single s m x a (byReply y e r ids lens p) n =
     let o = call (lent (s .board) (s .ids) (s .lens)) (one y) in
     let no0 : codeOf (o .answer) ≢ 0 = λ z. n (reply-code y r ∙ ap (λ (w : Returned Reply). w .reply .code) p ∙ z) in
     let w = refused-written (s .board) (s .ids) (s .lens) y o no0 (Promises.refusal-keeps-all (lent (s .board) (s .ids) (s .lens)) y no0) in
-    hold-same (ap (λ (v : Returned Reply). v .reply .board) p ∙ w .0) (ap (λ (v : Returned Reply). v .ids) p ∙ w .1) (ap (λ (v : Returned Reply). v .lens) p ∙ w .2)
+    hold-same (ap (λ (v : Returned Reply). v .reply .board) p ∙ w .0) (ap (λ (v : Returned Reply). v .ids) p ∙ w .1)
+    (ap (λ (v : Returned Reply). v .lens) p ∙ w .2)
 refused-single s m x a (byServe r ids lens p) n =
     let b = s .board in
     let o = call (lent b (s .ids) (s .lens)) (one serve!) in
     let t = serve-tables b (s .ids) (s .lens) in
-    let no0 : codeOf (o .answer) ≢ 0 = λ z. n (served-code r ∙ ap (λ (w : Returned Served). w .reply .code) p ∙ code-by b (o .answer) (boardOr (view b (s .ids) (s .lens)) (o .board)) z) in
+    let no0 : codeOf (o .answer) ≢ 0 =
+    λ z. n (served-code r ∙ ap (λ (w : Returned Served). w .reply .code) p ∙ code-by b (o .answer) (boardOr (view b (s .ids) (s .lens)) (o .board)) z) in
     let k = Promises.refusal-keeps-all (lent b (s .ids) (s .lens)) serve! no0 in
     hold-same
     (ap (λ (v : Returned Served). v .reply .board) p ∙ ap (λ (a : Answer). servedBy b a (boardOr (view b (s .ids) (s .lens)) (o .board)) .board) (k .alone))
@@ -153,7 +159,8 @@ refused-burst s bytes list r list′ ids lens p c = (
     t : (given .ids ≡ s .ids) × (given .lens ≡ s .lens)
     t = burst-tables (s .board) (s .ids) (s .lens) bytes list
 
-    moved : (r .code ≡ 3) ⊎ ((r .code ≡ 2) ⊎ (r .count ≡ 0)) → (given .reply .answer .code ≡ 3) ⊎ ((given .reply .answer .code ≡ 2) ⊎ (given .reply .answer .count ≡ 0))
+    moved : (r .code ≡ 3) ⊎ ((r .code ≡ 2) ⊎ (r .count ≡ 0))
+        → (given .reply .answer .code ≡ 3) ⊎ ((given .reply .answer .code ≡ 2) ⊎ (given .reply .answer .count ≡ 0))
     moved (inl z) = inl (ap (λ (w : Returned BurstOutcome). w .reply .answer .code) (sym p) ∙ z)
     moved (inr (inl z)) = inr (inl (ap (λ (w : Returned BurstOutcome). w .reply .answer .code) (sym p) ∙ z))
     moved (inr (inr z)) = inr (inr (ap (λ (w : Returned BurstOutcome). w .reply .answer .count) (sym p) ∙ z))
@@ -176,7 +183,8 @@ refused-making L ids lens r ids′ lens′ p n =
       λ is ls sound. refused-spoilt ids lens L no0 is ls (subst (λ (b : struct.Board). Sound b is ls) board sound),
     )
   where
-    go : (t u : Bool) → (let w = written (encode (fresh 0)) ids lens (makeBy t u L) in w .reply .code ≢ 0 → (w .ids ≡ ids) × (w .lens ≡ lens) × (w .reply .board ≡ encode (fresh 0)))
+    go : (t u : Bool) → (let w = written (encode (fresh 0)) ids lens (makeBy t u L) in w .reply .code ≢ 0
+        → (w .ids ≡ ids) × (w .lens ≡ lens) × (w .reply .board ≡ encode (fresh 0)))
     go true u z = (refl, refl, refl)
     go false true z = (refl, refl, refl)
     go false false z = absurd (z refl)

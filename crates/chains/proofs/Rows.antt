@@ -23,7 +23,8 @@ use Rattle.board.specs.Leaving.{Returned, returned}
 use Rattle.calls.specs.Contract.{BurstOutcome, burstNow, goodBurst, calledServe, calledBurst}
 use Rattle.calls.proofs.Calling
 use Rattle.chains.specs.Chains.{Holding, servedTells, burstTells, Did, byReply, byServe, byBurst, Chain, stops, goes, Made, answersOf}
-use Rattle.chains.specs.Demands.{reads, bytesOf, bytesIn, slotBytes, NotSpent, Unsent, story, Spelt, over, single, asServes, Row, BurstIs, KnownHolding, Agrees}
+use Rattle.chains.specs.Demands.{reads, bytesOf, bytesIn, slotBytes, NotSpent, Unsent, story, Spelt, over, single, asServes, Row, BurstIs, KnownHolding}
+use Rattle.chains.specs.Demands.{Agrees}
 use Rattle.chains.proofs.Refusals.{serve-tables}
 use Rattle.chains.proofs.Chains.{did-agrees, chain-from, chain-is-run, chain-of-run}
 
@@ -53,7 +54,14 @@ at-tidy L e h = fit-view (e .board) (e .ids) (e .lens) (h .good .sound) .tidy
 pub at-on : (L : ℕ) {s e : Holding} {cs : List Call} {told : List Answer} → At L s → Chain s cs told e → At L e
 at-on L {s = s} {e = e} {cs = cs} {told = told′} h c = record {
   good = t .0;
-  run = record { size = h .run .size; calls = h .run .calls ++ row (reads s) cs; is = t .1 ∙ run-is-row (reads s) cs ∙ ap (λ (b : Board.Board). play b (row (reads s) cs)) (h .run .is) ∙ play-join (fresh L) (h .run .calls) (row (reads s) cs) };
+  run =
+      record {
+        size = h .run .size;
+        calls = h .run .calls ++ row (reads s) cs;
+        is =
+            t .1 ∙ run-is-row (reads s) cs ∙ ap (λ (b : Board.Board). play b (row (reads s) cs)) (h .run .is)
+            ∙ play-join (fresh L) (h .run .calls) (row (reads s) cs);
+      };
 }
   where
     t : KnownHolding e × (reads e ≡ runs (reads s) cs) × (told′ ≡ answersOf (reads s) cs)
@@ -169,7 +177,9 @@ all-send (suc n) b e =
       said = ap₂ (λ (x : Answer) (xs : List Answer). x ∷ xs) (m .1) (t .said);
       count = ap suc (t .count);
       bytes = ap₂ (λ (i j : ℕ). i + j) (sym (ap Runs.bytesOf (m .1))) (t .bytes);
-      numbers = ap (λ (ns : List ℕ). m .0 .number ∷ ns) (t .numbers) ∙ ap (λ (a : Answer). map (λ (x : Board.Record). x .number) (recordOf a ++ recordsIn nb (serves n))) (sym (m .1));
+      numbers =
+          ap (λ (ns : List ℕ). m .0 .number ∷ ns) (t .numbers)
+          ∙ ap (λ (a : Answer). map (λ (x : Board.Record). x .number) (recordOf a ++ recordsIn nb (serves n))) (sym (m .1));
     }
 
 -- single serving calls can follow any holding, and change no table
@@ -199,10 +209,15 @@ pub burst-is : (m : Holding) (bytes : ℕ) (list : List ℕ) (r : Bursted) (list
 unfolding goodBurst
 burst-is m bytes list r list′ ids lens k p = record {
   sent = t .out;
-  serving = subst (λ (n : ℕ). Chain m (map one (serves n)) (map sends (t .out)) g) (sym (t .count)) (subst (λ (told : List Answer). Chain m (map one (serves (B .count))) told g) (a .answers ∙ t .said) (subst (λ (e : Holding). Chain m (map one (serves (B .count))) (u .said) e) same (u .chain)));
+  serving =
+      subst (λ (n : ℕ). Chain m (map one (serves n)) (map sends (t .out)) g) (sym (t .count))
+      (subst (λ (told : List Answer). Chain m (map one (serves (B .count))) told g) (a .answers ∙ t .said)
+      (subst (λ (e : Holding). Chain m (map one (serves (B .count))) (u .said) e) same (u .chain)));
   count = t .count ∙ sym (ap (λ (w : Returned BurstOutcome). w .reply .answer .count) q);
   bytes = t .bytes ∙ sym (i .total) ∙ sym (ap (λ (w : Returned BurstOutcome). w .reply .answer .bytes .0) q);
-  numbers = ap (λ (w : Returned BurstOutcome). w .reply .list) q ∙ ap (λ (ns : List ℕ). ns ++ drop (length ns) list) (i .numbers ∙ sym (t .numbers)) ∙ ap (λ (n : ℕ). map (λ (s : Sent). s .number) (t .out) ++ drop n list) (length-map (t .out) (λ (s : Sent). s .number));
+  numbers =
+      ap (λ (w : Returned BurstOutcome). w .reply .list) q ∙ ap (λ (ns : List ℕ). ns ++ drop (length ns) list) (i .numbers ∙ sym (t .numbers))
+      ∙ ap (λ (n : ℕ). map (λ (s : Sent). s .number) (t .out) ++ drop n list) (length-map (t .out) (λ (s : Sent). s .number));
 }
   where
     B : Burst
@@ -233,24 +248,35 @@ burst-is m bytes list r list′ ids lens k p = record {
     a = along (serves (B .count)) k (u .chain)
 
     same : u .end ≡ g
-    same = λ j. record { board = one! j; ids = (u .ids ∙ sym (ap (λ (w : Returned BurstOutcome). w .ids) q)) j; lens = (u .lens ∙ sym (ap (λ (w : Returned BurstOutcome). w .lens) q)) j }
+    same =
+        λ j. record {
+          board = one! j;
+          ids = (u .ids ∙ sym (ap (λ (w : Returned BurstOutcome). w .ids) q)) j;
+          lens =
+              (u .lens ∙ sym (ap (λ (w : Returned BurstOutcome). w .lens) q)) j;
+        }
       where
         one! : u .end .board ≡ r .board
-        one! = sound-one (u .end .board) (r .board) (u .end .ids) (u .end .lens) ids lens (chain-from k (u .chain) .0 .sound) (d .good .sound) (a .board ∙ sym (i .next) ∙ sym (d .after))
+        one! =
+            sound-one (u .end .board) (r .board) (u .end .ids) (u .end .lens) ids lens (chain-from k (u .chain) .0 .sound) (d .good .sound)
+            (a .board ∙ sym (i .next) ∙ sym (d .after))
 
 -- ---- every chain has its row
 
-pub chain-join : {s m e : Holding} {cs cs′ : List Call} {told told′ : List Answer} → Chain s cs told m → Chain m cs′ told′ e → Chain s (cs ++ cs′) (told ++ told′) e
+pub chain-join : {s m e : Holding} {cs cs′ : List Call} {told told′ : List Answer} → Chain s cs told m → Chain m cs′ told′ e
+    → Chain s (cs ++ cs′) (told ++ told′) e
 chain-join stops c = c
 chain-join (goes d rest) c = goes d (chain-join rest c)
 
 abbrev SomeRow : Holding → List Call → List Answer → Holding → Type 0
 SomeRow s cs told e = (xs : List Single) × (said : List Answer) × Row s cs told xs said e
 
-row-single : {s m e : Holding} {a : Answer} {cs : List Call} {told : List Answer} (x : Single) → Did s (one x) a m → SomeRow m cs told e → SomeRow s (one x ∷ cs) (a ∷ told) e
+row-single : {s m e : Holding} {a : Answer} {cs : List Call} {told : List Answer} (x : Single) → Did s (one x) a m → SomeRow m cs told e
+    → SomeRow s (one x ∷ cs) (a ∷ told) e
 row-single {a = a} x d (xs, said, r) = (x ∷ xs, a ∷ said, record { chain = goes d (r .chain); spelt = single x a (r .spelt); singles = goes d (r .singles) })
 
-row-step : {s m e : Holding} {c : Call} {a : Answer} {cs : List Call} {told : List Answer} → KnownHolding s → Did s c a m → SomeRow m cs told e → SomeRow s (c ∷ cs) (a ∷ told) e
+row-step : {s m e : Holding} {c : Call} {a : Answer} {cs : List Call} {told : List Answer} → KnownHolding s → Did s c a m → SomeRow m cs told e
+    → SomeRow s (c ∷ cs) (a ∷ told) e
 row-step k (byReply x n r ids lens p) w = row-single x (byReply x n r ids lens p) w
 row-step k (byServe r ids lens p) w = row-single serve! (byServe r ids lens p) w
 row-step {s = s} {e = e} k (byBurst bytes list r list′ ids lens p) (xs, said, w) =
@@ -260,7 +286,9 @@ row-step {s = s} {e = e} k (byBurst bytes list r list′ ids lens p) (xs, said, 
       record {
         chain = goes (byBurst bytes list r list′ ids lens p) (w .chain);
         spelt = asServes bytes list r (i .sent) (i .count) (i .bytes) (w .spelt);
-        singles = subst (λ (cs : List Call). Chain s cs (map sends (i .sent) ++ said) e) (sym (map-join one (serves (length (i .sent))) xs)) (chain-join (i .serving) (w .singles));
+        singles =
+            subst (λ (cs : List Call). Chain s cs (map sends (i .sent) ++ said) e) (sym (map-join one (serves (length (i .sent))) xs))
+            (chain-join (i .serving) (w .singles));
       },
     )
 

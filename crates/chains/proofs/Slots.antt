@@ -52,7 +52,10 @@ seen-sent : (b : Board.Board) (p : ℕ) → b .slot ≡ some p → Seen (some (b
 unfolding sendFrom ended
 seen-sent b p e = go (leb (length (at b p .lane)) 1) (ltb (leftAfter (at b p)) (charge (getD (drop 1 (at b p .lane)) 0 noRecord) * 65536))
   where
-    go : (t u : Bool) → Seen (some (b .clock)) (cond t (ended b p (emptied (at b p)) (b .orders)) (cond u (ended b p (short (b .clock) (at b p)) (upd (b .orders) (blockClass (at b p)) (b .orders (blockClass (at b p)) ++ (p ∷ [])))) (goOn b p (going (at b p)))))
+    go : (t u : Bool) → Seen (some (b .clock))
+        (cond t (ended b p (emptied (at b p)) (b .orders))
+        (cond u (ended b p (short (b .clock) (at b p)) (upd (b .orders) (blockClass (at b p)) (b .orders (blockClass (at b p)) ++ (p ∷ []))))
+        (goOn b p (going (at b p)))))
     go true u = omega arith
     go false true = omega arith
     go false false = subst (SeenBy (some (b .clock)) (b .clock)) (sym e) refl
@@ -78,10 +81,19 @@ sees last b g s = call-cases b g (λ x t. Sees last b t) (record {
   renames = λ p old new c. record { after = s; begins = λ n. nothing (isNew last 0) (isNone (b .slot)) };
   closes = λ p n c. record { after = s; begins = λ n. nothing (isNew last 0) (isNone (b .slot)) };
   takes = λ p n r c. record { after = took p r; begins = λ n. nothing (isNew last 0) (isNone (b .slot)) };
-  goesOn = λ p c. record { after = seen-sent b p (c .slot); begins = λ n. ap (λ (u : Bool). u && eqb n (at b p .number)) (new-same last (b .clock) (subst (SeenBy last (b .clock)) (c .slot) s)) ∙ ap (λ (o : Option ℕ). isNone o && eqb n (at b p .number)) (sym (c .slot)) };
+  goesOn =
+      λ p c. record {
+        after = seen-sent b p (c .slot);
+        begins =
+            λ n. ap (λ (u : Bool). u && eqb n (at b p .number)) (new-same last (b .clock) (subst (SeenBy last (b .clock)) (c .slot) s))
+            ∙ ap (λ (o : Option ℕ). isNone o && eqb n (at b p .number)) (sym (c .slot));
+      };
   begins = λ r t p c e. record {
     after = seen-sent (begin b t) p (begin-slot b t ∙ ap some (sym e));
-    begins = λ n. ap (λ (u : Bool). u && eqb n (at b p .number)) (new-later last (b .clock) (begin b t .clock) (subst (SeenBy last (b .clock)) (c .slot) s) (omega (arith, begin-clock b t, c .time))) ∙ ap (λ (o : Option ℕ). isNone o && eqb n (at b p .number)) (sym (c .slot));
+    begins =
+        λ n. ap (λ (u : Bool). u && eqb n (at b p .number))
+        (new-later last (b .clock) (begin b t .clock) (subst (SeenBy last (b .clock)) (c .slot) s) (omega (arith, begin-clock b t, c .time)))
+        ∙ ap (λ (o : Option ℕ). isNone o && eqb n (at b p .number)) (sym (c .slot));
   };
 })
   where
@@ -109,9 +121,11 @@ seen-step last b x g s = sees last b g s x .after
 pub begins-said : (last : Option ℕ) (b : Board.Board) (x : Single) (n : ℕ) → Tidy b → Seen last b → beginsSlot n last (answer b x) ≡ Runs.beginsSlot n b x
 begins-said last b x n g s = sees last b g s x .begins n
 
-pub slots-said : (lo hi n : ℕ) (last : Option ℕ) (b : Board.Board) (xs : List Single) → Tidy b → Seen last b → slotsIn lo hi n last xs (saidOf b xs) ≡ Runs.slotsIn lo hi n b xs
+pub slots-said : (lo hi n : ℕ) (last : Option ℕ) (b : Board.Board) (xs : List Single) → Tidy b → Seen last b
+    → slotsIn lo hi n last xs (saidOf b xs) ≡ Runs.slotsIn lo hi n b xs
 unfolding slotsIn Runs.slotsIn saidOf
 slots-said lo hi n last b [] g s = refl
 slots-said lo hi n last b (x ∷ xs) g s =
-    ap₂ (λ (t : Bool) (m : ℕ). oneIf (t && leb lo (clockOf (answer b x)) && ltb (clockOf (answer b x)) hi) + cond (closes n x (answer b x)) 0 m) (begins-said last b x n g s)
+    ap₂ (λ (t : Bool) (m : ℕ). oneIf (t && leb lo (clockOf (answer b x)) && ltb (clockOf (answer b x)) hi) + cond (closes n x (answer b x)) 0 m)
+    (begins-said last b x n g s)
     (slots-said lo hi (numberAfter n x (answer b x)) (slotAfter last (answer b x)) (step b x .next) xs (tidy-step b x g) (seen-step last b x g s))

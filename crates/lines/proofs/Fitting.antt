@@ -5,7 +5,8 @@ use native.Mathlib.Omega.{arith}
 use lib.Dec.{lit≤}
 use lib.ListN.{length, length-append}
 use Rattle.lines.specs.Text.{decimal, columns, lineOf}
-use Rattle.lines.specs.Listing.{openWord, closeWord, nameWord, inWord, outWord, refusedWord, endWord, brokenWord, longWord, openLine, closeLine, nameLine, inLine, outLine, refusedLine, endLine, brokenLine, longLine}
+use Rattle.lines.specs.Listing.{openWord, closeWord, nameWord, inWord, outWord, refusedWord, endWord, brokenWord, longWord, openLine, closeLine, nameLine}
+use Rattle.lines.specs.Listing.{inLine, outLine, refusedLine, endLine, brokenLine, longLine}
 use Rattle.lines.specs.Laws.{OpenFits, CloseFits, NameFits, InFits, OutFits, RefusedFits, EndFits, BrokenFits, LongFits}
 use Rattle.lines.proofs.Texts.{decimal-length, line-length}
 
@@ -49,7 +50,8 @@ in-fits number code h0 h1 = fits inWord (9 ∷ 2 ∷ []) (number ∷ code ∷ []
 
 pub out-fits : OutFits
 unfolding outLine
-out-fits block number len clock h0 h1 h2 h3 = fits outWord (9 ∷ 9 ∷ 4 ∷ 19 ∷ []) (block ∷ number ∷ len ∷ clock ∷ []) (omega arith, (omega arith, (omega arith, (omega arith, tt)))) (lit≤ tt)
+out-fits block number len clock h0 h1 h2 h3 =
+    fits outWord (9 ∷ 9 ∷ 4 ∷ 19 ∷ []) (block ∷ number ∷ len ∷ clock ∷ []) (omega arith, (omega arith, (omega arith, (omega arith, tt)))) (lit≤ tt)
 
 pub refused-fits : RefusedFits
 unfolding refusedLine

@@ -57,7 +57,9 @@ unfolding numberOn
 zero-value n e = sym (decimal-value n) ∙ ap numberOf e
 
 pub decimal-plain : DecimalPlain
-decimal-plain n = by-digits (λ m. Plain (decimal m)) one (λ m h r. rw (decimal-more m h) (plain-then (decimal (m / 10)) (48 + m % 10) r (λ e. omega (arith, zero-value (m / 10) e)))) (suc n) n (omega arith)
+decimal-plain n =
+    by-digits (λ m. Plain (decimal m)) one
+    (λ m h r. rw (decimal-more m h) (plain-then (decimal (m / 10)) (48 + m % 10) r (λ e. omega (arith, zero-value (m / 10) e)))) (suc n) n (omega arith)
   where
     first : (m : ℕ) → m < 10 → Plain ((48 + m % 10) ∷ [])
     first zero h = inr (refl, refl)
@@ -81,7 +83,9 @@ decimal-on (d ∷ ds) a p h =
 pub plain-decimal : PlainDecimal
 unfolding numberOn
 plain-decimal [] h p = absurd p
-plain-decimal (d ∷ ds) h (inl l) = decimal-on ds (0 * 10 + (d - 48)) (omega arith) (h .1) ∙ ap (λ (x : List ℕ). x ++ ds) (decimal-one (0 * 10 + (d - 48)) (omega (arith, h .0)) ∙ ap (λ (x : ℕ). x ∷ []) (omega (arith, h .0)))
+plain-decimal (d ∷ ds) h (inl l) =
+    decimal-on ds (0 * 10 + (d - 48)) (omega arith) (h .1)
+    ∙ ap (λ (x : List ℕ). x ++ ds) (decimal-one (0 * 10 + (d - 48)) (omega (arith, h .0)) ∙ ap (λ (x : ℕ). x ∷ []) (omega (arith, h .0)))
 plain-decimal (d ∷ ds) h (inr z) = rw (z .0, z .1) (decimal-one 0 (lit< tt))
 
 -- ---- a line tells its numbers, and where the next line begins
@@ -115,8 +119,11 @@ columns-tell [] (m ∷ ms) r q e = absurd (let z : _≡_ {A = ℕ} 10 32 = cc in
 columns-tell (n ∷ ns) [] r q e = absurd (let z : _≡_ {A = ℕ} 32 10 = cc in omega arith)
 columns-tell (n ∷ ns) (m ∷ ms) r q e =
     let t : (decimal n ++ columns ns) ++ (10 ∷ r) ≡ (decimal m ++ columns ms) ++ (10 ∷ q) = cc in
-    let u : decimal n ++ (columns ns ++ (10 ∷ r)) ≡ decimal m ++ (columns ms ++ (10 ∷ q)) = sym (append-assoc (decimal n) (columns ns) (10 ∷ r)) ∙ t ∙ append-assoc (decimal m) (columns ms) (10 ∷ q) in
-    let w = digits-end (decimal n) (decimal m) (columns ns ++ (10 ∷ r)) (columns ms ++ (10 ∷ q)) (decimal-digits n) (decimal-digits m) (columns-parted ns r) (columns-parted ms q) u in
+    let u : decimal n ++ (columns ns ++ (10 ∷ r)) ≡ decimal m ++ (columns ms ++ (10 ∷ q)) =
+    sym (append-assoc (decimal n) (columns ns) (10 ∷ r)) ∙ t ∙ append-assoc (decimal m) (columns ms) (10 ∷ q) in
+    let w =
+    digits-end (decimal n) (decimal m) (columns ns ++ (10 ∷ r)) (columns ms ++ (10 ∷ q)) (decimal-digits n) (decimal-digits m) (columns-parted ns r)
+    (columns-parted ms q) u in
     let v = columns-tell ns ms r q (w .1) in
     (ap₂ (λ (k : ℕ) (l : List ℕ). k ∷ l) (decimal-inj n m (w .0)) (v .0), v .1)
 

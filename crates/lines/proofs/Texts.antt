@@ -32,7 +32,8 @@ then {l} {m} {r} {at} {p} {q} xs ys a b = record {
 pub from-front : (l text m : List ℕ) (n : ℕ) → length text ≤ length l → Written l 0 text n m → Line l text n m
 from-front l text m n h w =
     let k : length text ≡ n = sym (w .ends ∙ omega arith) in
-    let split : m ≡ text ++ drop (length text) l = w .list ∙ sets-eq text l 0 (rw (zero-add (length text)) h) ∙ ap (λ (i : ℕ). text ++ drop i l) (zero-add (length text)) in
+    let split : m ≡ text ++ drop (length text) l =
+    w .list ∙ sets-eq text l 0 (rw (zero-add (length text)) h) ∙ ap (λ (i : ℕ). text ++ drop i l) (zero-add (length text)) in
     record {
       counts = sym k;
       text = ap (take n) split ∙ take-at text (drop (length text) l) n k;
@@ -86,7 +87,8 @@ pub text-more : (l m text : List ℕ) (at i : ℕ) → i < length text → m ≡
 text-more l m text at i h e =
     let k : length (take i text) ≡ i = length-take-le i text (omega arith) in
     rw (add-one i, take-suc text i 0 h)
-    (ap (λ (x : List ℕ). set x (at + i) (getD text i 0)) e ∙ ap (λ (n : ℕ). set (sets l at (take i text)) (at + n) (getD text i 0)) (sym k) ∙ sets-append (take i text) (getD text i 0 ∷ []) l at)
+    (ap (λ (x : List ℕ). set x (at + i) (getD text i 0)) e ∙ ap (λ (n : ℕ). set (sets l at (take i text)) (at + n) (getD text i 0)) (sym k)
+    ∙ sets-append (take i text) (getD text i 0 ∷ []) l at)
 
 pub text-all : (l m text : List ℕ) (at i : ℕ) → i ≡ length text → m ≡ sets l at (take i text) → Written l at text (at + i) m
 text-all l m text at i h e = record {
@@ -99,25 +101,35 @@ text-all l m text at i h e = record {
 columns-append : (xs ys : List ℕ) → columns (xs ++ ys) ≡ columns xs ++ columns ys
 unfolding columns
 columns-append [] ys = refl
-columns-append (x ∷ xs) ys = ap (λ (l : List ℕ). 32 ∷ (decimal x ++ l)) (columns-append xs ys) ∙ ap (λ (l : List ℕ). 32 ∷ l) (sym (append-assoc (decimal x) (columns xs) (columns ys)))
+columns-append (x ∷ xs) ys =
+    ap (λ (l : List ℕ). 32 ∷ (decimal x ++ l)) (columns-append xs ys) ∙ ap (λ (l : List ℕ). 32 ∷ l) (sym (append-assoc (decimal x) (columns xs) (columns ys)))
 
 column : (n : ℕ) → columns (n ∷ []) ≡ 32 ∷ decimal n
 unfolding columns
 column n = ap (λ (l : List ℕ). 32 ∷ l) (append-nil (decimal n))
 
 columns-more : (ns : List ℕ) (i : ℕ) → i < length ns → columns (take (i + 1) ns) ≡ columns (take i ns) ++ (32 ∷ decimal (getD ns i 0))
-columns-more ns i h = rw (add-one i, take-suc ns i 0 h) (columns-append (take i ns) (getD ns i 0 ∷ []) ∙ ap (λ (l : List ℕ). columns (take i ns) ++ l) (column (getD ns i 0)))
+columns-more ns i h =
+    rw (add-one i, take-suc ns i 0 h) (columns-append (take i ns) (getD ns i 0 ∷ []) ∙ ap (λ (l : List ℕ). columns (take i ns) ++ l) (column (getD ns i 0)))
 
 pub columns-room : (ns : List ℕ) (i : ℕ) → i < length ns → length (columns (take i ns)) + 1 + length (decimal (getD ns i 0)) ≤ length (columns ns)
 columns-room ns i h =
-    let parts : columns ns ≡ columns (take (i + 1) ns) ++ columns (drop (i + 1) ns) = ap columns (sym (take-append-drop (i + 1) ns)) ∙ columns-append (take (i + 1) ns) (drop (i + 1) ns) in
-    omega (arith, ap length parts, length-append (columns (take (i + 1) ns)) (columns (drop (i + 1) ns)), ap length (columns-more ns i h), length-append (columns (take i ns)) (32 ∷ decimal (getD ns i 0)))
+    let parts : columns ns ≡ columns (take (i + 1) ns) ++ columns (drop (i + 1) ns) =
+    ap columns (sym (take-append-drop (i + 1) ns)) ∙ columns-append (take (i + 1) ns) (drop (i + 1) ns) in
+    omega (
+      arith,
+      ap length parts,
+      length-append (columns (take (i + 1) ns)) (columns (drop (i + 1) ns)),
+      ap length (columns-more ns i h),
+      length-append (columns (take i ns)) (32 ∷ decimal (getD ns i 0)),
+    )
 
 pub columns-none : (l ns : List ℕ) (at : ℕ) → Written l at (columns (take 0 ns)) at l
 unfolding columns
 columns-none l ns at = none l at
 
-pub columns-on : {l m k r : List ℕ} {at p q n : ℕ} (ns : List ℕ) (i : ℕ) → i < length ns → Written l at (columns (take i ns)) p m → Written m p (32 ∷ []) q k → Written k q (decimal (getD ns i 0)) n r
+pub columns-on : {l m k r : List ℕ} {at p q n : ℕ} (ns : List ℕ) (i : ℕ) → i < length ns → Written l at (columns (take i ns)) p m → Written m p (32 ∷ []) q k
+    → Written k q (decimal (getD ns i 0)) n r
     → Written l at (columns (take (i + 1) ns)) n r
 columns-on ns i h a b c = rw (columns-more ns i h) (then (columns (take i ns)) (32 ∷ decimal (getD ns i 0)) a (then (32 ∷ []) (decimal (getD ns i 0)) b c))
 
@@ -130,6 +142,8 @@ pub line-length : (word ns : List ℕ) → length (lineOf word ns) ≡ length wo
 unfolding lineOf
 line-length word ns = simp (length-append) (omega arith)
 
-pub line-all : {l m k r : List ℕ} {p q n : ℕ} (word ns : List ℕ) → length (lineOf word ns) ≤ length l → Written l 0 word p m → Written m p (columns ns) q k → Written k q (10 ∷ []) n r → Line l (lineOf word ns) n r
+pub line-all : {l m k r : List ℕ} {p q n : ℕ} (word ns : List ℕ) → length (lineOf word ns) ≤ length l → Written l 0 word p m → Written m p (columns ns) q k
+    → Written k q (10 ∷ []) n r → Line l (lineOf word ns) n r
 unfolding lineOf
-line-all {l} {m} {k} {r} {p} {q} {n} word ns h a b c = from-front l (lineOf word ns) r n h (then word (columns ns ++ (10 ∷ [])) a (then (columns ns) (10 ∷ []) b c))
+line-all {l} {m} {k} {r} {p} {q} {n} word ns h a b c =
+    from-front l (lineOf word ns) r n h (then word (columns ns ++ (10 ∷ [])) a (then (columns ns) (10 ∷ []) b c))

@@ -17,5 +17,7 @@ use Rattle.listing_rules.specs.Listing.{unmade, linesOf, listingOf}
 use Rattle.listing_rules.specs.Laws.{WorkedLogListed}
 
 pub worked-log-listed : WorkedLogListed
-unfolding listingOf linesOf openLine inLine outLine refusedLine endLine lineOf columns decimal decimalIn sum below least classOf nextStart framing charged largestCharge creditOf charge ringEntry ringOn laneDepth laneFirst entry onward someWait anyDue spent fresh whereIs upd takenIn takeRecord release leastReady settle ended sendFrom send lowest begin serveBy serve freeAt openBlock step
+unfolding listingOf linesOf openLine inLine outLine refusedLine endLine lineOf columns decimal decimalIn sum below least classOf nextStart framing charged
+    largestCharge creditOf charge ringEntry ringOn laneDepth laneFirst entry onward someWait anyDue spent fresh whereIs upd takenIn takeRecord release
+    leastReady settle ended sendFrom send lowest begin serveBy serve freeAt openBlock step
 worked-log-listed = ap (λ (r : Reading). linesOf unmade (r .fields) (r .ends)) worked-reading

@@ -57,7 +57,14 @@ fits-framed s at h = and-both _ _ (le-leb 3 (length s - at) (omega arith)) (le-l
 
 passed-length : (tag : ℕ) → 128 ≤ tag → lengthOf tag ≡ 0
 unfolding lengthOf
-passed-length tag l = rw (ne-eqb tag 6 (λ e. omega arith), ne-eqb tag 1 (λ e. omega arith), ne-eqb tag 2 (λ e. omega arith), ne-eqb tag 3 (λ e. omega arith), ne-eqb tag 4 (λ e. omega arith))
+passed-length tag l =
+    rw (
+      ne-eqb tag 6 (λ e. omega arith),
+      ne-eqb tag 1 (λ e. omega arith),
+      ne-eqb tag 2 (λ e. omega arith),
+      ne-eqb tag 3 (λ e. omega arith),
+      ne-eqb tag 4 (λ e. omega arith),
+    )
 
 -- a value of the right length has room for what its tag says
 pub right-room : (tag n : ℕ) → rightLength tag n ≡ true → lengthOf tag ≤ n
@@ -71,7 +78,8 @@ right-room tag n h = go (leb 128 tag) refl h
 
 -- ---- the field, by what it is made of
 
-pub made-whole : (s : List ℕ) (at tag n : ℕ) (stage : Stage) (e : Event) → FrameIs s at tag n → rightLength tag n ≡ true → eventOf s tag (at + 3) ≡ e → inTurn e stage ≡ true
+pub made-whole : (s : List ℕ) (at tag n : ℕ) (stage : Stage) (e : Event) → FrameIs s at tag n → rightLength tag n ≡ true → eventOf s tag (at + 3) ≡ e
+    → inTurn e stage ≡ true
     → fieldAt s at stage ≡ GoesOn e (at + 3 + n)
 unfolding fieldAt isWhole
 made-whole s at tag n stage e f r q t = rw (f .there, f .tagged, f .sized, r, q, t)

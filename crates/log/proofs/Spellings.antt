@@ -43,8 +43,10 @@ number-back (suc w) x pre rest h =
     let less : x / 256 < 256 ^ w = omega (arith, pow-suc 256 w) in
     let long : length (pre ++ bytesOf w (x / 256)) ≡ length pre + w = length-append pre (bytesOf w (x / 256)) ∙ omega (arith, bytes-length w (x / 256)) in
     let again : numberAt (pre ++ (bytesOf w (x / 256) ++ (x % 256 ∷ rest))) (length pre) w ≡ x / 256 = number-back w (x / 256) pre (x % 256 ∷ rest) less in
-    let last : getD (pre ++ (bytesOf w (x / 256) ++ (x % 256 ∷ rest))) (length pre + w) 0 ≡ x % 256 = rw (← append-assoc) (getD-at (pre ++ bytesOf w (x / 256)) (x % 256) rest 0 (length pre + w) long) in
-    let all : (bytesOf w (x / 256) ++ (x % 256 ∷ [])) ++ rest ≡ bytesOf w (x / 256) ++ (x % 256 ∷ rest) = append-assoc (bytesOf w (x / 256)) (x % 256 ∷ []) rest in
+    let last : getD (pre ++ (bytesOf w (x / 256) ++ (x % 256 ∷ rest))) (length pre + w) 0 ≡ x % 256 =
+    rw (← append-assoc) (getD-at (pre ++ bytesOf w (x / 256)) (x % 256) rest 0 (length pre + w) long) in
+    let all : (bytesOf w (x / 256) ++ (x % 256 ∷ [])) ++ rest ≡ bytesOf w (x / 256) ++ (x % 256 ∷ rest) =
+    append-assoc (bytesOf w (x / 256)) (x % 256 ∷ []) rest in
     rw (all, again, last) (omega arith)
 
 -- ---- the numbers of a value
@@ -62,7 +64,8 @@ value-back (o ∷ os) pre rest f =
     let on : length (pre ++ bytesOf w x) ≡ length pre + w = length-append pre (bytesOf w x) ∙ omega (arith, bytes-length w x) in
     let later : Holds ((pre ++ bytesOf w x) ++ (valueOf os ++ rest)) (length (pre ++ bytesOf w x)) os = value-back os (pre ++ bytesOf w x) rest (f .1) in
     let all : (bytesOf w x ++ valueOf os) ++ rest ≡ bytesOf w x ++ (valueOf os ++ rest) = append-assoc (bytesOf w x) (valueOf os) rest in
-    let split : pre ++ (bytesOf w x ++ (valueOf os ++ rest)) ≡ (pre ++ bytesOf w x) ++ (valueOf os ++ rest) = sym (append-assoc pre (bytesOf w x) (valueOf os ++ rest)) in
+    let split : pre ++ (bytesOf w x ++ (valueOf os ++ rest)) ≡ (pre ++ bytesOf w x) ++ (valueOf os ++ rest) =
+    sym (append-assoc pre (bytesOf w x) (valueOf os ++ rest)) in
     rw all (number-back w x pre (valueOf os ++ rest) (f .0), rw (split, ← on) later)
 
 value-held : (value pre rest : List ℕ) (os : List Operand) → value ≡ valueOf os → Fit os → Holds (pre ++ (value ++ rest)) (length pre) os
@@ -105,7 +108,15 @@ is-passed Passed p = refl
 
 passed-event : (s : List ℕ) (tag at : ℕ) → 128 ≤ tag → eventOf s tag at ≡ Passed
 unfolding eventOf
-passed-event s tag at l = rw (ne-eqb tag 6 (λ e. omega arith), ne-eqb tag 1 (λ e. omega arith), ne-eqb tag 2 (λ e. omega arith), ne-eqb tag 3 (λ e. omega arith), ne-eqb tag 4 (λ e. omega arith), ne-eqb tag 5 (λ e. omega arith))
+passed-event s tag at l =
+    rw (
+      ne-eqb tag 6 (λ e. omega arith),
+      ne-eqb tag 1 (λ e. omega arith),
+      ne-eqb tag 2 (λ e. omega arith),
+      ne-eqb tag 3 (λ e. omega arith),
+      ne-eqb tag 4 (λ e. omega arith),
+      ne-eqb tag 5 (λ e. omega arith),
+    )
 
 passed-right : (tag n : ℕ) → 128 ≤ tag → rightLength tag n ≡ true
 unfolding rightLength
@@ -126,7 +137,13 @@ split-value tag value pre rest = simp append-assoc
 
 frame-back : (tag : ℕ) (value pre rest : List ℕ) → length value < 65536 → FrameIs (pre ++ (fieldOf tag value ++ rest)) (length pre) tag (length value)
 unfolding fieldOf
-frame-back tag value pre rest l = record { there = fits-framed s (length pre) room; tagged = getD-at pre tag ((bytesOf 2 (length value) ++ value) ++ rest) 0 (length pre) refl; sized = sized }
+frame-back tag value pre rest l =
+    record {
+      there = fits-framed s (length pre) room;
+      tagged = getD-at pre tag ((bytesOf 2 (length value) ++ value) ++ rest) 0 (length pre) refl;
+      sized =
+          sized;
+    }
   where
     s : List ℕ
     s = pre ++ (fieldOf tag value ++ rest)
@@ -145,17 +162,24 @@ said-if : (t : Bool) (e : Event) (tag : ℕ) (value pre rest : List ℕ) → isP
 said-if true e tag value pre rest p h = (h .1, (passed-right tag (length value) (h .0 .0), passed-event _ tag (length pre + 3) (h .0 .0) ∙ sym (is-passed e p)))
 said-if false e tag value pre rest p h =
     let n : length value ≡ widthOf (operandsOf e) = ap length (h .1 .0) ∙ value-length (operandsOf e) in
-    let on : length (pre ++ (tag ∷ bytesOf 2 (length value))) ≡ length pre + 3 = length-append pre (tag ∷ bytesOf 2 (length value)) ∙ omega (arith, bytes-length 2 (length value)) in
+    let on : length (pre ++ (tag ∷ bytesOf 2 (length value))) ≡ length pre + 3 =
+    length-append pre (tag ∷ bytesOf 2 (length value)) ∙ omega (arith, bytes-length 2 (length value)) in
     let held : Holds (pre ++ (fieldOf tag value ++ rest)) (length pre + 3) (operandsOf e) =
-    rw (split-value tag value pre rest, ← on) (value-held value (pre ++ (tag ∷ bytesOf 2 (length value))) rest (operandsOf e) (h .1 .0) (h .1 .1)) in
-    (omega (arith, n, event-right e p .1), (rw (n, h .0) (event-right e p .0), ap (λ (t : ℕ). eventOf (pre ++ (fieldOf tag value ++ rest)) t (length pre + 3)) (h .0) ∙ event-back _ (length pre + 3) e p held))
+    rw (split-value tag value pre rest, ← on) (value-held value (pre ++ (tag ∷ bytesOf 2 (length value))) rest (operandsOf e) (h .1 .0) (h .1 .1)) in (
+      omega (arith, n, event-right e p .1),
+      (
+        rw (n, h .0) (event-right e p .0),
+        ap (λ (t : ℕ). eventOf (pre ++ (fieldOf tag value ++ rest)) t (length pre + 3)) (h .0) ∙ event-back _ (length pre + 3) e p held,
+      ),
+    )
 
 -- what is written is read
 pub field-back : FieldBack
 field-back e tag value pre rest stage h t =
     let said = said-if (isPassed e) e tag value pre rest refl h in
     let ends : length pre + length (fieldOf tag value) ≡ length pre + 3 + length value = omega (arith, field-length tag value) in
-    rw ends (made-whole (pre ++ (fieldOf tag value ++ rest)) (length pre) tag (length value) stage e (frame-back tag value pre rest (said .0)) (said .1 .0) (said .1 .1) t)
+    rw ends (made-whole (pre ++ (fieldOf tag value ++ rest)) (length pre) tag (length value) stage e (frame-back tag value pre rest (said .0)) (said .1 .0)
+    (said .1 .1) t)
 
 -- ---- a log that was written is read back, and ends whole
 
@@ -196,11 +220,13 @@ bytes-back (suc w) s at b l =
     let long : w < length (drop at s) = omega (arith, length-drop at s) in
     rw (q, m) (ap₂ (λ (d : List ℕ) (y : ℕ). d ++ (y ∷ [])) (bytes-back w s at b (omega arith)) (sym (getD-drop at s w 0)) ∙ sym (take-suc (drop at s) w 0 long))
 
-value-of : (os : List Operand) (s : List ℕ) (at : ℕ) → ((i : ℕ) → getD s i 0 < 256) → at + widthOf os ≤ length s → Holds s at os → valueOf os ≡ take (widthOf os) (drop at s)
+value-of : (os : List Operand) (s : List ℕ) (at : ℕ) → ((i : ℕ) → getD s i 0 < 256) → at + widthOf os ≤ length s → Holds s at os
+    → valueOf os ≡ take (widthOf os) (drop at s)
 value-of [] s at b l h = refl
 value-of (o ∷ os) s at b l h =
     ap (λ (x : ℕ). bytesOf (o .width) x ++ valueOf os) (sym (h .0))
-    ∙ ap₂ (λ (d r : List ℕ). d ++ r) (bytes-back (o .width) s at b (omega arith)) (value-of os s (at + o .width) b (omega arith) (h .1) ∙ ap (take (widthOf os)) (sym (drop-drop (o .width) at s)))
+    ∙ ap₂ (λ (d r : List ℕ). d ++ r) (bytes-back (o .width) s at b (omega arith))
+    (value-of os s (at + o .width) b (omega arith) (h .1) ∙ ap (take (widthOf os)) (sym (drop-drop (o .width) at s)))
     ∙ sym (take-add (o .width) (widthOf os) (drop at s))
 
 fit-of : (os : List Operand) (s : List ℕ) (at : ℕ) → ((i : ℕ) → getD s i 0 < 256) → Holds s at os → Fit os
@@ -220,7 +246,9 @@ told s at zero n a b e = absurd (omega arith)
 told s at (suc zero) n a b e = record { taken = refl; tagged = refl; sized = e; held = (refl, (refl, tt)) }
 told s at (suc (suc zero)) n a b e = record { taken = refl; tagged = refl; sized = e; held = (refl, tt) }
 told s at (suc (suc (suc zero))) n a b e = record { taken = refl; tagged = refl; sized = e; held = (refl, (refl, tt)) }
-told s at (suc (suc (suc (suc zero)))) n a b e = let q : at + 4 + 4 ≡ at + 8 = omega arith in record { taken = refl; tagged = refl; sized = e; held = (refl, (refl, (ap (λ (i : ℕ). numberAt s i 2) q, tt))) }
+told s at (suc (suc (suc (suc zero)))) n a b e =
+    let q : at + 4 + 4 ≡ at + 8 = omega arith in
+    record { taken = refl; tagged = refl; sized = e; held = (refl, (refl, (ap (λ (i : ℕ). numberAt s i 2) q, tt))) }
 told s at (suc (suc (suc (suc (suc zero))))) n a b e = record { taken = refl; tagged = refl; sized = e; held = tt }
 told s at (suc (suc (suc (suc (suc (suc zero)))))) n a b e = record { taken = refl; tagged = refl; sized = e; held = (refl, tt) }
 told s at (suc (suc (suc (suc (suc (suc (suc tag))))))) n a b e = absurd (omega arith)
@@ -228,7 +256,8 @@ told s at (suc (suc (suc (suc (suc (suc (suc tag))))))) n a b e = absurd (omega 
 value-at-length : (s : List ℕ) (at : ℕ) → at + 3 + lengthAt s at ≤ length s → length (valueAt s at) ≡ lengthAt s at
 value-at-length s at l = length-take-le (lengthAt s at) (drop (at + 3) s) (omega (arith, length-drop (at + 3) s))
 
-says-if : (t : Bool) (s : List ℕ) (at tag n : ℕ) → ((i : ℕ) → getD s i 0 < 256) → leb 128 tag ≡ t → rightLength tag n ≡ true → at + n ≤ length s → n < 65536 → tag < 256
+says-if : (t : Bool) (s : List ℕ) (at tag n : ℕ) → ((i : ℕ) → getD s i 0 < 256) → leb 128 tag ≡ t → rightLength tag n ≡ true → at + n ≤ length s → n < 65536
+    → tag < 256
     → Says (eventOf s tag at) tag (take n (drop at s))
 unfolding rightLength
 says-if true s at tag n b p r l m k =
@@ -239,7 +268,10 @@ says-if false s at tag n b p r l m h =
     let sized = eqb-true n (lengthOf tag) (and-right (leb tag lastTag) _ j) in
     let w = told s at tag n (leb-true 1 tag (and-left _ _ k)) (leb-true tag lastTag (and-left _ _ j)) sized in
     let os = operandsOf (eventOf s tag at) in
-    rw (w .taken) (w .tagged, (ap (λ (k : ℕ). take k (drop at s)) (w .sized) ∙ sym (value-of os s at b (omega (arith, w .sized)) (w .held)), fit-of os s at b (w .held)))
+    rw (w .taken) (
+      w .tagged,
+      (ap (λ (k : ℕ). take k (drop at s)) (w .sized) ∙ sym (value-of os s at b (omega (arith, w .sized)) (w .held)), fit-of os s at b (w .held)),
+    )
 
 -- from a whole field's offset on, the log is the field and what stands after it
 field-splits : (s : List ℕ) (at next : ℕ) → ((i : ℕ) → getD s i 0 < 256) → at + 3 + lengthAt s at ≤ length s → next ≡ at + 3 + lengthAt s at
@@ -254,15 +286,18 @@ field-splits s at next b l e =
     ap (λ (d : List ℕ). valueAt s at ++ d) (ap (λ (i : ℕ). drop i s) e ∙ sym (drop-drop n (at + 3) s)) ∙ take-append-drop n (drop (at + 3) s)
     ∙ ap (λ (i : ℕ). drop i s) three ∙ sym (drop-drop 2 (suc at) s) in
     drop-cons s at 0 (omega arith) ∙ ap (λ (d : List ℕ). tagAt s at ∷ d)
-    (sym (append-assoc (bytesOf 2 (length (valueAt s at))) (valueAt s at) (drop next s) ∙ ap₂ (λ (d r : List ℕ). d ++ r) two after ∙ take-append-drop 2 (drop (suc at) s)))
+    (sym (append-assoc (bytesOf 2 (length (valueAt s at))) (valueAt s at) (drop next s) ∙ ap₂ (λ (d r : List ℕ). d ++ r) two after
+    ∙ take-append-drop 2 (drop (suc at) s)))
 
 -- a whole field is one that was written
 pub field-only : FieldOnly
 field-only s at stage e next b h =
     let w = whole-is s at stage e next h in
     let l = framed-fits s at (w .framed) in
-    let f = byte-at s b in
-    ((rw (← w .says) (says-if (leb 128 (tagAt s at)) s (at + 3) (tagAt s at) (lengthAt s at) f refl (w .right) l (number-lt s (at + 1) 2 f) (f at)), w .turn), field-splits s at next f l (w .ends))
+    let f = byte-at s b in (
+      (rw (← w .says) (says-if (leb 128 (tagAt s at)) s (at + 3) (tagAt s at) (lengthAt s at) f refl (w .right) l (number-lt s (at + 1) 2 f) (f at)), w .turn),
+      field-splits s at next f l (w .ends),
+    )
 
 -- and a log that ends whole is one that was written
 row-only : (s : List ℕ) (at : ℕ) (stage : Stage) (fs : List WholeField) (e : End) → AllBytes s → Reads s at stage fs e → e ≡ whole

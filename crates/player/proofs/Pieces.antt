@@ -47,7 +47,8 @@ use Rattle.listing_rules.proofs.Listing.{listing-whole, listing-ends, listing-f
 use Rattle.player.specs.declared.State.{State}
 use Rattle.player.specs.declared.Piece.{Piece}
 use Rattle.fields.specs.Fields.{Memory, memory, reads, KnownMemory, FieldPlayed}
-use Rattle.player.specs.Pieces.{beforeFirst, readTo, restOf, restAfter, unfit, pieceCode, CanGoOn, refusedPiece, endedPiece, PieceDone, PieceOf, Pieces, last, more, howMany, Roomy}
+use Rattle.player.specs.Pieces.{beforeFirst, readTo, restOf, restAfter, unfit, pieceCode, CanGoOn, refusedPiece, endedPiece, PieceDone, PieceOf, Pieces}
+use Rattle.player.specs.Pieces.{last, more, howMany, Roomy}
 use Rattle.player.specs.Pieces.{PiecesListing, PiecesFew}
 
 -- ---- The code, test by test
@@ -83,7 +84,9 @@ module _ (log : List ℕ) (s : State) (ids lens : List ℕ) (a : length ids ≡ 
 
       pub code-early : ltb (s .at) (s .sent .0 / 65536) ≡ false → earlyCode (s .board) ids lens ≡ pieceCode log s ids lens
       unfolding earlyCode
-      code-early e = ap (λ (t : Bool). cond t 3 (cond (isSound (s .board) ids lens) 0 2)) (none-wrong (length ids) (length lens) a d) ∙ code-board e (isSound (s .board) ids lens) refl
+      code-early e =
+          ap (λ (t : Bool). cond t 3 (cond (isSound (s .board) ids lens) 0 2)) (none-wrong (length ids) (length lens) a d)
+          ∙ code-board e (isSound (s .board) ids lens) refl
 
 -- ---- A state after L
 
@@ -99,7 +102,8 @@ module _ (s : State) (past : pastL (s .stage) ≡ true) where
 -- ---- A piece that ends the listing
 
 module _ (log : List ℕ) (s : State) (ids lens out : List ℕ) (used : ℕ) (whole : List ℕ) (is : restOf log s ids lens ≡ whole) where
-  pub ended-done : (ids′ lens′ out′ : List ℕ) → length whole ≤ length out → Written out 0 whole used out′ → PieceDone log s ids lens out (endedPiece used s) ids′ lens′ out′
+  pub ended-done : (ids′ lens′ out′ : List ℕ) → length whole ≤ length out → Written out 0 whole used out′
+      → PieceDone log s ids lens out (endedPiece used s) ids′ lens′ out′
   unfolding restAfter
   ended-done ids′ lens′ out′ h w = record {
     done = refl;
@@ -128,13 +132,15 @@ pub record UnderWay (log whole : List ℕ) (from : ℕ) (out₀ : List ℕ) (s :
 
 pub under-first : (log : List ℕ) (s : Memory) (stage : Stage) (at : ℕ) (out : List ℕ) → KnownMemory s → pastL stage ≡ true → s .sent / 65536 ≤ at
     → UnderWay log (listingFrom (reads s) log at stage) at out s stage at 0 out
-under-first log s stage at out k past! few! = record { good = k; past = past!; text = []; written = none out 0; joined = refl; fits = omega arith; same = refl; few = few!; moved = inr (refl, refl) }
+under-first log s stage at out k past! few! =
+    record { good = k; past = past!; text = []; written = none out 0; joined = refl; fits = omega arith; same = refl; few = few!; moved = inr (refl, refl) }
 
 -- the front of a buffer that has a line is as long as the line says
 line-count : {before line after : List ℕ} {count : ℕ} → Line before line count after → length (take count after) ≡ count
 line-count l = ap length (l .text) ∙ sym (l .counts)
 
-module _ (log whole : List ℕ) (from : ℕ) (out₀ : List ℕ) (s : Memory) (stage : Stage) (at used : ℕ) (out : List ℕ) (u : UnderWay log whole from out₀ s stage at used out) where
+module _ (log whole : List ℕ) (from : ℕ) (out₀ : List ℕ) (s : Memory) (stage : Stage) (at used : ℕ) (out : List ℕ)
+    (u : UnderWay log whole from out₀ s stage at used out) where
   pub under-room : 64 ≤ length out - used → used + 64 ≤ length out
   under-room h = omega (arith, u .fits, u .same)
 
@@ -146,7 +152,8 @@ module _ (log whole : List ℕ) (from : ℕ) (out₀ : List ℕ) (s : Memory) (s
   under-small e next f = omega (arith, u .few, goes-next log at stage e next f, goes-only log at stage e next f .1)
 
   -- one line more
-  module _ (before text line : List ℕ) (count used′ : ℕ) (out′ : List ℕ) (l : Line before text count line) (few : count ≤ 64) (room : used + 64 ≤ length out) (w : Written out used (take count line) used′ out′) where
+  module _ (before text line : List ℕ) (count used′ : ℕ) (out′ : List ℕ) (l : Line before text count line) (few : count ≤ 64) (room : used + 64 ≤ length out)
+      (w : Written out used (take count line) used′ out′) where
     short : length (take count line) ≤ 64
     short = omega (arith, line-count l)
 
@@ -189,14 +196,17 @@ module _ (log whole : List ℕ) (from : ℕ) (out₀ : List ℕ) (s : Memory) (s
     -- or it is the last one
     module _ (s₀ : State) (ids lens : List ℕ) (is : restOf log s₀ ids lens ≡ whole) (ids′ lens′ : List ℕ) where
       pub under-last : text ≡ listingFrom (reads s) log at stage → PieceDone log s₀ ids lens out₀ (endedPiece used′ s₀) ids′ lens′ out′
-      under-last e = ended-done log s₀ ids lens out₀ used′ (u .text ++ take count line) (is ∙ sym (u .joined) ∙ ap (λ (t : List ℕ). u .text ++ t) (sym (l .text ∙ e))) ids′ lens′ out′ text-fits wrote
+      under-last e =
+          ended-done log s₀ ids lens out₀ used′ (u .text ++ take count line)
+          (is ∙ sym (u .joined) ∙ ap (λ (t : List ℕ). u .text ++ t) (sym (l .text ∙ e))) ids′ lens′ out′ text-fits wrote
 
   -- the state from which the next piece goes on
   abbrev gone : State
   gone = record { stage = stage; at = at; sent = record { 0 = s .sent }; board = s .board }
 
   -- there is no room for another line
-  pub under-more : (s₀ : State) (ids lens : List ℕ) → restOf log s₀ ids lens ≡ whole → endsLong (nextAt log at stage) ≡ false → readTo s₀ ≡ from → length out - used < 64
+  pub under-more : (s₀ : State) (ids lens : List ℕ) → restOf log s₀ ids lens ≡ whole → endsLong (nextAt log at stage) ≡ false → readTo s₀ ≡ from
+      → length out - used < 64
       → PieceDone log s₀ ids lens out₀ (record { code = 0; used = used; over = false; state = gone }) (s .ids) (s .lens) out
   unfolding restAfter
   under-more s₀ ids lens is short from! full = record {
@@ -246,7 +256,8 @@ pub code-tables : (log : List ℕ) (s : State) (ids lens : List ℕ) → pieceCo
 unfolding pieceCode
 code-tables log s ids lens e = go (wrongTables (length ids) (length lens)) refl e
   where
-    go : (t : Bool) → wrongTables (length ids) (length lens) ≡ t → _≡_ {A = ℕ} (cond t 3 (cond (pastL (s .stage)) (cond (unfit log s ids lens) 2 0) 0)) 0 → (length ids ≡ 2048) × (length lens ≡ 2048)
+    go : (t : Bool) → wrongTables (length ids) (length lens) ≡ t → _≡_ {A = ℕ} (cond t 3 (cond (pastL (s .stage)) (cond (unfit log s ids lens) 2 0) 0)) 0
+        → (length ids ≡ 2048) × (length lens ≡ 2048)
     go true q z = absurd (omega arith)
     go false q z = right-tables (length ids) (length lens) q
 
@@ -261,14 +272,17 @@ module _ (log : List ℕ) (s : State) (ids lens out : List ℕ) (unread : pastL 
   left-whole = ap (λ (t : Bool). cond t (listingFrom (reads (memory (s .board) ids lens (s .sent .0))) log (s .at) (s .stage)) (listingOf log)) unread
 
   -- no room for a line
-  pub first-none : pieceCode log s ids lens ≡ 0 → length out < 64 → PieceDone log s ids lens out (record { code = 0; used = 0; over = false; state = s }) ids lens out
+  pub first-none : pieceCode log s ids lens ≡ 0 → length out < 64
+      → PieceDone log s ids lens out (record { code = 0; used = 0; over = false; state = s }) ids lens out
   unfolding restAfter
   first-none ready h = record { done = refl; fits = omega arith; joined = refl; rest = refl; goesOn = λ e. ready; moves = λ e m. absurd (omega arith) }
 
   -- the listing is one line
-  pub first-last : (before text line : List ℕ) (count used : ℕ) (ids′ lens′ out′ : List ℕ) → Line before text count line → count ≤ 64 → 64 ≤ length out → Written out 0 (take count line) used out′ → text ≡ listingOf log
+  pub first-last : (before text line : List ℕ) (count used : ℕ) (ids′ lens′ out′ : List ℕ) → Line before text count line → count ≤ 64 → 64 ≤ length out
+      → Written out 0 (take count line) used out′ → text ≡ listingOf log
       → PieceDone log s ids lens out (endedPiece used s) ids′ lens′ out′
-  first-last before text line count used ids′ lens′ out′ l few room w e = ended-done log s ids lens out used (take count line) (left-whole ∙ sym e ∙ sym (l .text)) ids′ lens′ out′ (omega (arith, line-count l)) w
+  first-last before text line count used ids′ lens′ out′ l few room w e =
+      ended-done log s ids lens out used (take count line) (left-whole ∙ sym e ∙ sym (l .text)) ids′ lens′ out′ (omega (arith, line-count l)) w
 
   -- the board is made
   module _ (a : length ids ≡ 2048) (d : length lens ≡ 2048) (l next : ℕ) (f : nextAt log 0 BeforeL ≡ GoesOn (Largest l) next)
@@ -340,10 +354,12 @@ not-largest log e next f k =
 
 -- ---- The promise of a piece
 
-pub refused-piece : (log : List ℕ) (s : State) (ids lens out : List ℕ) (code : ℕ) → code ≡ pieceCode log s ids lens → code ≢ 0 → PieceOf log s ids lens out (refusedPiece code s) ids lens out
+pub refused-piece : (log : List ℕ) (s : State) (ids lens out : List ℕ) (code : ℕ) → code ≡ pieceCode log s ids lens → code ≢ 0
+    → PieceOf log s ids lens out (refusedPiece code s) ids lens out
 refused-piece log s ids lens out code e ne = record { code = e; refused = λ q. (refl, (refl, (refl, refl))); done = λ z. absurd (ne z) }
 
-pub done-piece : (log : List ℕ) (s : State) (ids lens out : List ℕ) (r : Piece) (ids′ lens′ out′ : List ℕ) → pieceCode log s ids lens ≡ 0 → PieceDone log s ids lens out r ids′ lens′ out′ → PieceOf log s ids lens out r ids′ lens′ out′
+pub done-piece : (log : List ℕ) (s : State) (ids lens out : List ℕ) (r : Piece) (ids′ lens′ out′ : List ℕ) → pieceCode log s ids lens ≡ 0
+    → PieceDone log s ids lens out r ids′ lens′ out′ → PieceOf log s ids lens out r ids′ lens′ out′
 done-piece log s ids lens out r ids′ lens′ out′ z d = record { code = d .done ∙ sym z; refused = λ ne. absurd (ne (d .done)); done = λ q. d }
 
 -- ---- What a program goes by from piece to piece
@@ -365,12 +381,16 @@ module _ (log : List ℕ) (s : State) (ids lens out : List ℕ) (r : Piece) (ids
 
 -- ---- THE PIECES JOINED ARE THE LISTING, for every log
 
-pieces-left : (log : List ℕ) (s : State) (ids lens written : List ℕ) → Pieces log s ids lens written → pieceCode log s ids lens ≡ 0 → written ≡ restOf log s ids lens
+pieces-left : (log : List ℕ) (s : State) (ids lens written : List ℕ) → Pieces log s ids lens written → pieceCode log s ids lens ≡ 0
+    → written ≡ restOf log s ids lens
 unfolding restAfter
-pieces-left log s ids lens written (last out r ids′ lens′ out′ p e) z = sym (append-nil (take (r .used) out′)) ∙ sym (ap (λ (t : Bool). take (r .used) out′ ++ cond t [] (restOf log (r .state) ids′ lens′)) e) ∙ p .done (p .code ∙ z) .joined
+pieces-left log s ids lens written (last out r ids′ lens′ out′ p e) z =
+    sym (append-nil (take (r .used) out′)) ∙ sym (ap (λ (t : Bool). take (r .used) out′ ++ cond t [] (restOf log (r .state) ids′ lens′)) e)
+    ∙ p .done (p .code ∙ z) .joined
 pieces-left log s ids lens written (more {written = w} out r ids′ lens′ out′ p e rest) z =
     let d = p .done (p .code ∙ z) in
-    ap (λ (t : List ℕ). take (r .used) out′ ++ t) (pieces-left log (r .state) ids′ lens′ w rest (d .goesOn e)) ∙ sym (ap (λ (t : Bool). take (r .used) out′ ++ cond t [] (restOf log (r .state) ids′ lens′)) e) ∙ d .joined
+    ap (λ (t : List ℕ). take (r .used) out′ ++ t) (pieces-left log (r .state) ids′ lens′ w rest (d .goesOn e))
+    ∙ sym (ap (λ (t : Bool). take (r .used) out′ ++ cond t [] (restOf log (r .state) ids′ lens′)) e) ∙ d .joined
 
 pub before-first-ready : (log ids lens : List ℕ) → length ids ≡ 2048 → length lens ≡ 2048 → pieceCode log beforeFirst ids lens ≡ 0
 before-first-ready log ids lens a d = sym (code-before log beforeFirst ids lens a d refl)
@@ -380,10 +400,12 @@ unfolding restOf
 before-first-left log ids lens = refl
 
 pub pieces-listing : PiecesListing
-pieces-listing log ids lens written a d p = pieces-left log beforeFirst ids lens written p (before-first-ready log ids lens a d) ∙ before-first-left log ids lens
+pieces-listing log ids lens written a d p =
+    pieces-left log beforeFirst ids lens written p (before-first-ready log ids lens a d) ∙ before-first-left log ids lens
 
 -- and they come to an end: with room for a line in each there are no more of them than the log has bytes, and one
-pieces-within : (log : List ℕ) (s : State) (ids lens written : List ℕ) (p : Pieces log s ids lens written) → Roomy p → pieceCode log s ids lens ≡ 0 → readTo s ≤ length log → readTo s + howMany p ≤ length log + 1
+pieces-within : (log : List ℕ) (s : State) (ids lens written : List ℕ) (p : Pieces log s ids lens written) → Roomy p → pieceCode log s ids lens ≡ 0
+    → readTo s ≤ length log → readTo s + howMany p ≤ length log + 1
 unfolding howMany Roomy
 pieces-within log s ids lens written (last out r ids′ lens′ out′ p e) m z h = omega arith
 pieces-within log s ids lens written (more {written = w} out r ids′ lens′ out′ p e rest) m z h =

@@ -12,7 +12,8 @@ use Rattle.base.proofs.Numbers.{eqb-true, eqb-yes}
 use Rattle.rules.specs.Board.{Record, Board, at, charge, freePlace, Has}
 use Rattle.rules.specs.Choice.{Out, refused, done, taken, sent, whereIs, send, takenIn, joining, joins, goOn, more}
 use Rattle.rules.specs.Calls.{Single, record!, serve!, step, told}
-use Rattle.rules.specs.Runs.{answer, isDone, numberAfter, closes, isFor, classAt, bytesOf, bytesIn, Unsent, ComesToFront, intoEmpty, nextUp, NotSpent, servesIn}
+use Rattle.rules.specs.Runs.{answer, isDone, numberAfter, closes, isFor, classAt, bytesOf, bytesIn, Unsent, ComesToFront, intoEmpty, nextUp, NotSpent}
+use Rattle.rules.specs.Runs.{servesIn}
 use Rattle.rules.specs.Promises.{bound}
 use Rattle.rules.proofs.Turns.{Good, inLine, bytesSent, fromPlace, most, Keeps, lane-some, isSent}
 use Rattle.rules.proofs.Run.{keeps-step, sentBytes, UnsentAt, ToFront, front-waits, bound-good}
@@ -41,12 +42,21 @@ waits-open b p n x t g h w = go (closes n x (answer b x)) refl
   where
     go : (c : Bool) → closes n x (answer b x) ≡ c → c ≡ false
     go false e = refl
-    go true e = absurd (omega (arith, lane-some (b .largest) (at b p .share) (at b p .lane) (at b p .stand) w (g .fine .shape .placeOk p .standOk), follows b p n t h x .ends e .0))
+    go true e =
+        absurd (omega (
+          arith,
+          lane-some (b .largest) (at b p .share) (at b p .lane) (at b p .stand) w (g .fine .shape .placeOk p .standOk),
+          follows b p n t h x .ends e .0,
+        ))
 
 unsent-at : (b : Board) (p n : ℕ) (xs : List Single) → Tidy b → Good b → Has b p n → inLine (at b p .stand) ≡ true → Unsent n b xs → UnsentAt p b xs
 unfolding Unsent UnsentAt
 unsent-at b p n [] t g h w u = tt
-unsent-at b p n (x ∷ xs) t g h w u = (quiet!, unsent-at (step b x .next) p (numberAfter n x (answer b x)) xs (tidy-step b x t) (k .good) (f .stays (waits-open b p n x t g h w) .0) (k .stays p w quiet! .0) (u .1))
+unsent-at b p n (x ∷ xs) t g h w u = (
+  quiet!,
+  unsent-at (step b x .next) p (numberAfter n x (answer b x)) xs (tidy-step b x t) (k .good) (f .stays (waits-open b p n x t g h w) .0)
+      (k .stays p w quiet! .0) (u .1),
+)
   where
     f : Follows b p n x (step b x)
     f = follows b p n t h x
@@ -130,9 +140,12 @@ bytes-bound b n x after t g c u = go (fronted b n x t c)
     tn = tidy-step b x t
 
     go : (p : ℕ) × Fronted b n p x → bytesIn nb after ≤ bound (nb .largest) (classAt nb n)
-    go (p, f) = rw (bytes-row nb after, has-share nb p n tn (f .after)) (bound-good b x after p g (f .front) (unsent-at nb p n after tn (keeps-step b x g .good) (f .after) (front-waits b x p g (f .front)) u))
+    go (p, f) =
+        rw (bytes-row nb after, has-share nb p n tn (f .after))
+        (bound-good b x after p g (f .front) (unsent-at nb p n after tn (keeps-step b x g .good) (f .after) (front-waits b x p g (f .front)) u))
 
-pub serves-bound : (b : Board) (n : ℕ) (x : Single) (after : List Single) → Tidy b → Good b → ComesToFront b n x → Unsent n (step b x .next) after → NotSpent (step b x .next) after
+pub serves-bound : (b : Board) (n : ℕ) (x : Single) (after : List Single) → Tidy b → Good b → ComesToFront b n x → Unsent n (step b x .next) after
+    → NotSpent (step b x .next) after
     → servesIn after ≤ bound (step b x .next .largest) (classAt (step b x .next) n)
 unfolding most
 serves-bound b n x after t g c u s = go (fronted b n x t c)
@@ -144,4 +157,6 @@ serves-bound b n x after t g c u s = go (fronted b n x t c)
     tn = tidy-step b x t
 
     go : (p : ℕ) × Fronted b n p x → servesIn after ≤ bound (nb .largest) (classAt nb n)
-    go (p, f) = rw (has-share nb p n tn (f .after)) (bound-serves b x after p g (f .front) (unsent-at nb p n after tn (keeps-step b x g .good) (f .after) (front-waits b x p g (f .front)) u) s)
+    go (p, f) =
+        rw (has-share nb p n tn (f .after))
+        (bound-serves b x after p g (f .front) (unsent-at nb p n after tn (keeps-step b x g .good) (f .after) (front-waits b x p g (f .front)) u) s)

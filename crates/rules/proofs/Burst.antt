@@ -18,7 +18,8 @@ use Rattle.rules.proofs.Refusals.{ServeOut, serve-codes}
 -- it stops before its first record
 stopped-is : (b : Board) (bytes room code : ℕ) → Stopped bytes room (stopped b code) → IsServes b bytes room (stopped b code)
 unfolding play bytesIn recordsIn
-stopped-is b bytes room code s = record { next = refl; total = refl; numbers = refl; eachSends = refl; fitsList = omega arith; fitsBytes = omega arith; stop = s }
+stopped-is b bytes room code s =
+    record { next = refl; total = refl; numbers = refl; eachSends = refl; fitsList = omega arith; fitsBytes = omega arith; stop = s }
 
 -- what a serve that sends is told
 abbrev sentOf : Board → Sending → Sent
@@ -33,8 +34,13 @@ first-is b bytes room s rest e h i =
     record {
       next = i .next;
       total = ap₂ (λ (u v : ℕ). u + v) (sym (ap (λ (o : Out). bytesOf (told b o)) e)) (i .total);
-      numbers = ap (λ (ns : List ℕ). s .front .number ∷ ns) (i .numbers) ∙ ap (λ (rs : List Record). map (λ (x : Record). x .number) (rs ++ recordsIn (serve b .next) (serves (rest .count)))) (sym (ap (λ (o : Out). recordOf (told b o)) e));
-      eachSends = ap (λ (rs : List Record). length (rs ++ recordsIn (serve b .next) (serves (rest .count)))) (ap (λ (o : Out). recordOf (told b o)) e) ∙ ap suc (i .eachSends);
+      numbers =
+          ap (λ (ns : List ℕ). s .front .number ∷ ns) (i .numbers)
+          ∙ ap (λ (rs : List Record). map (λ (x : Record). x .number) (rs ++ recordsIn (serve b .next) (serves (rest .count))))
+          (sym (ap (λ (o : Out). recordOf (told b o)) e));
+      eachSends =
+          ap (λ (rs : List Record). length (rs ++ recordsIn (serve b .next) (serves (rest .count)))) (ap (λ (o : Out). recordOf (told b o)) e)
+          ∙ ap suc (i .eachSends);
       fitsList = omega (arith, i .fitsList);
       fitsBytes = omega (arith, i .fitsBytes);
       stop = go (i .stop);
@@ -63,9 +69,12 @@ burst-serves b bytes (suc room) = go (serve b .out) refl (serve-codes b) (burst-
         → (u : Bool) → ltb bytes (charge (s .front)) ≡ u → IsServes b bytes (suc room) (cond u (stopped b 13) (sentFirst (s .front) rest))
     fits s e i true l = let over = true-le (suc bytes) (charge (s .front)) l in
         stopped-is b bytes (suc room) 13 (byBytes (sentOf b s) (ap (told b) e) (omega arith) (omega (arith, over)) refl)
-    fits s e i false l = first-is b bytes room s rest e (omega (arith, false-lt (suc bytes) (charge (s .front)) l)) (subst (λ (n : ℕ). IsServes (serve b .next) (bytes - n) room rest) (ap chargeNext e) i)
+    fits s e i false l =
+        first-is b bytes room s rest e (omega (arith, false-lt (suc bytes) (charge (s .front)) l))
+        (subst (λ (n : ℕ). IsServes (serve b .next) (bytes - n) room rest) (ap chargeNext e) i)
 
-    go : (o : Out) → serve b .out ≡ o → ServeOut o → IsServes (serve b .next) (bytes - chargeNext (serve b .out)) room rest → IsServes b bytes (suc room) (withRoom b bytes o rest)
+    go : (o : Out) → serve b .out ≡ o → ServeOut o → IsServes (serve b .next) (bytes - chargeNext (serve b .out)) room rest
+        → IsServes b bytes (suc room) (withRoom b bytes o rest)
     go (refused code) e s i = stopped-is b bytes (suc room) code (byCall (ap (told b) e))
     go done e s i = absurd s
     go (taken a) e s i = absurd s

@@ -40,7 +40,8 @@ slotLeft-same l l′ (some q) e = rw (e q)
 
 -- calls that leave the clock, the slot and every stand as they were
 pub keeps-quiet : (L c : ℕ) (l : List Place) (o : ℕ → List ℕ) (s : Option ℕ) (H : ℕ → ℕ) (l′ : List Place) (o′ : ℕ → List ℕ) (H′ : ℕ → ℕ)
-    → ((q : ℕ) → pl l′ q .stand ≡ pl l q .stand) → ((q : ℕ) → inLine (pl l q .stand) ≡ true → (pl l′ q .share ≡ pl l q .share) × (pl l′ q .deficit ≡ pl l q .deficit))
+    → ((q : ℕ) → pl l′ q .stand ≡ pl l q .stand)
+    → ((q : ℕ) → inLine (pl l q .stand) ≡ true → (pl l′ q .share ≡ pl l q .share) × (pl l′ q .deficit ≡ pl l q .deficit))
     → Good (lit L c l′ o′ s H′) → Keeps (lit L c l o s H) (record { out = done; next = lit L c l′ o′ s H′ })
 unfolding phi
 keeps-quiet L c l o s H l′ o′ H′ stands both g = record { good = g; stays = stays; some! = λ e. absurd (false≢true e); goes = goes; bars = bars; comes = comes }
@@ -58,12 +59,14 @@ keeps-quiet L c l o s H l′ o′ H′ stands both g = record { good = g; stays 
     shares q w = both q w .0
 
     goes : (q : ℕ) → inLine (pl l q .stand) ≡ true → inLine (pl l′ q .stand) ≡ true → Goes b (record { out = done; next = nb }) q
-    goes q w v = goes-same b (record { out = done; next = nb }) q refl (shares q w) (ap₂ (dueTime c) (shares q w) (stands q)) (ap₂ handBy (both q w .1) (stands q))
+    goes q w v =
+        goes-same b (record { out = done; next = nb }) q refl (shares q w) (ap₂ (dueTime c) (shares q w) (stands q)) (ap₂ handBy (both q w .1) (stands q))
 
     same : (q : ℕ) → inLine (pl l q .stand) ≡ true → phi nb q ≡ phi b q
     same q w = rw (slotLeft-same l l′ s stands, seat-same (pl l′ q) (pl l q) (shares q w) (stands q), stands q)
 
-    stays : (q : ℕ) → inLine (pl l q .stand) ≡ true → false ≡ false → (inLine (pl l′ q .stand) ≡ true) × (pl l′ q .share ≡ pl l q .share) × (phi nb q + 0 ≤ phi b q)
+    stays : (q : ℕ) → inLine (pl l q .stand) ≡ true → false ≡ false
+        → (inLine (pl l′ q .stand) ≡ true) × (pl l′ q .share ≡ pl l q .share) × (phi nb q + 0 ≤ phi b q)
     stays q w _ = (rw (stands q) w, shares q w, omega (arith, same q w))
 
     comes : (q : ℕ) → inLine (pl l′ q .stand) ≡ true → (inLine (pl l q .stand) ≡ false) ⊎ (false ≡ true) → phi nb q ≤ limit L (blockClass (pl l′ q))
@@ -87,9 +90,11 @@ share-out L share lane (serving n) h k = absurd (omega (arith, k .1))
 left-most : (L c : ℕ) (l : List Place) (o : ℕ → List ℕ) (s : Option ℕ) (H : ℕ → ℕ) → Good (lit L c l o s H) → slotLeft l s ≤ busy s * most L
 unfolding slotLeft most
 left-most L c l o none H g = omega arith
-left-most L c l o (some p) H g = omega (arith, serving-ok L (pl l p .share) (pl l p .lane) (pl l p .stand) (g .one p ∙ eqb-yes p p refl) (g .fine .shape .placeOk p .standOk) .3)
+left-most L c l o (some p) H g =
+    omega (arith, serving-ok L (pl l p .share) (pl l p .lane) (pl l p .stand) (g .one p ∙ eqb-yes p p refl) (g .fine .shape .placeOk p .standOk) .3)
 
-pub left-other : (l : List Place) (p : ℕ) (x : Place) (t : Option ℕ) → pl l p .stand ≡ out → ((q : ℕ) → isServing (pl l q .stand) ≡ isAt q t) → slotLeft (set l p x) t ≡ slotLeft l t
+pub left-other : (l : List Place) (p : ℕ) (x : Place) (t : Option ℕ) → pl l p .stand ≡ out → ((q : ℕ) → isServing (pl l q .stand) ≡ isAt q t)
+    → slotLeft (set l p x) t ≡ slotLeft l t
 unfolding slotLeft
 left-other l p x none was e = refl
 left-other l p x (some q) was e = rw (getD-set-other l p q x freePlace ne)
@@ -122,16 +127,22 @@ keeps-join L c l o s H o′ p x h was is g0 g = record { good = g; stays = stays
     bars q e = bars-same b (record { out = done; next = nb }) q refl (go (ℕ-discrete q p))
       where
         go : Dec (q ≡ p) → barOf b q ≤ barOf nb q
-        go (yes f) = le-of-eq (rw f (ap (barBy c (pl l p .share)) was ∙ sym (ap (λ (z : Place). barBy c (z .share) (z .stand)) (getD-set-same l p x freePlace h) ∙ ap (barBy c (x .share)) is ∙ ap (λ (n : ℕ). nextStart (classOf n) c) (sym (ap (λ (z : Place). z .share) (getD-set-same l p x freePlace h)) ∙ rw f at e))))
+        go (yes f) =
+            le-of-eq (rw f (ap (barBy c (pl l p .share)) was
+            ∙ sym (ap (λ (z : Place). barBy c (z .share) (z .stand)) (getD-set-same l p x freePlace h) ∙ ap (barBy c (x .share)) is
+            ∙ ap (λ (n : ℕ). nextStart (classOf n) c) (sym (ap (λ (z : Place). z .share) (getD-set-same l p x freePlace h)) ∙ rw f at e))))
         go (no f) = le-of-eq (sym (ap (λ (z : Place). barBy c (z .share) (z .stand)) (getD-set-other l p q x freePlace f)))
 
     goes : (q : ℕ) → inLine (pl l q .stand) ≡ true → inLine (pl (set l p x) q .stand) ≡ true → Goes b (record { out = done; next = nb }) q
-    goes q w v = goes-same b (record { out = done; next = nb }) q refl (ap (λ (z : Place). z .share) same) (ap (λ (z : Place). dueTime c (z .share) (z .stand)) same) (ap hand same)
+    goes q w v =
+        goes-same b (record { out = done; next = nb }) q refl (ap (λ (z : Place). z .share) same) (ap (λ (z : Place). dueTime c (z .share) (z .stand)) same)
+        (ap hand same)
       where
         same : pl (set l p x) q ≡ pl l q
         same = getD-set-other l p q x freePlace (λ e. false≢true (sym (ap inLine was) ∙ rw e at w))
 
-    stays : (q : ℕ) → inLine (pl l q .stand) ≡ true → false ≡ false → (inLine (pl (set l p x) q .stand) ≡ true) × (pl (set l p x) q .share ≡ pl l q .share) × (phi nb q + 0 ≤ phi b q)
+    stays : (q : ℕ) → inLine (pl l q .stand) ≡ true → false ≡ false
+        → (inLine (pl (set l p x) q .stand) ≡ true) × (pl (set l p x) q .share ≡ pl l q .share) × (phi nb q + 0 ≤ phi b q)
     stays q w _ = rw (getD-set-other l p q x freePlace ne) (w, refl, less)
       where
         ne : q ≢ p
@@ -144,7 +155,8 @@ keeps-join L c l o s H o′ p x h was is g0 g = record { good = g; stays = stays
     new = rw (phi-queued nb p (rw (getD-set-same l p x freePlace h) (ap isQueued is)), getD-set-same l p x freePlace h)
         (ahead-join (most L) (slotLeft (set l p x) s) c (busy s) (seatOf x) (ap readyNum is) (busy-le s) (left-most L c (set l p x) o′ s H g))
 
-    comes : (q : ℕ) → inLine (pl (set l p x) q .stand) ≡ true → (inLine (pl l q .stand) ≡ false) ⊎ (false ≡ true) → phi nb q ≤ limit L (blockClass (pl (set l p x) q))
+    comes : (q : ℕ) → inLine (pl (set l p x) q .stand) ≡ true → (inLine (pl l q .stand) ≡ false) ⊎ (false ≡ true)
+        → phi nb q ≤ limit L (blockClass (pl (set l p x) q))
     comes q w (inr e) = absurd (false≢true e)
     comes q w (inl e) = go (ℕ-discrete q p)
       where
@@ -161,7 +173,8 @@ stand-more L share lane x (serving n) h k =
     (rw (length-append lane (x ∷ [])) (omega arith), k .1, rw (List·getD-append lane (x ∷ []) noRecord 0 h) (k .2), k .3)
 
 -- what a change at p leaves as it was
-pub set-field : {A : Type 0} (f : Place → A) (l : List Place) (p : ℕ) (x : Place) → p < length l → f x ≡ f (pl l p) → (q : ℕ) → f (pl (set l p x) q) ≡ f (pl l q)
+pub set-field : {A : Type 0} (f : Place → A) (l : List Place) (p : ℕ) (x : Place) → p < length l → f x ≡ f (pl l p) → (q : ℕ)
+    → f (pl (set l p x) q) ≡ f (pl l q)
 set-field f l p x h e q = go (ℕ-discrete q p)
   where
     go : Dec (q ≡ p) → f (pl (set l p x) q) ≡ f (pl l q)
@@ -268,7 +281,8 @@ module _ (b : Board) (p n : ℕ) (x : Record) (can : CanTake b p n x) (g : Good 
   unfolding takenIn
   keeps-taken = go (leb (length (at b p .lane)) 0) refl
     where
-      go : (t : Bool) → leb (length (at b p .lane)) 0 ≡ t → Keeps b (record { out = done; next = cond t (joining b p (joins (b .clock) (at b p) x)) (goOn b p (more (at b p) x)) })
+      go : (t : Bool) → leb (length (at b p .lane)) 0 ≡ t
+          → Keeps b (record { out = done; next = cond t (joining b p (joins (b .clock) (at b p) x)) (goOn b p (more (at b p) x)) })
       go true e =
           keeps-join (b .largest) (b .clock) (b .places) (b .orders) (b .slot) (b .held) (joining b p y .orders) p y in-l was refl g
           (record { fine = fine; one = λ q. set-field (λ z. isServing (z .stand)) (b .places) p y in-l (sym (ap isServing was)) q ∙ g .one q })
@@ -313,7 +327,8 @@ keeps-rename b p old new can g =
     keeps-kept b p x g (in-places b sh p (can .has .inside)) refl refl refl names (renamed-ok b sh p old new can)
 
 -- a place that is out may change its share
-share-else : (l : List Place) (p : ℕ) (x : Place) → pl l p .stand ≡ out → (q : ℕ) → inLine (pl l q .stand) ≡ true → (pl (set l p x) q .share ≡ pl l q .share) × (pl (set l p x) q .deficit ≡ pl l q .deficit)
+share-else : (l : List Place) (p : ℕ) (x : Place) → pl l p .stand ≡ out → (q : ℕ) → inLine (pl l q .stand) ≡ true
+    → (pl (set l p x) q .share ≡ pl l q .share) × (pl (set l p x) q .deficit ≡ pl l q .deficit)
 share-else l p x was q w = rw (getD-set-other l p q x freePlace ne) (refl, refl)
   where
     ne : q ≢ p

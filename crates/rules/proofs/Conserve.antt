@@ -109,18 +109,25 @@ flow-send b began q e g p = go (leb (length (at b q .lane)) 1) refl
     o′ : ℕ → List ℕ
     o′ = upd (b .orders) (blockClass (at b q)) (b .orders (blockClass (at b q)) ++ (q ∷ []))
 
-    two : (u : Bool) → at b p .lane ++ [] ≡ sentOne p (sent (sending began b q)) ++ at (cond u (ended b q (short (b .clock) (at b q)) o′) (goOn b q (going (at b q)))) p .lane
+    two : (u : Bool) → at b p .lane ++ []
+        ≡ sentOne p (sent (sending began b q)) ++ at (cond u (ended b q (short (b .clock) (at b q)) o′) (goOn b q (going (at b q)))) p .lane
     two true = flow-drop b began q (short (b .clock) (at b q)) p h some! refl
     two false = flow-drop b began q (going (at b q)) p h some! refl
 
     go : (t : Bool) → leb (length (at b q .lane)) 1 ≡ t
-        → at b p .lane ++ [] ≡ sentOne p (sent (sending began b q)) ++ at (cond t (ended b q (emptied (at b q)) (b .orders)) (cond (ltb (leftOf (at b q .stand) - charge (front (at b q)) * 65536) (charge (getD (drop 1 (at b q .lane)) 0 noRecord) * 65536)) (ended b q (short (b .clock) (at b q)) o′) (goOn b q (going (at b q))))) p .lane
+        → at b p .lane ++ [] ≡ sentOne p (sent (sending began b q)) ++ at
+        (cond t (ended b q (emptied (at b q)) (b .orders))
+        (cond (ltb (leftOf (at b q .stand) - charge (front (at b q)) * 65536) (charge (getD (drop 1 (at b q .lane)) 0 noRecord) * 65536))
+        (ended b q (short (b .clock) (at b q)) o′) (goOn b q (going (at b q))))) p .lane
     go true f = flow-drop b began q (emptied (at b q)) p h some! (sym (no-rest (at b q .lane) (true-le (length (at b q .lane)) 1 f)))
     go false f = two (ltb (leftOf (at b q .stand) - charge (front (at b q)) * 65536) (charge (getD (drop 1 (at b q .lane)) 0 noRecord) * 65536))
 
-begun-flow : (b : Board) → Tidy b → (r : ℕ) → b .slot ≡ none → LeastIs (b .places) (some r) → max (b .clock) r < 2 ^ 62 → (p : ℕ) → Flow p b [] (send true (begin b (max (b .clock) r)) (getD (b .orders (lowest b (max (b .clock) r))) 0 0))
+begun-flow : (b : Board) → Tidy b → (r : ℕ) → b .slot ≡ none → LeastIs (b .places) (some r) → max (b .clock) r < 2 ^ 62 → (p : ℕ)
+    → Flow p b [] (send true (begin b (max (b .clock) r)) (getD (b .orders (lowest b (max (b .clock) r))) 0 0))
 unfolding begin
-begun-flow b g r e l soon p = ap (λ (xs : List Record). xs ++ []) (sym (set-field (λ (w : Place). w .lane) (b .places) q (started (b .largest) (at b q)) (queued-in (b .places) q (tidy.chosen b r e l soon g .isQ)) refl p))
+begun-flow b g r e l soon p =
+    ap (λ (xs : List Record). xs ++ [])
+    (sym (set-field (λ (w : Place). w .lane) (b .places) q (started (b .largest) (at b q)) (queued-in (b .places) q (tidy.chosen b r e l soon g .isQ)) refl p))
     ∙ flow-send (begin b (max (b .clock) r)) true q refl (tidy-begin b r e l soon g) p
   where
     q : ℕ

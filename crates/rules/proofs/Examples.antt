@@ -14,10 +14,12 @@ use Rattle.units.specs.Classes.{Start, classOf, nextStart}
 use Rattle.units.specs.Credit.{framing, charged, largestCharge, creditOf}
 use Rattle.lanes.specs.Lanes.{ringEntry, ringOn, laneDepth, laneFirst}
 use Rattle.rules.specs.Board.{Record, charge, queued, Board, at, entry, onward, someWait, anyDue, spent, fresh, pending, freePlace}
-use Rattle.rules.specs.Choice.{whereIs, upd, takenIn, takeRecord, release, leastReady, settle, ended, sendFrom, send, lowest, begin, serveBy, serve, find, openAt}
+use Rattle.rules.specs.Choice.{whereIs, upd, takenIn, takeRecord, release, leastReady, settle, ended, sendFrom, send, lowest, begin, serveBy, serve, find}
+use Rattle.rules.specs.Choice.{openAt}
 use Rattle.rules.specs.Blocks.{opening, freeAt, openBlock, renameBlock, quiet, closed, closeBlock}
 use Rattle.rules.specs.Calls.{Single, open!, rename!, close!, record!, serve!, step, Answer, gives, takes, sends}
-use Rattle.rules.specs.Runs.{play, answer, bytesIn, slotsIn, holds, heldOf, Unsent, NotSpent, ComesToFront, intoEmpty, servesIn, classAt, stillHeld, story, begins}
+use Rattle.rules.specs.Runs.{play, answer, bytesIn, slotsIn, holds, heldOf, Unsent, NotSpent, ComesToFront, intoEmpty, servesIn, classAt, stillHeld}
+use Rattle.rules.specs.Runs.{story, begins}
 use Rattle.rules.specs.Promises.{WaitsAt, bound}
 use Rattle.rules.specs.Spoilt.{numbersApart, lengthsIn, spoilt, count, allPlaces, ordersListed, neverFalling, unspoilt}
 
@@ -43,13 +45,15 @@ answers b (x ∷ xs) = answer b x ∷ answers (step b x .next) xs
 
 -- the worked log of document 01, with L 100
 unfoldable pub worked : List Single
-worked = opens 11 32768 ∷ opens 12 24576 ∷ record! 11 (rec 1 100) ∷ record! 11 (rec 2 60) ∷ record! 12 (rec 3 100) ∷ record! 12 (rec 4 100) ∷ record! 12 (rec 5 100)
+worked =
+    opens 11 32768 ∷ opens 12 24576 ∷ record! 11 (rec 1 100) ∷ record! 11 (rec 2 60) ∷ record! 12 (rec 3 100) ∷ record! 12 (rec 4 100) ∷ record! 12 (rec 5 100)
     ∷ serve! ∷ serve! ∷ serve! ∷ serve! ∷ serve! ∷ serve! ∷ []
 
 -- the hold: eight blocks of class 3 wait at clock 8; four are emptied and closed at 12
 unfoldable pub emptied : List Single
 emptied = opens 1 8192 ∷ opens 2 8192 ∷ opens 3 8192 ∷ opens 4 8192 ∷ opens 5 8192 ∷ opens 6 8192 ∷ opens 7 8192 ∷ opens 8 8192
-    ∷ record! 1 (rec 1 100) ∷ record! 2 (rec 1 100) ∷ record! 3 (rec 1 100) ∷ record! 4 (rec 1 100) ∷ record! 5 (rec 1 100) ∷ record! 6 (rec 1 100) ∷ record! 7 (rec 1 100) ∷ record! 8 (rec 1 100)
+    ∷ record! 1 (rec 1 100) ∷ record! 2 (rec 1 100) ∷ record! 3 (rec 1 100) ∷ record! 4 (rec 1 100) ∷ record! 5 (rec 1 100) ∷ record! 6 (rec 1 100) ∷ record! 7
+    (rec 1 100) ∷ record! 8 (rec 1 100)
     ∷ record! 5 (rec 2 100) ∷ record! 6 (rec 2 100) ∷ record! 7 (rec 2 100) ∷ record! 8 (rec 2 100)
     ∷ serve! ∷ serve! ∷ serve! ∷ serve! ∷ close! 1 ∷ close! 2 ∷ close! 3 ∷ close! 4 ∷ []
 
@@ -87,7 +91,9 @@ atThree = play (fresh 100) (take 8 worked)
 
 -- a block of class 1 renamed while it is queued, while its slot is open, and twice
 unfoldable pub renames : List Single
-renames = record! 1 (rec 1 40) ∷ record! 1 (rec 2 20) ∷ record! 1 (rec 3 64) ∷ rename! 1 2 ∷ serve! ∷ rename! 2 3 ∷ serve! ∷ rename! 3 4 ∷ record! 4 (rec 4 9) ∷ serve! ∷ []
+renames =
+    record! 1 (rec 1 40) ∷ record! 1 (rec 2 20) ∷ record! 1 (rec 3 64) ∷ rename! 1 2 ∷ serve! ∷ rename! 2 3 ∷ serve! ∷ rename! 3 4 ∷ record! 4
+    (rec 4 9) ∷ serve! ∷ []
 
 -- a board whose clock is late: one block of class 16 waits, with ready time 2^62
 abbrev late : Board
@@ -110,7 +116,8 @@ pub record Computed : Type 0 where
   pub workedBytes : bytesIn (fresh 100) worked ≡ 460
   -- the open at 12 is refused, and at 13; at 16 it is granted
   pub holdsFour : (play (fresh 100) emptied .clock ≡ 12) × (play (fresh 100) emptied .held 3 ≡ 32768) × (sum (heldOf 3) (holds [] (fresh 100) emptied) ≡ 32768)
-  pub holdAnswers : answers (play (fresh 100) emptied) thenOpened ≡ gives 8 ∷ out 5 1 100 12 ∷ gives 8 ∷ out 6 1 100 13 ∷ out 7 1 100 14 ∷ out 8 1 100 15 ∷ gives 0 ∷ []
+  pub holdAnswers : answers (play (fresh 100) emptied) thenOpened
+      ≡ gives 8 ∷ out 5 1 100 12 ∷ gives 8 ∷ out 6 1 100 13 ∷ out 7 1 100 14 ∷ out 8 1 100 15 ∷ gives 0 ∷ []
   -- a lane that empties leaves no deficit
   pub emptiedDeficit : at (play (fresh 64) (opens 1 32768 ∷ record! 1 (rec 1 40) ∷ serve! ∷ [])) 0 .deficit ≡ 0
   -- slot clocks 2 2 4 4: a dropped fraction gives 2 2 4 6
@@ -131,7 +138,8 @@ pub record Computed : Type 0 where
   -- none is pending at clock 3, and the least ready time is the next start of the lowest active class
   pub nonePending : (atThree .slot ≡ none) × (allBelow 17 (λ k. not (pending atThree k)) ≡ true) × (leastReady (atThree .places) ≡ some 4)
   -- a block's story through three renames: each record leaves under the number of that moment, one still stands in the lane
-  pub renamedAnswers : answers (step (fresh 64) (opens 1 32768) .next) renames ≡ took ∷ took ∷ took ∷ gives 0 ∷ out 2 1 40 2 ∷ gives 0 ∷ out 3 2 20 2 ∷ gives 0 ∷ took ∷ out 4 3 64 4 ∷ []
+  pub renamedAnswers : answers (step (fresh 64) (opens 1 32768) .next) renames
+      ≡ took ∷ took ∷ took ∷ gives 0 ∷ out 2 1 40 2 ∷ gives 0 ∷ out 3 2 20 2 ∷ gives 0 ∷ took ∷ out 4 3 64 4 ∷ []
   pub renamedStory : story (begins 1) (step (fresh 64) (opens 1 32768) .next) renames
       ≡ record { number = 4; taken = rec 1 40 ∷ rec 2 20 ∷ rec 3 64 ∷ rec 4 9 ∷ []; sent = rec 1 40 ∷ rec 2 20 ∷ rec 3 64 ∷ []; closed = false }
   -- the clock is spent for the late board
@@ -139,7 +147,10 @@ pub record Computed : Type 0 where
   pub lateAnswer : answer late serve! ≡ gives 11
 
 pub computed : Computed
-unfolding answers worked emptied thenOpened fraction filled tight waiting renames story allBelow numbersApart lengthsIn count allPlaces ordersListed neverFalling unspoilt Start play bytesIn slotsIn holds stillHeld Unsent NotSpent servesIn least nextStart classOf framing charged largestCharge creditOf sum below charge ringEntry ringOn laneDepth laneFirst entry onward someWait anyDue spent fresh whereIs upd takenIn takeRecord release leastReady settle ended sendFrom send lowest begin serveBy serve freeAt openBlock renameBlock quiet closed closeBlock step
+unfolding answers worked emptied thenOpened fraction filled tight waiting renames story allBelow numbersApart lengthsIn count allPlaces ordersListed
+    neverFalling unspoilt Start play bytesIn slotsIn holds stillHeld Unsent NotSpent servesIn least nextStart classOf framing charged largestCharge creditOf sum
+    below charge ringEntry ringOn laneDepth laneFirst entry onward someWait anyDue spent fresh whereIs upd takenIn takeRecord release leastReady settle ended
+    sendFrom send lowest begin serveBy serve freeAt openBlock renameBlock quiet closed closeBlock step
 computed =
     record {
       workedLog = refl;

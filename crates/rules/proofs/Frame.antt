@@ -66,7 +66,9 @@ framed-ended b p x o orders = record {
   size = refl;
   high = λ s. record {
     noOrder = orders s;
-    noHeld = λ k h. cond-zero (isNone (leastReady (set (b .places) p x))) (release (b .clock) (suc (b .clock)) (b .held) k) (release-zero (b .clock) (suc (b .clock)) (b .held) k (s .noHeld k h));
+    noHeld =
+        λ k h. cond-zero (isNone (leastReady (set (b .places) p x))) (release (b .clock) (suc (b .clock)) (b .held) k)
+        (release-zero (b .clock) (suc (b .clock)) (b .held) k (s .noHeld k h));
   };
 }
 
@@ -84,14 +86,19 @@ framed-closed : (b : Board) (p : ℕ) → Framed b (closed b p)
 unfolding closed
 framed-closed b p = record { size = refl; high = λ s. record { noOrder = s .noOrder; noHeld = λ k h. go k h (s .noHeld k h) (quiet b) } }
   where
-    go : (k : ℕ) → 17 ≤ k → b .held k ≡ 0 → (t : Bool) → cond t (b .held) (upd (b .held) (blockClass (at b p)) (b .held (blockClass (at b p)) + at b p .share)) k ≡ 0
+    go : (k : ℕ) → 17 ≤ k → b .held k ≡ 0 → (t : Bool)
+        → cond t (b .held) (upd (b .held) (blockClass (at b p)) (b .held (blockClass (at b p)) + at b p .share)) k ≡ 0
     go k h e true = e
     go k h e false = upd-class (b .held) (at b p) (b .held (blockClass (at b p)) + at b p .share) k 0 h e
 
 framed-taken : (b : Board) (p : ℕ) (r : Record) → Framed b (takenIn b p r)
 unfolding takenIn
 framed-taken b p r = framed-cond b (leb (length (at b p .lane)) 0) (joining b p x) (goOn b p (more (at b p) r))
-    (record { size = refl; high = λ s. record { noOrder = λ k h. upd-class (b .orders) x (b .orders (blockClass x) ++ (p ∷ [])) k [] h (s .noOrder k h); noHeld = s .noHeld } })
+    (record {
+      size = refl;
+      high =
+          λ s. record { noOrder = λ k h. upd-class (b .orders) x (b .orders (blockClass x) ++ (p ∷ [])) k [] h (s .noOrder k h); noHeld = s .noHeld };
+    })
     (framed-goOn b p (more (at b p) r))
   where
     x : Place
@@ -102,7 +109,8 @@ unfolding sendFrom
 framed-send b p =
     framed-cond b (leb (length (x .lane)) 1) _ _ (framed-ended b p (emptied x) (b .orders) (λ s. s .noOrder))
     (framed-cond b (ltb (leftAfter x) (charge (getD (drop 1 (x .lane)) 0 noRecord) * 65536)) _ _
-    (framed-ended b p (short (b .clock) x) (upd (b .orders) (blockClass x) (b .orders (blockClass x) ++ (p ∷ []))) (λ s k h. upd-class (b .orders) x (b .orders (blockClass x) ++ (p ∷ [])) k [] h (s .noOrder k h)))
+    (framed-ended b p (short (b .clock) x) (upd (b .orders) (blockClass x) (b .orders (blockClass x) ++ (p ∷ [])))
+    (λ s k h. upd-class (b .orders) x (b .orders (blockClass x) ++ (p ∷ [])) k [] h (s .noOrder k h)))
     (framed-goOn b p (going x)))
   where
     x : Place

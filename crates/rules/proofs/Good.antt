@@ -18,7 +18,8 @@ use Rattle.rules.specs.Blocks.{Opening, opened}
 use Rattle.rules.proofs.Line.{Seat, free, SeatOk, Bought, Lowest, off}
 use Rattle.rules.proofs.Steps.{Sound, begin-sound, tick-sound, jump-sound, join-sound, open-sound, close-sound, idle-sound, joined, Holds}
 use Rattle.rules.proofs.Orders.{pl, ready, map-set, upd-same, upd-other}
-use Rattle.rules.proofs.Shape.{LeastIs, least-is, PlaceOk, Distinct, Shape, names-set, release-le, release-kept, Chosen, shape-same, joinedAs, shape-join, shape-clock, settle-le, shape-begin, shape-other, free-ok}
+use Rattle.rules.proofs.Shape.{LeastIs, least-is, PlaceOk, Distinct, Shape, names-set, release-le, release-kept, Chosen, shape-same, joinedAs}
+use Rattle.rules.proofs.Shape.{shape-join, shape-clock, settle-le, shape-begin, shape-other, free-ok}
 
 abbrev pub seatOf : Place → Seat
 seatOf x = record { share = x .share; ord = isQueued (x .stand); ready = readyNum (x .stand) }
@@ -46,7 +47,8 @@ pub record Fine (L c d : ℕ) (l : List Place) (o : ℕ → List ℕ) (H : ℕ �
   pub sound : Sound (seats l) H c d
 
 -- a change that the orders and the clock don't see
-pub fine-same : {L c d : ℕ} {l : List Place} {o : ℕ → List ℕ} {H : ℕ → ℕ} (p : ℕ) (x : Place) → p < length l → seatOf x ≡ seatOf (pl l p) → Distinct (set l p x) → PlaceOk L x
+pub fine-same : {L c d : ℕ} {l : List Place} {o : ℕ → List ℕ} {H : ℕ → ℕ} (p : ℕ) (x : Place) → p < length l → seatOf x ≡ seatOf (pl l p) → Distinct (set l p x)
+    → PlaceOk L x
     → Fine L c d l o H → Fine L c d (set l p x) o H
 fine-same {L} {c} {d} {l} {o} {H} p x h e dis new f =
     record {
@@ -69,16 +71,25 @@ fine-join {L} {c} {d} {l} {o} {H} p start lane owed h d1 was one new f =
 pub fine-tick : {L c : ℕ} {l : List Place} {o : ℕ → List ℕ} {H : ℕ → ℕ} → Fine L c 1 l o H → Fine L (suc c) 0 l o (settle l (release c (suc c) H))
 unfolding settle LeastIs
 fine-tick {L} {c} {l} {o} {H} f =
-    record { shape = shape-clock (suc c) (settle l (release c (suc c) H)) (omega arith) (settle-le c (suc c) l H) (f .shape); sound = go (leastReady l) (least-is l) }
+    record {
+      shape = shape-clock (suc c) (settle l (release c (suc c) H)) (omega arith) (settle-le c (suc c) l H) (f .shape);
+      sound =
+          go (leastReady l) (least-is l);
+    }
   where
     go : (r : Option ℕ) → LeastIs l r → Sound (seats l) (λ j. cond (isNone r) 0 (release c (suc c) H j)) (suc c) 0
-    go none e = idle-sound (seats l) (λ j. 0) (suc c) 0 (λ i. rw (seat-at l i) (e i)) (omega (arith, f .sound .bought, below-le (λ j. 0) H 17 (λ j a. omega arith)))
+    go none e =
+        idle-sound (seats l) (λ j. 0) (suc c) 0 (λ i. rw (seat-at l i) (e i)) (omega (arith, f .sound .bought, below-le (λ j. 0) H 17 (λ j a. omega arith)))
     go (some r) e = tick-sound (seats l) H (release c (suc c) H) c (f .sound) (release-kept c (suc c) H) (release-le c (suc c) H)
 
 pub fine-jump : {L c : ℕ} {l : List Place} {o : ℕ → List ℕ} {H : ℕ → ℕ} (t : ℕ) → c ≤ t → ((i : ℕ) → isQueued (pl l i .stand) ≡ true → t ≤ ready l i)
     → Fine L c 0 l o H → Fine L t 0 l o (release c t H)
 fine-jump {L} {c} {l} {o} {H} t h first f =
-    record { shape = shape-clock t (release c t H) h (release-le c t H) (f .shape); sound = jump-sound (seats l) H (release c t H) c t h firsts (f .sound) (release-le c t H) }
+    record {
+      shape = shape-clock t (release c t H) h (release-le c t H) (f .shape);
+      sound =
+          jump-sound (seats l) H (release c t H) c t h firsts (f .sound) (release-le c t H);
+    }
   where
     firsts : (i : ℕ) → (getD (seats l) i free) .ord ≡ true → t ≤ (getD (seats l) i free) .ready
     firsts i e = rw (seat-at l i) (first i (rw (seat-at l i) at e))
@@ -99,12 +110,14 @@ fine-begin {L} {c} {l} {o} {H} k p ch f =
     sound = rw (seat-at l p) at (begin-sound (seats l) H c p (f .sound) low)
 
 -- OPEN
-pub fine-open : {L c d : ℕ} {l : List Place} {o : ℕ → List ℕ} {H : ℕ → ℕ} (p : ℕ) (w : Opening) → p < length l → seatOf (pl l p) ≡ free → Distinct (set l p (opened w)) → PlaceOk L (opened w)
+pub fine-open : {L c d : ℕ} {l : List Place} {o : ℕ → List ℕ} {H : ℕ → ℕ} (p : ℕ) (w : Opening) → p < length l → seatOf (pl l p) ≡ free
+    → Distinct (set l p (opened w)) → PlaceOk L (opened w)
     → sum (λ x. x .share) l + below H 17 + w .share ≤ 65536 → Fine L c d l o H → Fine L c d (set l p (opened w)) o H
 fine-open {L} {c} {d} {l} {o} {H} p w h was dis new room f =
     record {
       shape = shape-other p x H h (ap (λ (t : Seat). t .ord) was) refl dis new (omega arith) (f .shape);
-      sound = rw (map-set seatOf l p x) (open-sound (seats l) H c d p (w .share) (rw (length-seats l) h) (seat-at l p ∙ was) (rw (sum-seats l) room) (f .sound));
+      sound =
+          rw (map-set seatOf l p x) (open-sound (seats l) H c d p (w .share) (rw (length-seats l) h) (seat-at l p ∙ was) (rw (sum-seats l) room) (f .sound));
     }
   where
     x : Place
@@ -118,8 +131,12 @@ pub fine-close : {L c d : ℕ} {l : List Place} {o : ℕ → List ℕ} {H : ℕ 
     → Fine L c d l o H → Fine L c d (set l p freePlace) o (upd H (blockClass (pl l p)) (H (blockClass (pl l p)) + pl l p .share))
 fine-close {L} {c} {d} {l} {o} {H} p h was f =
     record {
-      shape = shape-other p freePlace H′ h was refl (names-free l p h (f .shape .names)) (free-ok L (f .shape .least)) (omega (arith, f .shape .spent, below-one H′ H 17 k (omega (arith, class-le (pl l p .share))) (holds .there), holds .here)) (f .shape);
-      sound = rw (map-set seatOf l p freePlace) (close-sound (seats l) H H′ c d p (rw (length-seats l) h) (rw (seat-at l p) was) (rw (seat-at l p) holds) (f .sound));
+      shape =
+          shape-other p freePlace H′ h was refl (names-free l p h (f .shape .names)) (free-ok L (f .shape .least))
+          (omega (arith, f .shape .spent, below-one H′ H 17 k (omega (arith, class-le (pl l p .share))) (holds .there), holds .here)) (f .shape);
+      sound =
+          rw (map-set seatOf l p freePlace)
+          (close-sound (seats l) H H′ c d p (rw (length-seats l) h) (rw (seat-at l p) was) (rw (seat-at l p) holds) (f .sound));
     }
   where
     k : ℕ
@@ -136,7 +153,9 @@ pub fine-close-quiet : {L c d : ℕ} {l : List Place} {o : ℕ → List ℕ} {H 
     → Fine L c d l o H → Fine L c d (set l p freePlace) o H
 fine-close-quiet {L} {c} {d} {l} {o} {H} p h was f =
     record {
-      shape = shape-other p freePlace H h (was p) refl (names-free l p h (f .shape .names)) (free-ok L (f .shape .least)) (omega (arith, f .shape .spent)) (f .shape);
+      shape =
+          shape-other p freePlace H h (was p) refl (names-free l p h (f .shape .names)) (free-ok L (f .shape .least)) (omega (arith, f .shape .spent))
+          (f .shape);
       sound = rw (map-set seatOf l p freePlace) (idle-sound (set (seats l) p free) H c d none less);
     }
   where

@@ -43,7 +43,8 @@ release-twice c d e H k a b = go (split (nextStart k c) d)
     zero! true = refl
     zero! false = refl
 
-    go : (nextStart k c ≤ d) ⊎ (d < nextStart k c) → cond (leb (nextStart k d) e) 0 (cond (leb (nextStart k c) d) 0 (H k)) ≡ cond (leb (nextStart k c) e) 0 (H k)
+    go : (nextStart k c ≤ d) ⊎ (d < nextStart k c)
+        → cond (leb (nextStart k d) e) 0 (cond (leb (nextStart k c) d) 0 (H k)) ≡ cond (leb (nextStart k c) e) 0 (H k)
     go (inl h) = rw (leb-yes (nextStart k c) d h, leb-yes (nextStart k c) e (omega arith)) (zero! (leb (nextStart k d) e))
     go (inr h) = rw (leb-no (nextStart k c) d h, next-stay k c d a h)
 
@@ -88,7 +89,8 @@ module _ (c s j : ℕ) where
       go : Dec (k ≡ j) → cond (leb (nextStart k c) d) 0 (upd H j (H j + s) k) ≡ sum (live d k) hs + cond (ltb d (nextStart j c)) (cond (eqb k j) s 0) 0
       go (yes e) = rw (e, upd-same H j (H j + s), eqb-yes j j refl) (by (split (nextStart j c) d) (rw e at (a d h k)))
         where
-          by : (nextStart j c ≤ d) ⊎ (d < nextStart j c) → cond (leb (nextStart j c) d) 0 (H j) ≡ sum (live d j) hs → cond (leb (nextStart j c) d) 0 (H j + s) ≡ sum (live d j) hs + cond (ltb d (nextStart j c)) s 0
+          by : (nextStart j c ≤ d) ⊎ (d < nextStart j c) → cond (leb (nextStart j c) d) 0 (H j) ≡ sum (live d j) hs
+              → cond (leb (nextStart j c) d) 0 (H j + s) ≡ sum (live d j) hs + cond (ltb d (nextStart j c)) s 0
           by (inl l) q = rw (leb-yes (nextStart j c) d l, leb-no (suc d) (nextStart j c) (omega arith)) (omega (arith, rw (leb-yes (nextStart j c) d l) at q))
           by (inr l) q = rw (leb-no (nextStart j c) d l, leb-yes (suc d) (nextStart j c) l) (omega (arith, rw (leb-no (nextStart j c) d l) at q))
       go (no e) = rw (upd-other H j (H j + s) k e, eqb-no k j e) (a d h k ∙ none! (ltb d (nextStart j c)))
@@ -105,7 +107,8 @@ kept-live b w [] d k h = refl
 kept-live b w (x ∷ xs) d k h = go (split (x .until) (b .clock)) (kept-live b w xs d k h)
   where
     go : (x .until ≤ b .clock) ⊎ (b .clock < x .until) → sum (live d k) (stillHeld b xs) ≡ sum (live d k) xs
-        → sum (live d k) (cond (ltb (b .clock) (x .until) && someWait (b .places)) (x ∷ stillHeld b xs) (stillHeld b xs)) ≡ cond (ltb d (x .until)) (heldOf k x) 0 + sum (live d k) xs
+        → sum (live d k) (cond (ltb (b .clock) (x .until) && someWait (b .places)) (x ∷ stillHeld b xs) (stillHeld b xs))
+        ≡ cond (ltb d (x .until)) (heldOf k x) 0 + sum (live d k) xs
     go (inl l) r = rw (leb-no (suc (b .clock)) (x .until) (omega arith), leb-no (suc d) (x .until) (omega arith)) (omega arith)
     go (inr l) r = rw (leb-yes (suc (b .clock)) (x .until) l, w) (omega arith)
 
@@ -135,7 +138,8 @@ all-live b (x ∷ xs) k = go (ltb (b .clock) (x .until)) refl (someWait (b .plac
 -- where some block waits and no slot is open, one is in an order
 waits-ordered : (b : Board) → Tidy b → b .slot ≡ none → someWait (b .places) ≡ true → isNone (leastReady (b .places)) ≡ false
 unfolding quiet
-waits-ordered b g e w = go (isNone (leastReady (b .places))) (sym (some-quiet b g ∙ ap (λ (s : Option ℕ). not (isNone s && isNone (leastReady (b .places)))) e) ∙ w)
+waits-ordered b g e w =
+    go (isNone (leastReady (b .places))) (sym (some-quiet b g ∙ ap (λ (s : Option ℕ). not (isNone s && isNone (leastReady (b .places)))) e) ∙ w)
   where
     go : (t : Bool) → not t ≡ true → t ≡ false
     go true f = absurd (false≢true f)
@@ -148,11 +152,14 @@ settle-same l H e = λ i k. each k i
     each : (k : ℕ) → cond (isNone (leastReady l)) 0 (H k) ≡ H k
     each k = rw e
 
-ended-agrees : (c : ℕ) (H : ℕ → ℕ) (l : List Place) (hs : List Hold) → isNone (leastReady l) ≡ false → Agrees c H hs → Agrees (suc c) (settle l (release c (suc c) H)) hs
-ended-agrees c H l hs e a d h k = ap (λ (F : ℕ → ℕ). release (suc c) d F k) (settle-same l (release c (suc c) H) e) ∙ agrees-move c (suc c) H hs (omega arith) a d h k
+ended-agrees : (c : ℕ) (H : ℕ → ℕ) (l : List Place) (hs : List Hold) → isNone (leastReady l) ≡ false → Agrees c H hs
+    → Agrees (suc c) (settle l (release c (suc c) H)) hs
+ended-agrees c H l hs e a d h k =
+    ap (λ (F : ℕ → ℕ). release (suc c) d F k) (settle-same l (release c (suc c) H) e) ∙ agrees-move c (suc c) H hs (omega arith) a d h k
 
 -- a send: the slot goes on, or it ends, and what is due is released
-send-agrees : (m : Board) (p : ℕ) (hs : List Hold) → Tidy (sendFrom m p) → Agrees (m .clock) (m .held) hs → someWait (sendFrom m p .places) ≡ true → Agrees (sendFrom m p .clock) (sendFrom m p .held) hs
+send-agrees : (m : Board) (p : ℕ) (hs : List Hold) → Tidy (sendFrom m p) → Agrees (m .clock) (m .held) hs → someWait (sendFrom m p .places) ≡ true
+    → Agrees (sendFrom m p .clock) (sendFrom m p .held) hs
 unfolding sendFrom ended
 send-agrees m p hs g a w =
     go (leb (length (at m p .lane)) 1) refl (ltb (leftAfter (at m p)) (charge (getD (drop 1 (at m p .lane)) 0 noRecord) * 65536)) refl
@@ -163,12 +170,17 @@ send-agrees m p hs g a w =
     next : Bool → Bool → Board
     next t u = cond t (ended m p (emptied (at m p)) (m .orders)) (cond u (ended m p (short (m .clock) (at m p)) o′) (goOn m p (going (at m p))))
 
-    over : (y : Place) (o : ℕ → List ℕ) → Tidy (ended m p y o) → someWait (set (m .places) p y) ≡ true → Agrees (suc (m .clock)) (settle (set (m .places) p y) (release (m .clock) (suc (m .clock)) (m .held))) hs
+    over : (y : Place) (o : ℕ → List ℕ) → Tidy (ended m p y o) → someWait (set (m .places) p y) ≡ true
+        → Agrees (suc (m .clock)) (settle (set (m .places) p y) (release (m .clock) (suc (m .clock)) (m .held))) hs
     over y o t v d h k = ended-agrees (m .clock) (m .held) (set (m .places) p y) hs (waits-ordered (ended m p y o) t refl v) a d h k
 
     go : (t : Bool) → leb (length (at m p .lane)) 1 ≡ t → (u : Bool) → ltb (leftAfter (at m p)) (charge (getD (drop 1 (at m p .lane)) 0 noRecord) * 65536) ≡ u
-        → Agrees (cond (leb (length (at m p .lane)) 1) (ended m p (emptied (at m p)) (m .orders)) (cond (ltb (leftAfter (at m p)) (charge (getD (drop 1 (at m p .lane)) 0 noRecord) * 65536)) (ended m p (short (m .clock) (at m p)) o′) (goOn m p (going (at m p)))) .clock)
-        (cond (leb (length (at m p .lane)) 1) (ended m p (emptied (at m p)) (m .orders)) (cond (ltb (leftAfter (at m p)) (charge (getD (drop 1 (at m p .lane)) 0 noRecord) * 65536)) (ended m p (short (m .clock) (at m p)) o′) (goOn m p (going (at m p)))) .held) hs
+        → Agrees (cond (leb (length (at m p .lane)) 1) (ended m p (emptied (at m p)) (m .orders))
+        (cond (ltb (leftAfter (at m p)) (charge (getD (drop 1 (at m p .lane)) 0 noRecord) * 65536)) (ended m p (short (m .clock) (at m p)) o′)
+        (goOn m p (going (at m p)))) .clock)
+        (cond (leb (length (at m p .lane)) 1) (ended m p (emptied (at m p)) (m .orders))
+        (cond (ltb (leftAfter (at m p)) (charge (getD (drop 1 (at m p .lane)) 0 noRecord) * 65536)) (ended m p (short (m .clock) (at m p)) o′)
+        (goOn m p (going (at m p)))) .held) hs
     go true e u f = rw e (over (emptied (at m p)) (m .orders) (rw e at g) (rw e at w))
     go false e true f = rw (e, f) (over (short (m .clock) (at m p)) o′ (rw (e, f) at g) (rw (e, f) at w))
     go false e false f = rw (e, f) a
@@ -199,7 +211,8 @@ module _ (b : Board) (hs : List Hold) (g : Tidy b) (a : Agrees (b .clock) (b .he
       k : ℕ
       k = blockClass (at b p)
 
-      go : (t : Bool) → Agrees (b .clock) (cond t (b .held) (upd (b .held) k (b .held k + at b p .share))) (hs ++ cond (not t) (record { share = at b p .share; class = k; until = nextStart k (b .clock) } ∷ []) [])
+      go : (t : Bool) → Agrees (b .clock) (cond t (b .held) (upd (b .held) k (b .held k + at b p .share)))
+          (hs ++ cond (not t) (record { share = at b p .share; class = k; until = nextStart k (b .clock) } ∷ []) [])
       go true = as-was
       go false = agrees-close (b .clock) (at b p .share) k (b .held) hs a
 
@@ -207,7 +220,8 @@ module _ (b : Board) (hs : List Hold) (g : Tidy b) (a : Agrees (b .clock) (b .he
   unfolding takenIn
   steps-take p n r c w = go (leb (length (at b p .lane)) 0)
     where
-      go : (t : Bool) → Agrees (cond t (joining b p (joins (b .clock) (at b p) r)) (goOn b p (more (at b p) r)) .clock) (cond t (joining b p (joins (b .clock) (at b p) r)) (goOn b p (more (at b p) r)) .held) (hs ++ [])
+      go : (t : Bool) → Agrees (cond t (joining b p (joins (b .clock) (at b p) r)) (goOn b p (more (at b p) r)) .clock)
+          (cond t (joining b p (joins (b .clock) (at b p) r)) (goOn b p (more (at b p) r)) .held) (hs ++ [])
       go true = as-was
       go false = as-was
 
@@ -224,10 +238,14 @@ module _ (b : Board) (hs : List Hold) (g : Tidy b) (a : Agrees (b .clock) (b .he
   })
     where
       begins : (r t p : ℕ) → Begins b r t p → p ≡ chosen b t → Steps serve! (send true (begin b t) p)
-      begins r t p c e w = rw (append-nil hs) (send-agrees (begin b t) p hs (tidy-send (begin b t) p (begin-slot b t ∙ ap some (sym e)) gb) (begin-agrees b t hs (omega (arith, c .time)) a) w)
+      begins r t p c e w =
+          rw (append-nil hs) (send-agrees (begin b t) p hs (tidy-send (begin b t) p (begin-slot b t ∙ ap some (sym e)) gb)
+          (begin-agrees b t hs (omega (arith, c .time)) a) w)
         where
           gb : Tidy (begin b t)
-          gb = subst (λ (z : ℕ). Tidy (begin b z)) (sym (c .time)) (tidy-begin b r (c .slot) (subst (LeastIs (b .places)) (c .least) (least-is (b .places))) (rw (← c .time) (c .soon)) g)
+          gb =
+              subst (λ (z : ℕ). Tidy (begin b z)) (sym (c .time))
+              (tidy-begin b r (c .slot) (subst (LeastIs (b .places)) (c .least) (least-is (b .places))) (rw (← c .time) (c .soon)) g)
 
 -- ---- over a row of calls
 
@@ -235,7 +253,8 @@ pub record HeldIs (b : Board) (hs : List Hold) : Type 0 where
   pub agrees : Agrees (b .clock) (b .held) hs
   pub alive : (k : ℕ) → sum (live (b .clock) k) hs ≡ sum (heldOf k) hs
 
-held-step : (b : Board) (hs : List Hold) (x : Single) → Tidy b → HeldIs b hs → HeldIs (step b x .next) (stillHeld (step b x .next) (hs ++ closing b x (answer b x)))
+held-step : (b : Board) (hs : List Hold) (x : Single) → Tidy b → HeldIs b hs
+    → HeldIs (step b x .next) (stillHeld (step b x .next) (hs ++ closing b x (answer b x)))
 held-step b hs x g h = record { agrees = go (someWait (nb .places)) refl; alive = all-live nb new }
   where
     nb : Board
@@ -258,7 +277,8 @@ held-step b hs x g h = record { agrees = go (someWait (nb .places)) refl; alive 
 pub held-row : (b : Board) (hs : List Hold) (xs : List Single) → Tidy b → HeldIs b hs → (k : ℕ) → play b xs .held k ≡ sum (heldOf k) (holds hs b xs)
 unfolding play holds
 held-row b hs [] g h k = agrees-now (b .clock) (b .held) hs (h .agrees) k ∙ h .alive k
-held-row b hs (x ∷ xs) g h k = held-row (step b x .next) (stillHeld (step b x .next) (hs ++ closing b x (answer b x))) xs (tidy-step b x g) (held-step b hs x g h) k
+held-row b hs (x ∷ xs) g h k =
+    held-row (step b x .next) (stillHeld (step b x .next) (hs ++ closing b x (answer b x))) xs (tidy-step b x g) (held-step b hs x g h) k
 
 pub held-fresh : (L : ℕ) → HeldIs (fresh L) []
 unfolding fresh sum

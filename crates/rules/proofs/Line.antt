@@ -91,9 +91,12 @@ tick-seat k c s ok = go (split (class s) k) (s .ord) refl
     was l t = let z : nextStart (class s) c - c - 1 ≡ 0 = omega (arith, next-suc (class s) c t) in rw (room-in k c 1 s l, z) (mul-zero (s .share))
 
     now : class s ≤ k → 1 ≤ s .share → Start (class s) (suc c) → 65536 ≤ room k (suc c) 0 s
-    now l h t = let z : nextStart (class s) (suc c) - suc c - 0 ≡ 2 ^ class s = omega (arith, next-at (class s) (suc c) t) in rw (room-in k (suc c) 0 s l, z) (class-lo (s .share) h)
+    now l h t =
+        let z : nextStart (class s) (suc c) - suc c - 0 ≡ 2 ^ class s = omega (arith, next-at (class s) (suc c) t) in
+        rw (room-in k (suc c) 0 s l, z) (class-lo (s .share) h)
 
-    on : class s ≤ k → s .ord ≡ true → (s .ready ≤ c) ⊎ (c < s .ready) → (s .ready ≤ suc c) ⊎ (suc c < s .ready) → 65536 * pend k (suc c) s + room k c 1 s ≤ room k (suc c) 0 s + 65536 * pend k c s
+    on : class s ≤ k → s .ord ≡ true → (s .ready ≤ c) ⊎ (c < s .ready) → (s .ready ≤ suc c) ⊎ (suc c < s .ready)
+        → 65536 * pend k (suc c) s + room k c 1 s ≤ room k (suc c) 0 s + 65536 * pend k c s
     on l e (inl a) (inl b) = omega (arith, more l, pend-yes k c s e a l, pend-yes k (suc c) s e b l)
     on l e (inl a) (inr b) = omega arith
     on l e (inr a) (inr b) = omega (arith, more l, pend-late k (suc c) s b)
@@ -128,10 +131,18 @@ tick-held c H H′ kept j = go (split (nextStart j c) (suc c))
     go (inr l) = rw (kept j l) (mul-le-mul-left (H j) (omega (arith, next-mono j c (suc c) (omega arith))))
 
 pub tick-fits : (l : List Seat) (H H′ : ℕ → ℕ) (c k : ℕ) → ((i : ℕ) → Ok c 1 (getD l i free)) → Kept c (suc c) H H′ → Fits l H c 1 k → Fits l H′ (suc c) 0 k
-tick-fits l H H′ c k ok kept b = omega (arith, trade, below-le (hroom c 1 H) (hroom (suc c) 0 H′) (suc k) (λ j _. tick-held c H H′ kept j), sum-mul 65536 (pend k (suc c)) l, sum-mul 65536 (pend k c) l)
+tick-fits l H H′ c k ok kept b =
+    omega (
+      arith,
+      trade,
+      below-le (hroom c 1 H) (hroom (suc c) 0 H′) (suc k) (λ j _. tick-held c H H′ kept j),
+      sum-mul 65536 (pend k (suc c)) l,
+      sum-mul 65536 (pend k c) l,
+    )
   where
     trade : sum (λ s. 65536 * pend k (suc c) s) l + sum (room k c 1) l ≤ sum (room k (suc c) 0) l + sum (λ s. 65536 * pend k c s) l
-    trade = sum-trade (λ s. 65536 * pend k c s) (room k c 1) (λ s. 65536 * pend k (suc c) s) (room k (suc c) 0) free l (λ i. tick-seat k c (getD l i free) (ok i))
+    trade =
+        sum-trade (λ s. 65536 * pend k c s) (room k c 1) (λ s. 65536 * pend k (suc c) s) (room k (suc c) 0) free l (λ i. tick-seat k c (getD l i free) (ok i))
 
 -- BEGIN: the block leaves its order
 abbrev pub off : Seat → Seat
@@ -151,7 +162,8 @@ begin-seat k c s = go (split (class s) k)
     go : (class s ≤ k) ⊎ (k < class s) → room k c 0 s ≤ room k c 1 s + s .share
     go (inr h) = omega (arith, room-high k c 0 s h)
     go (inl h) = rw (room-in k c 0 s h, room-in k c 1 s h)
-        (let n : nextStart (class s) c - c - 0 ≡ suc (nextStart (class s) c - c - 1) = omega (arith, next-gt (class s) c) in rw n (omega (arith, mul-suc (s .share) (nextStart (class s) c - c - 1))))
+        (let n : nextStart (class s) c - c - 0 ≡ suc (nextStart (class s) c - c - 1) = omega (arith, next-gt (class s) c) in
+        rw n (omega (arith, mul-suc (s .share) (nextStart (class s) c - c - 1))))
 
 pub begin-held : (c : ℕ) (H : ℕ → ℕ) (j : ℕ) → hroom c 0 H j ≤ hroom c 1 H j + H j
 unfolding hroom
@@ -185,10 +197,17 @@ begin-fits l H c p k k16 bought low b = go (split (class (getD l p free)) k)
     h = in-reach l p (low .isIn)
 
     held : below (hroom c 0 H) (suc k) ≤ below (hroom c 1 H) (suc k) + below H 17
-    held = omega (arith, below-le (hroom c 0 H) (λ j. hroom c 1 H j + H j) (suc k) (λ j _. begin-held c H j), below-add (hroom c 1 H) H (suc k), below-mono H (suc k) 17 (omega arith))
+    held =
+        omega (
+          arith,
+          below-le (hroom c 0 H) (λ j. hroom c 1 H j + H j) (suc k) (λ j _. begin-held c H j),
+          below-add (hroom c 1 H) H (suc k),
+          below-mono H (suc k) 17 (omega arith),
+        )
 
     seats : sum (room k c 0) l ≤ sum (room k c 1) l + sum (λ s. s .share) l
-    seats = omega (arith, sum-le (room k c 0) (λ s. room k c 1 s + s .share) free l (λ i. begin-seat k c (getD l i free)), sum-add (room k c 1) (λ s. s .share) l)
+    seats =
+        omega (arith, sum-le (room k c 0) (λ s. room k c 1 s + s .share) free l (λ i. begin-seat k c (getD l i free)), sum-add (room k c 1) (λ s. s .share) l)
 
     none : k < class (getD l p free) → (i : ℕ) → pend k c (getD l i free) ≡ 0
     none a i = each (getD l i free .ord) refl (split (getD l i free .ready) c) (split (class (getD l i free)) k)
@@ -235,13 +254,20 @@ deadline l H c i b ok e = record { bought = ok e .bought; start = ok e .start; s
 
     late : s .ready ≤ c → (nextStart k c ≤ suc c) ⊎ (suc c < nextStart k c) → suc c < nextStart k c
     late a (inr h) = h
-    late a (inl h) = absurd (omega (arith, b k (class-le (s .share)), room-none l H c k h, pend-yes k c s e a (le-refl k), sum-at (pend k c) free l i (in-reach l i e)))
+    late a (inl h) =
+        absurd (omega (arith, b k (class-le (s .share)), room-none l H c k h, pend-yes k c s e a (le-refl k), sum-at (pend k c) free l i (in-reach l i e)))
 
     go : (s .ready ≤ c) ⊎ (c < s .ready) → c + 1 < s .ready + 2 ^ k
     go (inr a) = omega (arith, pow-pos k)
-    go (inl a) = omega (arith, late a (split (nextStart k c) (suc c)), next-least k c (s .ready + 2 ^ k) (start-add k (s .ready) (ok e .start)) (omega (arith, ok e .fresh)))
+    go (inl a) =
+        omega (
+          arith,
+          late a (split (nextStart k c) (suc c)),
+          next-least k c (s .ready + 2 ^ k) (start-add k (s .ready) (ok e .start)) (omega (arith, ok e .fresh)),
+        )
 
-pub ok-other : (l : List Seat) (c d p : ℕ) (s : Seat) → p < length l → ((i : ℕ) → Ok c d (getD l i free)) → Ok c d s → (i : ℕ) → Ok c d (getD (set l p s) i free)
+pub ok-other : (l : List Seat) (c d p : ℕ) (s : Seat) → p < length l → ((i : ℕ) → Ok c d (getD l i free)) → Ok c d s → (i : ℕ)
+    → Ok c d (getD (set l p s) i free)
 ok-other l c d p s h ok new i = go (ℕ-discrete i p)
   where
     go : Dec (i ≡ p) → Ok c d (getD (set l p s) i free)

@@ -28,7 +28,8 @@ serve-live b p g w = serve-turns b (λ u. (u .out ≡ refused 11) ⊎ (isSent (u
     stop code (late r e l h) = inl refl
 
 -- while a block waits, a serve that isn't given 11 sends at least a byte
-try-one : (b : Board) (x : Single) (p : ℕ) → Good b → inLine (at b p .stand) ≡ true → eqb (codeOf (answer b x)) 11 ≡ false → oneIf (isServe x) ≤ bytesSent (step b x .out)
+try-one : (b : Board) (x : Single) (p : ℕ) → Good b → inLine (at b p .stand) ≡ true → eqb (codeOf (answer b x)) 11 ≡ false
+    → oneIf (isServe x) ≤ bytesSent (step b x .out)
 unfolding step
 try-one b (open! o) p g w h = omega arith
 try-one b (close! n) p g w h = omega arith
@@ -43,7 +44,8 @@ try-one b serve! p g w h = go (serve-live b p g w)
     go (inl e) = absurd (true≢false (sym (ap (λ (o : Out). eqb (codeOf (told b o)) 11) e) ∙ h))
     go (inr e) = keeps-step b serve! g .some! (rw same e)
 
-pub serves-bytes : (b : Board) (xs : List Single) (p : ℕ) → Good b → inLine (at b p .stand) ≡ true → UnsentAt p b xs → NotSpent b xs → servesIn xs ≤ sentBytes b xs
+pub serves-bytes : (b : Board) (xs : List Single) (p : ℕ) → Good b → inLine (at b p .stand) ≡ true → UnsentAt p b xs → NotSpent b xs
+    → servesIn xs ≤ sentBytes b xs
 unfolding sentBytes UnsentAt NotSpent servesIn
 serves-bytes b [] p g w u n = omega arith
 serves-bytes b (x ∷ xs) p g w u n = omega (arith, try-one b x p g w (n .0), serves-bytes (step b x .next) xs p (k .good) (k .stays p w (u .0) .0) (u .1) (n .1))
@@ -52,6 +54,8 @@ serves-bytes b (x ∷ xs) p g w u n = omega (arith, try-one b x p g w (n .0), se
     k = keeps-step b x g
 
 -- a record at the front is sent within limit + 1 serves, unless one of them is given 11
-pub bound-serves : (b : Board) (x : Single) (after : List Single) (p : ℕ) → Good b → ToFront b x p → UnsentAt p (step b x .next) after → NotSpent (step b x .next) after
+pub bound-serves : (b : Board) (x : Single) (after : List Single) (p : ℕ) → Good b → ToFront b x p → UnsentAt p (step b x .next) after
+    → NotSpent (step b x .next) after
     → servesIn after ≤ limit (step b x .next .largest) (blockClass (at (step b x .next) p))
-bound-serves b x after p g f u n = omega (arith, bound-good b x after p g f u, serves-bytes (step b x .next) after p (keeps-step b x g .good) (front-waits b x p g f) u n)
+bound-serves b x after p g f u n =
+    omega (arith, bound-good b x after p g f u, serves-bytes (step b x .next) after p (keeps-step b x g .good) (front-waits b x p g f) u n)

@@ -13,7 +13,8 @@ use Rattle.base.specs.Tests.{least}
 use Rattle.base.proofs.Tests.{least-false}
 use Rattle.base.proofs.Numbers.{split, leb-yes, eqb-yes, eqb-no, eqb-true, true-le}
 use Rattle.rules.specs.Board.{Record, Place, freePlace, Board, at, isOpen, charge, noRecord, blockClass, Has}
-use Rattle.rules.specs.Choice.{done, Sending, sending, sent, Turn, refuse, Found, openAt, unknown, foundAt, find, byFound, whereIs, someHas, goOn, more, joins, joining, takenIn}
+use Rattle.rules.specs.Choice.{done, Sending, sending, sent, Turn, refuse, Found, openAt, unknown, foundAt, find, byFound, whereIs, someHas, goOn, more}
+use Rattle.rules.specs.Choice.{joins, joining, takenIn}
 use Rattle.rules.specs.Choice.{emptied, short, going, started, ended, sendFrom, send, begin, chosen, upd, leftAfter, refused, tookAt}
 use Rattle.rules.specs.Blocks.{Opening, opened, freeAt, renamed, closed}
 use Rattle.rules.specs.Calls.{Single, open!, rename!, close!, record!, serve!, step, gives, takes, told}
@@ -75,12 +76,16 @@ same-name b p n q m g h k = go (ℕ-discrete p q)
 
 -- ---- what no send changes
 
-module _ {A : Type 0} (f : Place → A) (byEmptied : (x : Place) → f (emptied x) ≡ f x) (byShort : (t : ℕ) (x : Place) → f (short t x) ≡ f x) (byGoing : (x : Place) → f (going x) ≡ f x) (byStarted : (L : ℕ) (x : Place) → f (started L x) ≡ f x) where
+module _ {A : Type 0} (f : Place → A) (byEmptied : (x : Place) → f (emptied x) ≡ f x) (byShort : (t : ℕ) (x : Place) → f (short t x) ≡ f x)
+    (byGoing : (x : Place) → f (going x) ≡ f x) (byStarted : (L : ℕ) (x : Place) → f (started L x) ≡ f x) where
   pub kept-send : (b : Board) (p q : ℕ) → p < length (b .places) → f (at (sendFrom b p) q) ≡ f (at b q)
   unfolding sendFrom ended
   kept-send b p q h = go (leb (length (at b p .lane)) 1) (ltb (leftAfter (at b p)) (charge (getD (drop 1 (at b p .lane)) 0 noRecord) * 65536))
     where
-      go : (t u : Bool) → f (at (cond t (ended b p (emptied (at b p)) (b .orders)) (cond u (ended b p (short (b .clock) (at b p)) (upd (b .orders) (blockClass (at b p)) (b .orders (blockClass (at b p)) ++ (p ∷ [])))) (goOn b p (going (at b p))))) q) ≡ f (at b q)
+      go : (t u : Bool) → f
+          (at (cond t (ended b p (emptied (at b p)) (b .orders))
+          (cond u (ended b p (short (b .clock) (at b p)) (upd (b .orders) (blockClass (at b p)) (b .orders (blockClass (at b p)) ++ (p ∷ []))))
+          (goOn b p (going (at b p))))) q) ≡ f (at b q)
       go true u = set-field f (b .places) p (emptied (at b p)) h (byEmptied (at b p)) q
       go false true = set-field f (b .places) p (short (b .clock) (at b p)) h (byShort (b .clock) (at b p)) q
       go false false = set-field f (b .places) p (going (at b p)) h (byGoing (at b p)) q
@@ -144,13 +149,29 @@ module _ (b : Board) (p n : ℕ) (g : Tidy b) (h : Has b p n) where
   }
 
   follow-open : (o : Opening) → CanOpen b o → Follows b p n (open! o) (record { out = done; next = goOn b (freeAt b) (opened o) })
-  follow-open o c = record { stays = λ _. (same _ (ap (λ (x : Place). x .number) else) (ap (λ (x : Place). x .share) else), ap (λ (x : Place). x .share) else); ends = λ e. absurd (false≢true e); sent = refl; took = refl }
+  follow-open o c =
+      record {
+        stays = λ _. (same _ (ap (λ (x : Place). x .number) else) (ap (λ (x : Place). x .share) else), ap (λ (x : Place). x .share) else);
+        ends =
+            λ e. absurd (false≢true e);
+        sent = refl;
+        took = refl;
+      }
     where
       else : pl (set (b .places) (freeAt b) (opened o)) p ≡ at b p
       else = getD-set-other (b .places) (freeAt b) p (opened o) freePlace (λ e. omega (arith, h .bought, c .free, ap (λ (z : ℕ). at b z .share) e))
 
   follow-rename : (q old new : ℕ) → CanRename b q old new → Follows b p n (rename! old new) (record { out = done; next = goOn b q (renamed new (at b q)) })
-  follow-rename q old new c = record { stays = λ _. (rw (same-name b p n q old g h (c .has)) (go (ℕ-discrete p q)), set-field (λ (x : Place). x .share) (b .places) q (renamed new (at b q)) inQ refl p); ends = λ e. absurd (false≢true e); sent = refl; took = refl }
+  follow-rename q old new c =
+      record {
+        stays = λ _. (
+          rw (same-name b p n q old g h (c .has)) (go (ℕ-discrete p q)),
+          set-field (λ (x : Place). x .share) (b .places) q (renamed new (at b q)) inQ refl p,
+        );
+        ends = λ e. absurd (false≢true e);
+        sent = refl;
+        took = refl;
+      }
     where
       inQ : q < length (b .places)
       inQ = omega (arith, c .has .inside, g .shape .all64)
@@ -162,7 +183,13 @@ module _ (b : Board) (p n : ℕ) (g : Tidy b) (h : Has b p n) where
       share = set-field (λ (x : Place). x .share) (b .places) q (renamed new (at b q)) inQ refl p
 
       go : Dec (p ≡ q) → Has nb p (cond (eqb p q) new n)
-      go (yes e) = rw (eqb-yes p q e) (record { inside = h .inside; bought = rw share (h .bought); named = ap (λ (z : ℕ). at nb z .number) e ∙ ap (λ (x : Place). x .number) (getD-set-same (b .places) q (renamed new (at b q)) freePlace inQ) })
+      go (yes e) =
+          rw (eqb-yes p q e) (record {
+            inside = h .inside;
+            bought = rw share (h .bought);
+            named =
+                ap (λ (z : ℕ). at nb z .number) e ∙ ap (λ (x : Place). x .number) (getD-set-same (b .places) q (renamed new (at b q)) freePlace inQ);
+          })
       go (no e) = rw (eqb-no p q e) (same nb (ap (λ (x : Place). x .number) (getD-set-other (b .places) q p (renamed new (at b q)) freePlace e)) share)
 
   follow-close : (q m : ℕ) → CanClose b q m → Follows b p n (close! m) (record { out = done; next = closed b q })
@@ -179,11 +206,27 @@ module _ (b : Board) (p n : ℕ) (g : Tidy b) (h : Has b p n) where
           else = getD-set-other (b .places) q p freePlace freePlace (λ f. true≢false (sym (eqb-yes p q f) ∙ sym name ∙ e))
 
       ends : eqb n m ≡ true → (length (at b p .lane) ≡ 0) × (length (pl (set (b .places) q freePlace) p .lane) ≡ 0) × (false ≡ false)
-      ends e = let f = eqb-true p q (sym name ∙ e) in (ap (λ (z : ℕ). length (at b z .lane)) f ∙ c .empty, ap (λ (z : ℕ). length (pl (set (b .places) q freePlace) z .lane)) f ∙ ap (λ (x : Place). length (x .lane)) (getD-set-same (b .places) q freePlace freePlace (omega (arith, c .has .inside, g .shape .all64))), refl)
+      ends e =
+          let f = eqb-true p q (sym name ∙ e) in (
+            ap (λ (z : ℕ). length (at b z .lane)) f ∙ c .empty,
+            ap (λ (z : ℕ). length (pl (set (b .places) q freePlace) z .lane)) f
+                ∙ ap (λ (x : Place). length (x .lane)) (getD-set-same (b .places) q freePlace freePlace (omega (arith, c .has .inside, g .shape .all64))),
+            refl,
+          )
 
   follow-take : (q m : ℕ) (r : Record) → CanTake b q m r → Follows b p n (record! m r) (tookAt b q r)
   unfolding takenIn
-  follow-take q m r c = record { stays = λ _. (same (takenIn b q r) (keeps (λ x. x .number) (λ y. refl) (λ y. refl)) (keeps (λ x. x .share) (λ y. refl) (λ y. refl)), keeps (λ x. x .share) (λ y. refl) (λ y. refl)); ends = λ e. absurd (false≢true e); sent = refl; took = rw (same-name b p n q m g h (c .has), has-where b q m g (c .has)) }
+  follow-take q m r c =
+      record {
+        stays = λ _. (
+          same (takenIn b q r) (keeps (λ x. x .number) (λ y. refl) (λ y. refl)) (keeps (λ x. x .share) (λ y. refl) (λ y. refl)),
+          keeps (λ x. x .share) (λ y. refl) (λ y. refl),
+        );
+        ends = λ e. absurd (false≢true e);
+        sent = refl;
+        took =
+            rw (same-name b p n q m g h (c .has), has-where b q m g (c .has));
+      }
     where
       inQ : q < length (b .places)
       inQ = omega (arith, c .has .inside, g .shape .all64)
@@ -215,6 +258,14 @@ module _ (b : Board) (p n : ℕ) (g : Tidy b) (h : Has b p n) where
     renames = follow-rename;
     closes = follow-close;
     takes = follow-take;
-    goesOn = λ q c. let i : q < length (b .places) = omega (arith, c .inside, g .shape .all64) in follow-send (sending false b q) (c .inside) (c .bought) _ (kept-send (λ x. x .number) (λ x. refl) (λ t x. refl) (λ x. refl) (λ L x. refl) b q p i) (kept-send (λ x. x .share) (λ x. refl) (λ t x. refl) (λ x. refl) (λ L x. refl) b q p i);
-    begins = λ r t q c e. let i : chosen b t < length (b .places) = omega (arith, c .inside, g .shape .all64, e) in subst (λ (z : ℕ). Follows b p n serve! (send true (begin b t) z)) (sym e) (follow-send (sending true (begin b t) (chosen b t)) (rw (← e) (c .inside)) (rw (← e) (c .bought)) _ (kept-begun (λ x. x .number) (λ x. refl) (λ t x. refl) (λ x. refl) (λ L x. refl) b t p i) (kept-begun (λ x. x .share) (λ x. refl) (λ t x. refl) (λ x. refl) (λ L x. refl) b t p i));
+    goesOn =
+        λ q c. let i : q < length (b .places) = omega (arith, c .inside, g .shape .all64) in
+        follow-send (sending false b q) (c .inside) (c .bought) _ (kept-send (λ x. x .number) (λ x. refl) (λ t x. refl) (λ x. refl) (λ L x. refl) b q p i)
+        (kept-send (λ x. x .share) (λ x. refl) (λ t x. refl) (λ x. refl) (λ L x. refl) b q p i);
+    begins =
+        λ r t q c e. let i : chosen b t < length (b .places) = omega (arith, c .inside, g .shape .all64, e) in
+        subst (λ (z : ℕ). Follows b p n serve! (send true (begin b t) z)) (sym e)
+        (follow-send (sending true (begin b t) (chosen b t)) (rw (← e) (c .inside)) (rw (← e) (c .bought)) _
+        (kept-begun (λ x. x .number) (λ x. refl) (λ t x. refl) (λ x. refl) (λ L x. refl) b t p i)
+        (kept-begun (λ x. x .share) (λ x. refl) (λ t x. refl) (λ x. refl) (λ L x. refl) b t p i));
   })

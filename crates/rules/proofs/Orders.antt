@@ -46,7 +46,8 @@ not-both : (b : Bool) (j k m : ℕ) → j ≢ k → b && eqb k m ≡ true → b 
 not-both false j k m n e = refl
 not-both true j k m n e = eqb-no j m (λ f. n (f ∙ sym (eqb-true k m e)))
 
-pub listed-same : (l : List Place) (o : ℕ → List ℕ) (p : ℕ) (x : Place) → p < length l → ((k : ℕ) → inClass k x ≡ inClass k (pl l p)) → Listed l o → Listed (set l p x) o
+pub listed-same : (l : List Place) (o : ℕ → List ℕ) (p : ℕ) (x : Place) → p < length l → ((k : ℕ) → inClass k x ≡ inClass k (pl l p)) → Listed l o
+    → Listed (set l p x) o
 listed-same l o p x h e li k q = go (ℕ-discrete q p)
   where
     go : Dec (q ≡ p) → count q (o k) ≡ oneIf (inClass k (pl (set l p x) q))
@@ -70,7 +71,9 @@ listed-join l o p x h was is li k q = go (ℕ-discrete k (blockClass x)) (ℕ-di
     none = rw (li k p, was)
 
     go : Dec (k ≡ blockClass x) → Dec (q ≡ p) → count q (o′ k) ≡ oneIf (inClass k (pl (set l p x) q))
-    go (yes a) (yes b) = rw (a, b, getD-set-same l p x freePlace h, is, eqb-yes (blockClass x) (blockClass x) refl) (omega (arith, here p, rw a at none, ap oneIf (eqb-yes p p refl)))
+    go (yes a) (yes b) =
+        rw (a, b, getD-set-same l p x freePlace h, is, eqb-yes (blockClass x) (blockClass x) refl)
+        (omega (arith, here p, rw a at none, ap oneIf (eqb-yes p p refl)))
     go (yes a) (no b) = rw (a, getD-set-other l p q x freePlace b) (omega (arith, here q, li (blockClass x) q, ap oneIf (eqb-no q p b)))
     go (no a) (yes b) = rw (there a, b, getD-set-same l p x freePlace h, is, eqb-no k (blockClass x) a) none
     go (no a) (no b) = rw (there a, getD-set-other l p q x freePlace b) (li k q)
@@ -88,7 +91,8 @@ listed-leave l o k p ps x h first is li j q = go (ℕ-discrete j k) (ℕ-discret
     isIn = oneIf-true (inClass k (pl l p)) (omega (arith, whole p, ap oneIf (eqb-yes p p refl)))
 
     go : Dec (j ≡ k) → Dec (q ≡ p) → count q (upd o k ps j) ≡ oneIf (inClass j (pl (set l p x) q))
-    go (yes a) (yes b) = rw (a, b, upd-same o k ps, getD-set-same l p x freePlace h, is) (omega (arith, whole p, ap oneIf (eqb-yes p p refl), oneIf-le (inClass k (pl l p))))
+    go (yes a) (yes b) =
+        rw (a, b, upd-same o k ps, getD-set-same l p x freePlace h, is) (omega (arith, whole p, ap oneIf (eqb-yes p p refl), oneIf-le (inClass k (pl l p))))
     go (yes a) (no b) = rw (a, upd-same o k ps, getD-set-other l p q x freePlace b) (omega (arith, whole q, ap oneIf (eqb-no q p b)))
     go (no a) (yes b) = rw (upd-other o k ps j a, b, getD-set-same l p x freePlace h, is) (rw (other a) at (li j p))
       where
@@ -107,7 +111,8 @@ Rising l (p ∷ ps) = ((q : ℕ) → 1 ≤ count q ps → ready l p ≤ ready l 
 pub rising-ext : (l l′ : List Place) (ps : List ℕ) → ((q : ℕ) → 1 ≤ count q ps → ready l′ q ≡ ready l q) → Rising l ps → Rising l′ ps
 unfolding Rising count
 rising-ext l l′ [] e r = tt
-rising-ext l l′ (p ∷ ps) e r = (λ q h. rw (e q (omega arith), e p (omega (arith, ap oneIf (eqb-yes p p refl)))) (r .0 q h), rising-ext l l′ ps (λ q h. e q (omega arith)) (r .1))
+rising-ext l l′ (p ∷ ps) e r =
+    (λ q h. rw (e q (omega arith), e p (omega (arith, ap oneIf (eqb-yes p p refl)))) (r .0 q h), rising-ext l l′ ps (λ q h. e q (omega arith)) (r .1))
 
 pub rising-snoc : (l : List Place) (ps : List ℕ) (p : ℕ) → ((q : ℕ) → 1 ≤ count q ps → ready l q ≤ ready l p) → Rising l ps → Rising l (ps ++ (p ∷ []))
 unfolding Rising count
@@ -182,7 +187,8 @@ due-any l t q (p ∷ ps) h i r = go (due-any l t q ps) (ℕ-discrete q p)
     or-right true = refl
     or-right false = refl
 
-    go : (1 ≤ count q ps → isQueued (pl l q .stand) ≡ true → ready l q ≤ t → anyDue l t ps ≡ true) → Dec (q ≡ p) → dueBy t (pl l p .stand) || anyDue l t ps ≡ true
+    go : (1 ≤ count q ps → isQueued (pl l q .stand) ≡ true → ready l q ≤ t → anyDue l t ps ≡ true) → Dec (q ≡ p)
+        → dueBy t (pl l p .stand) || anyDue l t ps ≡ true
     go f (yes e) = rw (← e, ready-due t (pl l q .stand) i r)
     go f (no e) = rw (f (omega (arith, ap oneIf (eqb-no q p e))) i r) (or-right (dueBy t (pl l p .stand)))
 

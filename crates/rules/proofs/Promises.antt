@@ -13,7 +13,9 @@ use Rattle.rules.specs.Burst.{burst}
 use Rattle.rules.specs.Spoilt.{spoilt, unspoilt}
 use Rattle.rules.specs.Calls.{Single, step, Call, one, burst!, told, codeOf, done!, serve! }
 use Rattle.rules.specs.Runs.{play, singles, leaves, runs, row, bytesIn, servesIn, slotBytes, classAt}
-use Rattle.rules.specs.Promises.{OfRun, RunIsRow, RefusalKeeps, BurstRefusalKeeps, RefusedMaking, StaysUnspoilt, NeverSpoilt, Conserved, ByteBound, SentInTime, ServesSend, SlotOnce, NeverTwice, BurstIsServes, DeficitsSmall, SlotsSmall, JumpIsStart, HeldAreClosings, ServeRefusals, SendsTell, bound}
+use Rattle.rules.specs.Promises.{OfRun, RunIsRow, RefusalKeeps, BurstRefusalKeeps, RefusedMaking, StaysUnspoilt, NeverSpoilt, Conserved, ByteBound}
+use Rattle.rules.specs.Promises.{SentInTime, ServesSend, SlotOnce, NeverTwice, BurstIsServes, DeficitsSmall, SlotsSmall, JumpIsStart, HeldAreClosings}
+use Rattle.rules.specs.Promises.{ServeRefusals, SendsTell, bound}
 use Rattle.rules.proofs.Turns.{Good, most}
 use Rattle.rules.proofs.Run.{good-fresh, good-play}
 use Rattle.rules.proofs.Tidy.{Tidy}
@@ -76,7 +78,8 @@ leaves-row b (burst! bytes list) = burst-serves b bytes (length list) .next
 pub run-is-row : RunIsRow
 unfolding runs row play
 run-is-row b [] = refl
-run-is-row b (c ∷ cs) = run-is-row (leaves b c) cs ∙ ap (λ (z : Board). play z (row (leaves b c) cs)) (leaves-row b c) ∙ play-join b (singles b c) (row (leaves b c) cs)
+run-is-row b (c ∷ cs) =
+    run-is-row (leaves b c) cs ∙ ap (λ (z : Board). play z (row (leaves b c) cs)) (leaves-row b c) ∙ play-join b (singles b c) (row (leaves b c) cs)
 
 -- ---- demand 1
 
@@ -91,15 +94,29 @@ refused-making-keeps = refused-making
 
 pub stays-unspoilt : StaysUnspoilt
 stays-unspoilt b (one x) h e = (spoilt-not (step b x .next) (unspoilt-step b x h (unspoilt-not b e)), seventeen-step b x h)
-stays-unspoilt b (burst! bytes list) h e = (spoilt-not (burst b bytes (length list) .next) (unspoilt-burst b bytes (length list) h (unspoilt-not b e)), rw (burst-serves b bytes (length list) .next) (seventeen-play b (replicate (burst b bytes (length list) .count) serve!) h))
+stays-unspoilt b (burst! bytes list) h e = (
+  spoilt-not (burst b bytes (length list) .next) (unspoilt-burst b bytes (length list) h (unspoilt-not b e)),
+  rw (burst-serves b bytes (length list) .next) (seventeen-play b (replicate (burst b bytes (length list) .count) serve!) h),
+)
 
 -- the codes of a call on a board of a run
 codes : (b : Board) → Tidy b → (c : Call) → (codeOf (done! b c .answer) ≢ 3) × (codeOf (done! b c .answer) ≢ 2)
 unfolding send
-codes b g (burst! bytes list) = (λ e. stop-else (burst b bytes (length list) .code) (burst-codes b bytes (length list)) (inl e), λ e. stop-else (burst b bytes (length list) .code) (burst-codes b bytes (length list)) (inr e))
+codes b g (burst! bytes list) = (
+  λ e. stop-else (burst b bytes (length list) .code) (burst-codes b bytes (length list)) (inl e),
+  λ e. stop-else (burst b bytes (length list) .code) (burst-codes b bytes (length list)) (inr e),
+)
 codes b g (one x) =
     call-cases b g (λ x u. (codeOf (told b (u .out)) ≢ 3) × (codeOf (told b (u .out)) ≢ 2))
-    (record { refused = refusal; opens = λ o c. done0; renames = λ p old new c. done0; closes = λ p n c. done0; takes = λ p n r c. done0; goesOn = λ p c. done0; begins = λ r t p c e. done0 }) x
+    (record {
+      refused = refusal;
+      opens = λ o c. done0;
+      renames = λ p old new c. done0;
+      closes = λ p n c. done0;
+      takes = λ p n r c. done0;
+      goesOn = λ p c. done0;
+      begins = λ r t p c e. done0;
+    }) x
   where
     done0 : ((_≡_ {A = ℕ} 0 3) → ⊥) × ((_≡_ {A = ℕ} 0 2) → ⊥)
     done0 = (λ e. omega arith, λ e. omega arith)
@@ -124,10 +141,13 @@ largest-next : (L : ℕ) (b : Board) (x : Single) → OfRun L b → step b x .ne
 largest-next L b x r = size-step b x ∙ size L b r
 
 pub byte-bound : ByteBound
-byte-bound L b r n x after c u = subst (λ (z : ℕ). bytesIn (step b x .next) after ≤ bound z (classAt (step b x .next) n)) (largest-next L b x r) (bytes-bound b n x after (tidy L b r) (good L b r) c u)
+byte-bound L b r n x after c u =
+    subst (λ (z : ℕ). bytesIn (step b x .next) after ≤ bound z (classAt (step b x .next) n)) (largest-next L b x r)
+    (bytes-bound b n x after (tidy L b r) (good L b r) c u)
 
 pub sent-in-time : SentInTime
-sent-in-time L b r n x after c u s = subst (λ (z : ℕ). servesIn after ≤ bound z (classAt (step b x .next) n)) (largest-next L b x r) (serves-bound b n x after (tidy L b r) (good L b r) c u s)
+sent-in-time L b r n x after c u s =
+    subst (λ (z : ℕ). servesIn after ≤ bound z (classAt (step b x .next) n)) (largest-next L b x r) (serves-bound b n x after (tidy L b r) (good L b r) c u s)
 
 pub serves-send : ServesSend
 serves-send L b r w = serve-sends b (tidy L b r) w

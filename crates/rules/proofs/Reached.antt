@@ -30,9 +30,13 @@ use Rattle.rules.proofs.Cases.{MayBegin, least-of, other-cases, serve-t
 -- THE CLOCK never goes back
 up-send : (b : Board) (p : ℕ) → b .clock ≤ sendFrom b p .clock
 unfolding sendFrom ended
-up-send b p = go (leb (length (at b p .lane)) 1) (ltb (leftOf (at b p .stand) - charge (front (at b p)) * 65536) (charge (getD (drop 1 (at b p .lane)) 0 noRecord) * 65536))
+up-send b p =
+    go (leb (length (at b p .lane)) 1)
+    (ltb (leftOf (at b p .stand) - charge (front (at b p)) * 65536) (charge (getD (drop 1 (at b p .lane)) 0 noRecord) * 65536))
   where
-    go : (t u : Bool) → b .clock ≤ cond t (ended b p (emptied (at b p)) (b .orders)) (cond u (ended b p (short (b .clock) (at b p)) (upd (b .orders) (blockClass (at b p)) (b .orders (blockClass (at b p)) ++ (p ∷ [])))) (goOn b p (going (at b p)))) .clock
+    go : (t u : Bool) → b .clock ≤ cond t (ended b p (emptied (at b p)) (b .orders))
+        (cond u (ended b p (short (b .clock) (at b p)) (upd (b .orders) (blockClass (at b p)) (b .orders (blockClass (at b p)) ++ (p ∷ []))))
+        (goOn b p (going (at b p)))) .clock
     go true u = omega arith
     go false true = omega arith
     go false false = le-refl (b .clock)
@@ -65,7 +69,9 @@ clock-up b = other-cases b (λ x u. b .clock ≤ u .next .clock) (record {
 
 -- A SEND FROM p: its slot was open, or it begins now, not before the clock and before the end of its interval
 abbrev Sends : Board → Turn → ℕ → Type 0
-Sends b t p = ((isNone (b .slot) ≡ false) × (isServing (at b p .stand) ≡ true)) ⊎ ((isNone (b .slot) ≡ true) × (b .clock ≤ slotClock (t .out)) × (slotClock (t .out) < dueOf b p + 2 ^ blockClass (at b p)))
+Sends b t p =
+    ((isNone (b .slot) ≡ false) × (isServing (at b p .stand) ≡ true))
+    ⊎ ((isNone (b .slot) ≡ true) × (b .clock ≤ slotClock (t .out)) × (slotClock (t .out) < dueOf b p + 2 ^ blockClass (at b p)))
 
 and-no : (u : Bool) → u && false ≡ false
 and-no true = refl
@@ -74,7 +80,16 @@ and-no false = refl
 begin-clock : (b : Board) (r p : ℕ) → Good b → b .slot ≡ none → LeastIs (b .places) (some r) → p ≡ getD (b .orders (lowest b (max (b .clock) r))) 0 0
     → (b .clock ≤ begin b (max (b .clock) r) .clock) × (begin b (max (b .clock) r) .clock < dueOf b p + 2 ^ blockClass (at b p))
 unfolding begin LeastIs lowest
-begin-clock b r p g e li q = (omega arith, omega (arith, li .0 p isQ, due-queued (b .clock) (at b p .share) (at b p .stand) isQ, due-ok b p g (queued-waits (at b p .stand) isQ) .2, pow-pos (blockClass (at b p))))
+begin-clock b r p g e li q = (
+  omega arith,
+  omega (
+    arith,
+    li .0 p isQ,
+    due-queued (b .clock) (at b p .share) (at b p .stand) isQ,
+    due-ok b p g (queued-waits (at b p .stand) isQ) .2,
+    pow-pos (blockClass (at b p)),
+  ),
+)
   where
     ch : Chosen (b .places) (b .orders) (max (b .clock) r) (lowest b (max (b .clock) r)) (getD (b .orders (lowest b (max (b .clock) r))) 0 0)
     ch = choose (b .places) (b .orders) (max (b .clock) r) r (g .fine .shape .listed) (g .fine .shape .rising) li (omega arith)
@@ -96,7 +111,8 @@ sends b c p g = other-cases b (λ x u. fromPlace p (u .out) ≡ true → Sends b
     (λ q e f. inl (ap isNone e, g .one p ∙ ap (isAt p) e ∙ f))
     begins) c
   where
-    begins : (r : ℕ) → MayBegin b r → eqb p (chosen b (max (b .clock) r)) ≡ true → Sends b (send true (begin b (max (b .clock) r)) (chosen b (max (b .clock) r))) p
+    begins : (r : ℕ) → MayBegin b r → eqb p (chosen b (max (b .clock) r)) ≡ true
+        → Sends b (send true (begin b (max (b .clock) r)) (chosen b (max (b .clock) r))) p
     begins r m f =
         let w = begin-clock b r p g (m .slot) (least-of b r (m .least)) (eqb-true p (chosen b (max (b .clock) r)) f) in
         inr (ap isNone (m .slot), w .0, w .1)
@@ -106,13 +122,15 @@ counts : (lo k t : ℕ) (c : Bool) → c ≡ true → lo ≤ t → t < lo + 2 ^ 
 counts lo k t c e a b = rw (e, leb-yes lo t a, leb-yes (suc t) (lo + 2 ^ k) b)
 
 -- once the clock is in the interval and the block still has its slot to come, it has it before the interval ends, and before it stops waiting
-comes-from : (b : Board) (xs : List Single) (p k lo : ℕ) → Good b → lo ≤ b .clock → inLine (at b p .stand) ≡ true → dueOf b p ≤ lo → blockClass (at b p) ≡ k → Keeping p b xs
+comes-from : (b : Board) (xs : List Single) (p k lo : ℕ) → Good b → lo ≤ b .clock → inLine (at b p .stand) ≡ true → dueOf b p ≤ lo → blockClass (at b p) ≡ k
+    → Keeping p b xs
     → (lo + 2 ^ k ≤ play b xs .clock) ⊎ (inLine (at (play b xs) p .stand) ≡ false)
     → 1 ≤ slotsAt lo (lo + 2 ^ k) p b xs
 unfolding play slotsAt Keeping
 comes-from b [] p k lo g c w d e kp (inl h) = absurd (omega (arith, due-ok b p g w .2, ap (λ (j : ℕ). 2 ^ j) e))
 comes-from b [] p k lo g c w d e kp (inr h) = absurd (true≢false (sym w ∙ h))
-comes-from b (x ∷ xs) p k lo g c w d e kp h = go (fromPlace p (step b x .out)) refl (comes-from (step b x .next) xs p k lo (ks .good) (omega (arith, clock-up b x)))
+comes-from b (x ∷ xs) p k lo g c w d e kp h =
+    go (fromPlace p (step b x .out)) refl (comes-from (step b x .next) xs p k lo (ks .good) (omega (arith, clock-up b x)))
   where
     ks : Keeps b (step b x)
     ks = keeps-step b x g
@@ -122,7 +140,8 @@ comes-from b (x ∷ xs) p k lo g c w d e kp h = go (fromPlace p (step b x .out))
 
     go : (f : Bool) → fromPlace p (step b x .out) ≡ f
         → (inLine (at (step b x .next) p .stand) ≡ true → dueOf (step b x .next) p ≤ lo → blockClass (at (step b x .next) p) ≡ k → Keeping p (step b x .next) xs
-        → (lo + 2 ^ k ≤ play (step b x .next) xs .clock) ⊎ (inLine (at (play (step b x .next) xs) p .stand) ≡ false) → 1 ≤ slotsAt lo (lo + 2 ^ k) p (step b x .next) xs)
+        → (lo + 2 ^ k ≤ play (step b x .next) xs .clock) ⊎ (inLine (at (play (step b x .next) xs) p .stand) ≡ false)
+        → 1 ≤ slotsAt lo (lo + 2 ^ k) p (step b x .next) xs)
         → 1 ≤ oneIf (begun b (step b x) p && leb lo t && leb (suc t) (lo + 2 ^ k)) + slotsAt lo (lo + 2 ^ k) p (step b x .next) xs
     go false f rest =
         let s = ks .stays p w f in
@@ -133,12 +152,18 @@ comes-from b (x ∷ xs) p k lo g c w d e kp h = go (fromPlace p (step b x .out))
       where
         by : Sends b (step b x) p → 1 ≤ oneIf (begun b (step b x) p && leb lo t && leb (suc t) (lo + 2 ^ k)) + slotsAt lo (lo + 2 ^ k) p (step b x .next) xs
         by (inl s) = absurd (omega (arith, d, due-serving (b .clock) (at b p .share) (at b p .stand) (s .1), next-gt (blockClass (at b p)) (b .clock)))
-        by (inr s) = omega (arith, counts lo k t (begun b (step b x) p) (ap₂ (λ (u v : Bool). u && v) (s .0) f) (omega (arith, s .1)) (omega (arith, s .2, ap (λ (j : ℕ). 2 ^ j) e)))
+        by (inr s) =
+            omega (
+              arith,
+              counts lo k t (begun b (step b x) p) (ap₂ (λ (u v : Bool). u && v) (s .0) f) (omega (arith, s .1))
+                  (omega (arith, s .2, ap (λ (j : ℕ). 2 ^ j) e)),
+            )
 
--- THE CALL x BRINGS THE CLOCK TO THE START lo, or past it, and p waits when it gets there: p waits before x; and it waits after x too, or x began p's slot at lo or later
--- (where x ends another slot, or p's own, the clock gets to lo when the record is sent: then p must wait after x).
+-- THE CALL x BRINGS THE CLOCK TO THE START lo, or past it, and p waits when it gets there: p waits before x; and it waits after x too, or x
+-- began p's slot at lo or later (where x ends another slot, or p's own, the clock gets to lo when the record is sent: then p must wait after x).
 -- By the time the clock reaches the end of the interval, or p stops waiting, p has begun exactly one slot in it.
-pub slot-when-reached : (b : Board) (x : Single) (xs : List Single) (p lo : ℕ) → Good b → Start (blockClass (at b p)) lo → b .clock < lo → lo ≤ step b x .next .clock
+pub slot-when-reached : (b : Board) (x : Single) (xs : List Single) (p lo : ℕ) → Good b → Start (blockClass (at b p)) lo → b .clock < lo
+    → lo ≤ step b x .next .clock
     → inLine (at b p .stand) ≡ true → (inLine (at (step b x .next) p .stand) ≡ true) ⊎ ((begun b (step b x) p ≡ true) × (lo ≤ slotClock (step b x .out)))
     → Keeping p b (x ∷ xs) → (lo + 2 ^ blockClass (at b p) ≤ play b (x ∷ xs) .clock) ⊎ (inLine (at (play b (x ∷ xs)) p .stand) ≡ false)
     → slotsAt lo (lo + 2 ^ blockClass (at b p)) p b (x ∷ xs) ≡ 1
@@ -154,7 +179,8 @@ slot-when-reached b x xs p lo g m before after w how kp end = omega (arith, neve
     t : ℕ
     t = slotClock (step b x .out)
 
-    ok : (Start (blockClass (at b p)) (dueOf b p)) × (dueOf b p ≤ nextStart (blockClass (at b p)) (b .clock)) × (b .clock + busy (b .slot) < dueOf b p + 2 ^ blockClass (at b p))
+    ok : (Start (blockClass (at b p)) (dueOf b p)) × (dueOf b p ≤ nextStart (blockClass (at b p)) (b .clock))
+        × (b .clock + busy (b .slot) < dueOf b p + 2 ^ blockClass (at b p))
     ok = due-ok b p g w
 
     early : dueOf b p ≤ lo
@@ -167,7 +193,8 @@ slot-when-reached b x xs p lo g m before after w how kp end = omega (arith, neve
     goal : Type 0
     goal = 1 ≤ oneIf (begun b (step b x) p && leb lo t && leb (suc t) (lo + 2 ^ k)) + slotsAt lo (lo + 2 ^ k) p (step b x .next) xs
 
-    least! : (inLine (at (step b x .next) p .stand) ≡ true) ⊎ ((begun b (step b x) p ≡ true) × (lo ≤ slotClock (step b x .out))) → 1 ≤ oneIf (begun b (step b x) p && leb lo t && leb (suc t) (lo + 2 ^ k)) + slotsAt lo (lo + 2 ^ k) p (step b x .next) xs
+    least! : (inLine (at (step b x .next) p .stand) ≡ true) ⊎ ((begun b (step b x) p ≡ true) × (lo ≤ slotClock (step b x .out)))
+        → 1 ≤ oneIf (begun b (step b x) p && leb lo t && leb (suc t) (lo + 2 ^ k)) + slotsAt lo (lo + 2 ^ k) p (step b x .next) xs
     least! (inr (bg, l)) = by (sends b x p g (both (isNone (b .slot)) (fromPlace p (step b x .out)) bg .1))
       where
         by : Sends b (step b x) p → 1 ≤ oneIf (begun b (step b x) p && leb lo t && leb (suc t) (lo + 2 ^ k)) + slotsAt lo (lo + 2 ^ k) p (step b x .next) xs

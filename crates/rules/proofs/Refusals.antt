@@ -12,7 +12,8 @@ use Rattle.rules.specs.Board.{tableLength, Record, Board, fresh, charge}
 use Rattle.rules.specs.Choice.{Out, refused, done, taken, sent, Turn, refuse, send, serve}
 use Rattle.rules.specs.Burst.{Burst, burst, noRoom, chargeNext, stopped, sentFirst, withRoom}
 use Rattle.rules.specs.Spoilt.{spoilt, unspoilt}
-use Rattle.rules.specs.Calls.{Single, open!, rename!, close!, record!, serve!, step, Call, one, burst!, gives, told, codeOf, Lent, kept, Outcome, wrongTables, writes, done!, refusedBy, unlessSpoilt, byBoard, byTables, call, make, makeBy}
+use Rattle.rules.specs.Calls.{Single, open!, rename!, close!, record!, serve!, step, Call, one, burst!, gives, told, codeOf, Lent, kept, Outcome}
+use Rattle.rules.specs.Calls.{wrongTables, writes, done!, refusedBy, unlessSpoilt, byBoard, byTables, call, make, makeBy}
 use Rattle.rules.specs.Promises.{KeepsAll}
 use Rattle.rules.proofs.Cases.{Unserved, nobody, late, other-cases, serve-turns}
 
@@ -39,7 +40,8 @@ writes-refused (record! n r) code = refl
 writes-refused serve! code = refl
 
 -- a call is given 3, or 2, or does what the rules say of the board
-pub call-by : (lent : Lent) (c : Call) (P : Outcome → Type 0) → ((code : ℕ) → P (refusedBy lent c code)) → ((b : Board) → lent .board ≡ some b → P (done! b c)) → P (call lent c)
+pub call-by : (lent : Lent) (c : Call) (P : Outcome → Type 0) → ((code : ℕ) → P (refusedBy lent c code)) → ((b : Board) → lent .board ≡ some b → P (done! b c))
+    → P (call lent c)
 unfolding call
 call-by lent c P given go = byT (wrongTables (lent .numbers) (lent .lengths))
   where
@@ -60,7 +62,8 @@ kept-all lent c code = record { alone = refl; board = refl; entries = refl; list
 
 pub refusal-keeps : (lent : Lent) (x : Single) → codeOf (call lent (one x) .answer) ≢ 0 → KeepsAll lent (one x) (call lent (one x))
 unfolding Kind
-refusal-keeps lent x = call-by lent (one x) (λ o. codeOf (o .answer) ≢ 0 → KeepsAll lent (one x) o) (λ code n. kept-all lent (one x) code) (λ b e. go b e (kind-step b x))
+refusal-keeps lent x =
+    call-by lent (one x) (λ o. codeOf (o .answer) ≢ 0 → KeepsAll lent (one x) o) (λ code n. kept-all lent (one x) code) (λ b e. go b e (kind-step b x))
   where
     go : (b : Board) → lent .board ≡ some b → Kind b (step b x) → codeOf (done! b (one x) .answer) ≢ 0 → KeepsAll lent (one x) (done! b (one x))
     go b e (inr z) n = absurd (n z)
@@ -125,10 +128,12 @@ burst-codes b bytes (suc room) = go (serve b .out) (serve-codes b) (burst-codes 
     go (sent z) s i = fits (z .front) (ltb bytes (charge (z .front))) i
 
 -- a burst that is given 3 or 2
-pub burst-refusal-keeps : (lent : Lent) (bytes : ℕ) (list : List ℕ) → (codeOf (call lent (burst! bytes list) .answer) ≡ 3) ⊎ (codeOf (call lent (burst! bytes list) .answer) ≡ 2)
+pub burst-refusal-keeps : (lent : Lent) (bytes : ℕ) (list : List ℕ)
+    → (codeOf (call lent (burst! bytes list) .answer) ≡ 3) ⊎ (codeOf (call lent (burst! bytes list) .answer) ≡ 2)
     → KeepsAll lent (burst! bytes list) (call lent (burst! bytes list))
 burst-refusal-keeps lent bytes list =
-    call-by lent (burst! bytes list) (λ o. (codeOf (o .answer) ≡ 3) ⊎ (codeOf (o .answer) ≡ 2) → KeepsAll lent (burst! bytes list) o) (λ code g. kept-all lent (burst! bytes list) code)
+    call-by lent (burst! bytes list) (λ o. (codeOf (o .answer) ≡ 3) ⊎ (codeOf (o .answer) ≡ 2) → KeepsAll lent (burst! bytes list) o)
+    (λ code g. kept-all lent (burst! bytes list) code)
     (λ b e g. absurd (stop-else (burst b bytes (length list) .code) (burst-codes b bytes (length list)) g))
 
 -- the board of all zeros is spoilt

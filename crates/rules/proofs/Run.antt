@@ -65,7 +65,9 @@ good-fresh L lo hi = record { fine = fine; one = λ p. rw (all-free 64 p) }
         listed = λ k q. rw (all-free 64 q);
         rising = λ k. tt;
       };
-      sound = idle-sound (seats l) (λ j. 0) 0 0 (λ i. rw (seat i)) (omega (arith, sum-zero (λ (s : Seat). s .share) free (seats l) (λ i. rw (seat i)), below-zero (λ j. 0) 17 (λ j _. refl)));
+      sound =
+          idle-sound (seats l) (λ j. 0) 0 0 (λ i. rw (seat i))
+          (omega (arith, sum-zero (λ (s : Seat). s .share) free (seats l) (λ i. rw (seat i)), below-zero (λ j. 0) 17 (λ j _. refl)));
     }
 
 -- what the calls send, in bytes
@@ -104,7 +106,8 @@ lane-none L share lane (queued r) k h = absurd (omega (arith, k .0))
 lane-none L share lane (serving n) k h = absurd (omega (arith, k .0))
 
 pub front-waits : (b : Board) (x : Single) (p : ℕ) → Good b → ToFront b x p → inLine (at (step b x .next) p .stand) ≡ true
-front-waits b x p g f = lane-waits (nb .largest) (at nb p .share) (at nb p .lane) (at nb p .stand) (keeps-step b x g .good .fine .shape .placeOk p .standOk) (f .0)
+front-waits b x p g f =
+    lane-waits (nb .largest) (at nb p .share) (at nb p .lane) (at nb p .stand) (keeps-step b x g .good .fine .shape .placeOk p .standOk) (f .0)
   where
     nb : Board
     nb = step b x .next

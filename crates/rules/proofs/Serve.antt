@@ -32,7 +32,8 @@ unfolding release
 release-now c H = fun-ext (λ j. rw (leb-no (nextStart j c) c (next-gt j c)))
 
 -- the clock goes to the least ready time, unless it is past it
-fine-to : {L c : ℕ} {l : List Place} {o : ℕ → List ℕ} {H : ℕ → ℕ} (r : ℕ) → LeastIs l (some r) → Fine L c 0 l o H → Fine L (max c r) 0 l o (release c (max c r) H)
+fine-to : {L c : ℕ} {l : List Place} {o : ℕ → List ℕ} {H : ℕ → ℕ} (r : ℕ) → LeastIs l (some r) → Fine L c 0 l o H
+    → Fine L (max c r) 0 l o (release c (max c r) H)
 unfolding LeastIs
 fine-to {L} {c} {l} {o} {H} r least f = go (split r c)
   where
@@ -41,7 +42,9 @@ fine-to {L} {c} {l} {o} {H} r least f = go (split r c)
     go (inr h) = fine-jump (max c r) (omega arith) (λ i q. omega (arith, least .0 i q)) f
 
 still-free : (b : Board) (x : Place) → b .slot ≡ none → ahead (most (b .largest)) (b .clock) 0 (seatOf x) ≤ still b x
-still-free b x e = subst (λ (s : Option ℕ). ahead (most (b .largest)) (b .clock) 0 (seatOf x) ≤ slotLeft (b .places) s + ahead (most (b .largest)) (b .clock) (busy s) (seatOf x)) (sym e) (omega arith)
+still-free b x e =
+    subst (λ (s : Option ℕ). ahead (most (b .largest)) (b .clock) 0 (seatOf x) ≤ slotLeft (b .places) s + ahead (most (b .largest)) (b .clock) (busy s)
+    (seatOf x)) (sym e) (omega arith)
 
 hand-queued : (x : Place) → isQueued (x .stand) ≡ true → hand x ≡ x .deficit
 hand-queued x e = go (x .stand) e
@@ -94,11 +97,22 @@ module _ (b : Board) (r : ℕ) (free : b .slot ≡ none) (least : LeastIs (b .pl
   -- what is left of the new slot is at most 3 L - 1 bytes
   left1 : slotLeft (begin b t .places) (some p) ≤ most (b .largest)
   unfolding t k p begin slotLeft most
-  left1 = omega (arith, serving-ok (b .largest) (at (begin b t) p .share) (at (begin b t) p .lane) (at (begin b t) p .stand) (good1 .one p ∙ eqb-yes p p refl) (good1 .fine .shape .placeOk p .standOk) .3)
+  left1 =
+      omega (
+        arith,
+        serving-ok (b .largest) (at (begin b t) p .share) (at (begin b t) p .lane) (at (begin b t) p .stand) (good1 .one p ∙ eqb-yes p p refl)
+            (good1 .fine .shape .placeOk p .standOk) .3,
+      )
 
   paid1 : (q : ℕ) → q ≢ p → isQueued (at b q .stand) ≡ true → still (begin b t) (at b q) ≤ still b (at b q)
   unfolding t k p begin
-  paid1 q e i = omega (arith, still-free b (at b q) free, ahead-begin (most (b .largest)) (slotLeft (begin b t .places) (some p)) t (seatOf (at b q)) ok left1, ahead-jump (most (b .largest)) (b .clock) t 0 (seatOf (at b q)) (omega arith))
+  paid1 q e i =
+      omega (
+        arith,
+        still-free b (at b q) free,
+        ahead-begin (most (b .largest)) (slotLeft (begin b t .places) (some p)) t (seatOf (at b q)) ok left1,
+        ahead-jump (most (b .largest)) (b .clock) t 0 (seatOf (at b q)) (omega arith),
+      )
     where
       ok : SeatOk t 1 (seatOf (at b q))
       ok = rw (same1 q e) at (seat-ok (begin b t .places) (begin b t .held) t 1 (good1 .fine .sound) q (rw (same1 q e) i))
@@ -114,8 +128,11 @@ module _ (b : Board) (r : ℕ) (free : b .slot ≡ none) (least : LeastIs (b .pl
       due = due-queued (b .clock) (at b p .share) (at b p .stand) (chosen .isQ)
 
       is : ready (b .places) p + 2 ^ blockClass (at b p) ≡ nextStart (blockClass (at b p)) t
-      is = next-is (blockClass (at b p)) t (ready (b .places) p + 2 ^ blockClass (at b p)) (start-add (blockClass (at b p)) (ready (b .places) p) (seat0 .start)) (omega (arith, seat0 .fresh))
-          (start-gap (blockClass (at b p)) (ready (b .places) p) (nextStart (blockClass (at b p)) t) (seat0 .start) (next-start (blockClass (at b p)) t) (omega (arith, chosen .isDue, next-gt (blockClass (at b p)) t)))
+      is =
+          next-is (blockClass (at b p)) t (ready (b .places) p + 2 ^ blockClass (at b p)) (start-add (blockClass (at b p)) (ready (b .places) p) (seat0 .start))
+          (omega (arith, seat0 .fresh))
+          (start-gap (blockClass (at b p)) (ready (b .places) p) (nextStart (blockClass (at b p)) t) (seat0 .start) (next-start (blockClass (at b p)) t)
+          (omega (arith, chosen .isDue, next-gt (blockClass (at b p)) t)))
 
   started1 : at (begin b t) p ≡ started (b .largest) (at b p)
   unfolding t k p begin
@@ -146,7 +163,9 @@ module _ (b : Board) (r : ℕ) (free : b .slot ≡ none) (least : LeastIs (b .pl
 
   keeps-begin : Keeps b (send true (begin b t) p)
   unfolding send begin
-  keeps-begin = keeps-sent b (sendFrom (begin b t) p) (sending true (begin b t) p) only (queued-waits (at b p .stand) (chosen .isQ)) (front-pos (begin b t) p good1 (rw started1)) timely sends1
+  keeps-begin =
+      keeps-sent b (sendFrom (begin b t) p) (sending true (begin b t) p) only (queued-waits (at b p .stand) (chosen .isQ))
+      (front-pos (begin b t) p good1 (rw started1)) timely sends1
     where
       only : (q : ℕ) → isServing (at b q .stand) ≡ true → q ≡ p
       only q e = absurd (true≢false (sym e ∙ g .one q ∙ ap (isAt q) free))

@@ -26,7 +26,8 @@ use Rattle.lanes.proofs.Lanes.{depth-positive}
 use Rattle.rules.specs.Board.{Record, noRecord, charge, Stand, out, queued, serving, Place, moved, freePlace, depth, blockClass, anyDue}
 use Rattle.rules.specs.Choice.{upd, readyOf, lesser, leastReady, isNone, release, settle, started}
 use Rattle.rules.proofs.Line.{Kept}
-use Rattle.rules.proofs.Orders.{pl, ready, Listed, listed-same, listed-join, listed-leave, Rising, rising-away, rising-kept, rising-snoc, first-due, due-any, upd-same, upd-other, in-head, count-head, rising-tail}
+use Rattle.rules.proofs.Orders.{pl, ready, Listed, listed-same, listed-join, listed-leave, Rising, rising-away, rising-kept, rising-snoc, first-due}
+use Rattle.rules.proofs.Orders.{due-any, upd-same, upd-other, in-head, count-head, rising-tail}
 use Rattle.rules.proofs.Orders
 
 -- the least ready time: it is none, or one that is reached, and none is below it
@@ -153,7 +154,8 @@ pub record Shape (L c : ℕ) (l : List Place) (o : ℕ → List ℕ) (H : ℕ �
   pub rising : (k : ℕ) → Rising l (o k)
 
 -- a new holder of place p has a number that no other open block has
-pub names-set : (l : List Place) (p : ℕ) (x : Place) → p < length l → ((q : ℕ) → q ≢ p → 1 ≤ pl l q .share → 1 ≤ x .share → pl l q .number ≢ x .number) → Distinct l → Distinct (set l p x)
+pub names-set : (l : List Place) (p : ℕ) (x : Place) → p < length l → ((q : ℕ) → q ≢ p → 1 ≤ pl l q .share → 1 ≤ x .share → pl l q .number ≢ x .number)
+    → Distinct l → Distinct (set l p x)
 names-set l p x h apart dis i j = go (ℕ-discrete i p) (ℕ-discrete j p)
   where
     goal : Type 0
@@ -161,9 +163,15 @@ names-set l p x h apart dis i j = go (ℕ-discrete i p) (ℕ-discrete j p)
 
     go : Dec (i ≡ p) → Dec (j ≡ p) → 1 ≤ pl (set l p x) i .share → 1 ≤ pl (set l p x) j .share → pl (set l p x) i .number ≡ pl (set l p x) j .number → i ≡ j
     go (yes e) (yes f) a b n = e ∙ sym f
-    go (yes e) (no f) a b n = absurd (apart j f (rw (getD-set-other l p j x freePlace f) at b) (rw (e, getD-set-same l p x freePlace h) at a) (sym (rw (e, getD-set-same l p x freePlace h, getD-set-other l p j x freePlace f) at n)))
-    go (no e) (yes f) a b n = absurd (apart i e (rw (getD-set-other l p i x freePlace e) at a) (rw (f, getD-set-same l p x freePlace h) at b) (rw (f, getD-set-same l p x freePlace h, getD-set-other l p i x freePlace e) at n))
-    go (no e) (no f) a b n = dis i j (rw (getD-set-other l p i x freePlace e) at a) (rw (getD-set-other l p j x freePlace f) at b) (rw (getD-set-other l p i x freePlace e, getD-set-other l p j x freePlace f) at n)
+    go (yes e) (no f) a b n =
+        absurd (apart j f (rw (getD-set-other l p j x freePlace f) at b) (rw (e, getD-set-same l p x freePlace h) at a)
+        (sym (rw (e, getD-set-same l p x freePlace h, getD-set-other l p j x freePlace f) at n)))
+    go (no e) (yes f) a b n =
+        absurd (apart i e (rw (getD-set-other l p i x freePlace e) at a) (rw (f, getD-set-same l p x freePlace h) at b)
+        (rw (f, getD-set-same l p x freePlace h, getD-set-other l p i x freePlace e) at n))
+    go (no e) (no f) a b n =
+        dis i j (rw (getD-set-other l p i x freePlace e) at a) (rw (getD-set-other l p j x freePlace f) at b)
+        (rw (getD-set-other l p i x freePlace e, getD-set-other l p j x freePlace f) at n)
 
 -- the same number and share as before
 pub names-kept : (l : List Place) (p : ℕ) (x : Place) → p < length l → x .number ≡ pl l p .number → x .share ≡ pl l p .share → Distinct l → Distinct (set l p x)
@@ -207,7 +215,8 @@ cons-of l t [] e = absurd (false≢true e)
 cons-of l t (p ∷ ps) e = refl
 
 -- a block in an order that is due makes its class pending
-pub due-pending : (l : List Place) (o : ℕ → List ℕ) (t : ℕ) → Listed l o → (i : ℕ) → isQueued (pl l i .stand) ≡ true → ready l i ≤ t → anyDue l t (o (blockClass (pl l i))) ≡ true
+pub due-pending : (l : List Place) (o : ℕ → List ℕ) (t : ℕ) → Listed l o → (i : ℕ) → isQueued (pl l i .stand) ≡ true → ready l i ≤ t
+    → anyDue l t (o (blockClass (pl l i))) ≡ true
 due-pending l o t li i e a = due-any l t i (o (blockClass (pl l i))) (omega (arith, li (blockClass (pl l i)) i, ap oneIf here)) e a
   where
     here : inClass (blockClass (pl l i)) (pl l i) ≡ true
@@ -262,7 +271,18 @@ named-num x h (inr k) = k .0
 
 pub started-ok : (L : ℕ) (x : Place) → 64 ≤ L → isQueued (x .stand) ≡ true → PlaceOk L x → PlaceOk L (started L x)
 unfolding StandOk
-started-ok L x c1 e ok = record { items = ok .items; owed = omega (arith, most-pos L c1); most = ok .most; standOk = (q .0, q .1, fits, omega (arith, ok .owed, credit-under L (x .share) (ok .most) (most-pos L c1))); brief = ok .brief; ring = ok .ring; clear = λ _. refl; named = inr (named-num x (q .1) (ok .named), q .1) }
+started-ok L x c1 e ok =
+    record {
+      items = ok .items;
+      owed = omega (arith, most-pos L c1);
+      most = ok .most;
+      standOk =
+          (q .0, q .1, fits, omega (arith, ok .owed, credit-under L (x .share) (ok .most) (most-pos L c1)));
+      brief = ok .brief;
+      ring = ok .ring;
+      clear = λ _. refl;
+      named = inr (named-num x (q .1) (ok .named), q .1);
+    }
   where
     q : (1 ≤ length (x .lane)) × (1 ≤ x .share)
     q = queued-ok L (x .share) (x .lane) (x .stand) e (ok .standOk)
@@ -351,7 +371,8 @@ shape-join {L} {c} {l} {o} {H} p start lane owed h was new f =
         go (no e) = rw (upd-other o k (o k ++ (p ∷ [])) j e) (away j)
 
 -- the clock goes on, and held shares fall
-pub shape-clock : {L c : ℕ} {l : List Place} {o : ℕ → List ℕ} {H : ℕ → ℕ} (t : ℕ) (H′ : ℕ → ℕ) → c ≤ t → ((j : ℕ) → H′ j ≤ H j) → Shape L c l o H → Shape L t l o H′
+pub shape-clock : {L c : ℕ} {l : List Place} {o : ℕ → List ℕ} {H : ℕ → ℕ} (t : ℕ) (H′ : ℕ → ℕ) → c ≤ t → ((j : ℕ) → H′ j ≤ H j) → Shape L c l o H
+    → Shape L t l o H′
 shape-clock {L} {c} {l} {o} {H} t H′ h less f =
     record {
       least = f .least;
@@ -435,4 +456,14 @@ shape-other {L} {c} {l} {o} {H} p x H′ h was is dis new room f =
 
 pub free-ok : (L : ℕ) → 64 ≤ L → PlaceOk L freePlace
 unfolding StandOk All
-free-ok L h = record { items = tt; owed = omega (arith, most-pos L h); most = omega arith; standOk = refl; brief = omega arith; ring = depth-positive; clear = λ _. refl; named = inl refl }
+free-ok L h =
+    record {
+      items = tt;
+      owed = omega (arith, most-pos L h);
+      most = omega arith;
+      standOk = refl;
+      brief = omega arith;
+      ring = depth-positive;
+      clear = λ _. refl;
+      named = inl refl;
+    }

@@ -64,7 +64,8 @@ module _ (L c : ℕ) (l : List Place) (o : ℕ → List ℕ) (H : ℕ → ℕ) (
   pub inL : p < length l
   inL = serving-in l p isS
 
-  pub facts : (1 ≤ length (pl l p .lane)) × (1 ≤ pl l p .share) × (charge (front (pl l p)) * 65536 ≤ leftOf (pl l p .stand)) × (leftOf (pl l p .stand) < 3 * largestCharge L * 65536)
+  pub facts : (1 ≤ length (pl l p .lane)) × (1 ≤ pl l p .share) × (charge (front (pl l p)) * 65536 ≤ leftOf (pl l p .stand))
+      × (leftOf (pl l p .stand) < 3 * largestCharge L * 65536)
   facts = serving-ok L (pl l p .share) (pl l p .lane) (pl l p .stand) isS (sh .placeOk p .standOk)
 
   pub isNamed : {x : Place} → (x ≡ freePlace) ⊎ ((1 ≤ pl l p .number) × (1 ≤ pl l p .share))
@@ -79,7 +80,8 @@ module _ (L c : ℕ) (l : List Place) (o : ℕ → List ℕ) (H : ℕ → ℕ) (
       go (no f) = rw (getD-set-other l p q x freePlace f) (one q ∙ eqb-no q p f)
 
   -- the slot goes on
-  module _ (more : 2 ≤ length (pl l p .lane)) (fits : charge (getD (drop 1 (pl l p .lane)) 0 noRecord) * 65536 ≤ leftOf (pl l p .stand) - charge (front (pl l p)) * 65536) where
+  module _ (more : 2 ≤ length (pl l p .lane))
+      (fits : charge (getD (drop 1 (pl l p .lane)) 0 noRecord) * 65536 ≤ leftOf (pl l p .stand) - charge (front (pl l p)) * 65536) where
     pub going-ok : PlaceOk L (going (pl l p))
     unfolding StandOk
     going-ok = record {
@@ -96,10 +98,22 @@ module _ (L c : ℕ) (l : List Place) (o : ℕ → List ℕ) (H : ℕ → ℕ) (
   -- the lane is empty: the slot ends
   pub emptied-ok : PlaceOk L (emptied (pl l p))
   unfolding StandOk All
-  emptied-ok = record { items = tt; owed = omega (arith, most-pos L (sh .least)); most = sh .placeOk p .most; standOk = refl; brief = omega arith; ring = ring-on (pl l p); clear = λ _. refl; named = isNamed }
+  emptied-ok =
+      record {
+        items = tt;
+        owed = omega (arith, most-pos L (sh .least));
+        most = sh .placeOk p .most;
+        standOk = refl;
+        brief = omega arith;
+        ring =
+            ring-on (pl l p);
+        clear = λ _. refl;
+        named = isNamed;
+      }
 
   -- the new front needs more than is left: the slot ends, and the block joins its order again
-  module _ (more : 2 ≤ length (pl l p .lane)) (lacks : leftOf (pl l p .stand) - charge (front (pl l p)) * 65536 < charge (getD (drop 1 (pl l p .lane)) 0 noRecord) * 65536) where
+  module _ (more : 2 ≤ length (pl l p .lane))
+      (lacks : leftOf (pl l p .stand) - charge (front (pl l p)) * 65536 < charge (getD (drop 1 (pl l p .lane)) 0 noRecord) * 65536) where
     pub short-ok : PlaceOk L (short c (pl l p))
     unfolding StandOk
     short-ok = record {

@@ -14,7 +14,8 @@ use lib.Seq.{getD-set-same}
 use Rattle.base.proofs.Numbers.{split, leb-yes, leb-no, eqb-yes, eqb-no, true-le}
 use Rattle.units.specs.Credit.{largestCharge}
 use Rattle.rules.specs.Board.{Record, noRecord, charge, Place, freePlace, Board, at, front, blockClass}
-use Rattle.rules.specs.Choice.{refused, Sending, sending, sent, Turn, isNone, leftOf, leftAfter, goOn, joins, more, takenIn, emptied, short, going, ended, sendFrom, send}
+use Rattle.rules.specs.Choice.{refused, Sending, sending, sent, Turn, isNone, leftOf, leftAfter, goOn, joins, more, takenIn, emptied, short, going, ended}
+use Rattle.rules.specs.Choice.{sendFrom, send}
 use Rattle.rules.specs.Choice.{begin, chosen, upd, joining, tookAt}
 use Rattle.rules.specs.Blocks.{opened, freeAt, renamed, closed}
 use Rattle.rules.specs.Spoilt.{isServing, isAt}
@@ -60,14 +61,16 @@ ahead-of t clock l L h = rw (leb-no (suc t) clock (omega arith)) (go (eqb clock 
 
 -- what the slot has left, in whole bytes
 left-is : (b : Board) (p : ℕ) → Tidy b → b .slot ≡ some p
-    → (charge (front (at b p)) ≤ slotLeft (b .places) (some p)) × (slotLeft (b .places) (some p) ≤ most (b .largest)) × (charge (front (at b p)) * 65536 ≤ leftOf (at b p .stand))
+    → (charge (front (at b p)) ≤ slotLeft (b .places) (some p)) × (slotLeft (b .places) (some p) ≤ most (b .largest))
+    × (charge (front (at b p)) * 65536 ≤ leftOf (at b p .stand))
 unfolding slotLeft most
 left-is b p g e = (omega (arith, ok .2), omega (arith, ok .3), ok .2)
   where
     isS : isServing (at b p .stand) ≡ true
     isS = g .one p ∙ ap (isAt p) e ∙ eqb-yes p p refl
 
-    ok : (1 ≤ length (at b p .lane)) × (1 ≤ at b p .share) × (charge (front (at b p)) * 65536 ≤ leftOf (at b p .stand)) × (leftOf (at b p .stand) < 3 * largestCharge (b .largest) * 65536)
+    ok : (1 ≤ length (at b p .lane)) × (1 ≤ at b p .share) × (charge (front (at b p)) * 65536 ≤ leftOf (at b p .stand))
+        × (leftOf (at b p .stand) < 3 * largestCharge (b .largest) * 65536)
     ok = serving-ok (b .largest) (at b p .share) (at b p .lane) (at b p .stand) isS (g .shape .placeOk p .standOk)
 
 slot-left-set : (l : List Place) (p : ℕ) (x : Place) → p < length l → slotLeft (set l p x) (some p) ≡ leftOf (x .stand) / 65536
@@ -105,7 +108,8 @@ send-allow t b p g e = go (leb (length (at b p .lane)) 1) (ltb (leftAfter (at b 
       where
         by : (c ≤ t) ⊎ (t < c) → (t ≤ c) ⊎ (c < t) → w + allowed t (suc c) l none (b .largest) ≤ allowed t c (b .places) (some p) (b .largest)
         by (inr h) z = rw (eqb-no c t (λ q. omega arith)) (omega (arith, past t (suc c) l none (b .largest) (omega arith)))
-        by (inl h) (inr k) = rw (eqb-no c t (λ q. omega arith)) (omega (arith, ahead-of t (suc c) l (b .largest) k, before t c (b .places) (some p) (b .largest) k))
+        by (inl h) (inr k) =
+            rw (eqb-no c t (λ q. omega arith)) (omega (arith, ahead-of t (suc c) l (b .largest) k, before t c (b .places) (some p) (b .largest) k))
         by (inl h) (inl k) =
             let q : c ≡ t = omega arith in
             rw (eqb-yes c t q) (omega (arith, past t (suc c) l none (b .largest) (omega arith), during t c (b .places) p (b .largest) q, left-is b p g e .0))
@@ -121,14 +125,28 @@ send-allow t b p g e = go (leb (length (at b p .lane)) 1) (ltb (leftAfter (at b 
     open! = rw (e) (by (ℕ-discrete c t))
       where
         by : Dec (c ≡ t) → w + allowed t c (set (b .places) p (going (at b p))) (some p) (b .largest) ≤ allowed t c (b .places) (some p) (b .largest)
-        by (yes q) = rw (eqb-yes c t q) (omega (arith, during t c (set (b .places) p (going (at b p))) p (b .largest) q, during t c (b .places) p (b .largest) q, rest, left-now (b .places) p, left-is b p g e .2))
+        by (yes q) =
+            rw (eqb-yes c t q) (omega (
+              arith,
+              during t c (set (b .places) p (going (at b p))) p (b .largest) q,
+              during t c (b .places) p (b .largest) q,
+              rest,
+              left-now (b .places) p,
+              left-is b p g e .2,
+            ))
         by (no q) = rw (eqb-no c t q) (same (split c t))
           where
-            same : (c ≤ t) ⊎ (t < c) → 0 + allowed t c (set (b .places) p (going (at b p))) (some p) (b .largest) ≤ allowed t c (b .places) (some p) (b .largest)
-            same (inl h) = let k : c < t = lt-of-ne c t h q in omega (arith, before t c (set (b .places) p (going (at b p))) (some p) (b .largest) k, before t c (b .places) (some p) (b .largest) k)
+            same : (c ≤ t) ⊎ (t < c)
+                → 0 + allowed t c (set (b .places) p (going (at b p))) (some p) (b .largest) ≤ allowed t c (b .places) (some p) (b .largest)
+            same (inl h) =
+                let k : c < t = lt-of-ne c t h q in
+                omega (arith, before t c (set (b .places) p (going (at b p))) (some p) (b .largest) k, before t c (b .places) (some p) (b .largest) k)
             same (inr h) = omega (arith, past t c (set (b .places) p (going (at b p))) (some p) (b .largest) h)
 
-    go : (u v : Bool) → w + allow t (cond u (ended b p (emptied (at b p)) (b .orders)) (cond v (ended b p (short c (at b p)) (upd (b .orders) (blockClass (at b p)) (b .orders (blockClass (at b p)) ++ (p ∷ [])))) (goOn b p (going (at b p))))) ≤ allow t b
+    go : (u v : Bool) → w + allow t
+        (cond u (ended b p (emptied (at b p)) (b .orders))
+        (cond v (ended b p (short c (at b p)) (upd (b .orders) (blockClass (at b p)) (b .orders (blockClass (at b p)) ++ (p ∷ []))))
+        (goOn b p (going (at b p))))) ≤ allow t b
     go true v = over (set (b .places) p (emptied (at b p)))
     go false true = over (set (b .places) p (short c (at b p)))
     go false false = open!
@@ -154,10 +172,12 @@ begin-allow t b r s p g c gb = rw (ap (λ (z : Option ℕ). allowed t (b .clock)
     by : (s ≤ t) ⊎ (t < s) → (t ≤ s) ⊎ (s < t) → allowed t s l (some q) (b .largest) ≤ allowed t (b .clock) (b .places) none (b .largest)
     by (inr h) z = omega (arith, past t s l (some q) (b .largest) h)
     by (inl h) (inr k) = omega (arith, before t s l (some q) (b .largest) k, ahead-of t (b .clock) (b .places) (b .largest) (omega arith))
-    by (inl h) (inl k) = omega (arith, during t s l q (b .largest) (omega arith), left-is (begin b s) q gb refl .1, ahead-of t (b .clock) (b .places) (b .largest) (omega arith))
+    by (inl h) (inl k) =
+        omega (arith, during t s l q (b .largest) (omega arith), left-is (begin b s) q gb refl .1, ahead-of t (b .clock) (b .places) (b .largest) (omega arith))
 
 -- the calls that send nothing leave the slot's rest
-still : (t : ℕ) (b nb : Board) → nb .clock ≡ b .clock → nb .slot ≡ b .slot → nb .largest ≡ b .largest → slotLeft (nb .places) (b .slot) ≡ slotLeft (b .places) (b .slot) → allow t nb ≡ allow t b
+still : (t : ℕ) (b nb : Board) → nb .clock ≡ b .clock → nb .slot ≡ b .slot → nb .largest ≡ b .largest
+    → slotLeft (nb .places) (b .slot) ≡ slotLeft (b .places) (b .slot) → allow t nb ≡ allow t b
 unfolding allowed
 still t b nb c s L e = rw (c, s, L, e)
 
@@ -179,27 +199,57 @@ module _ (t : ℕ) (b : Board) (g : Tidy b) where
   unfolding takenIn
   pays-take p n r c = omega (arith, go (leb (length (at b p .lane)) 0) refl)
     where
-      go : (u : Bool) → leb (length (at b p .lane)) 0 ≡ u → allow t (cond u (joining b p (joins (b .clock) (at b p) r)) (goOn b p (more (at b p) r))) ≡ allow t b
-      go true e = still t b (joining b p (joins (b .clock) (at b p) r)) refl refl refl (left-other (b .places) p (joins (b .clock) (at b p) r) (b .slot) (lane-out (b .largest) (at b p .share) (at b p .lane) (at b p .stand) (true-le (length (at b p .lane)) 0 e) (g .shape .placeOk p .standOk)) (g .one))
+      go : (u : Bool) → leb (length (at b p .lane)) 0 ≡ u
+          → allow t (cond u (joining b p (joins (b .clock) (at b p) r)) (goOn b p (more (at b p) r))) ≡ allow t b
+      go true e =
+          still t b (joining b p (joins (b .clock) (at b p) r)) refl refl refl
+          (left-other (b .places) p (joins (b .clock) (at b p) r) (b .slot)
+          (lane-out (b .largest) (at b p .share) (at b p .lane) (at b p .stand) (true-le (length (at b p .lane)) 0 e) (g .shape .placeOk p .standOk)) (g .one))
       go false e = still t b (goOn b p (more (at b p) r)) refl refl refl (same p (more (at b p) r) (inside p (c .has .inside)) refl)
 
   pays : (x : Single) → Pays x (step b x)
   unfolding closed send
   pays = call-cases b g Pays (record {
     refused = λ x code r. omega arith;
-    opens = λ o c. omega (arith, still t b (goOn b (freeAt b) (opened o)) refl refl refl (same (freeAt b) (opened o) (inside (freeAt b) (c .inside)) (sym (share-out (b .largest) (at b (freeAt b) .share) (at b (freeAt b) .lane) (at b (freeAt b) .stand) (c .free) (g .shape .placeOk (freeAt b) .standOk)))));
-    renames = λ p old new c. omega (arith, still t b (goOn b p (renamed new (at b p))) refl refl refl (same p (renamed new (at b p)) (inside p (c .has .inside)) refl));
-    closes = λ p n c. omega (arith, still t b (closed b p) refl refl refl (same p freePlace (inside p (c .has .inside)) (sym (lane-out (b .largest) (at b p .share) (at b p .lane) (at b p .stand) (omega (arith, c .empty)) (g .shape .placeOk p .standOk)))));
+    opens =
+        λ o c. omega (
+          arith,
+          still t b (goOn b (freeAt b) (opened o)) refl refl refl
+              (same (freeAt b) (opened o) (inside (freeAt b) (c .inside))
+              (sym (share-out (b .largest) (at b (freeAt b) .share) (at b (freeAt b) .lane) (at b (freeAt b) .stand) (c .free)
+              (g .shape .placeOk (freeAt b) .standOk)))),
+        );
+    renames =
+        λ p old new c. omega (
+          arith,
+          still t b (goOn b p (renamed new (at b p))) refl refl refl (same p (renamed new (at b p)) (inside p (c .has .inside)) refl),
+        );
+    closes =
+        λ p n c. omega (
+          arith,
+          still t b (closed b p) refl refl refl
+              (same p freePlace (inside p (c .has .inside))
+              (sym (lane-out (b .largest) (at b p .share) (at b p .lane) (at b p .stand) (omega (arith, c .empty)) (g .shape .placeOk p .standOk)))),
+        );
     takes = pays-take;
     goesOn = λ p c. omega (arith, bytes-at t b (sending false b p), send-allow t b p g (c .slot));
     begins = begins;
   })
     where
       begins : (r s p : ℕ) → Begins b r s p → p ≡ chosen b s → Pays serve! (send true (begin b s) p)
-      begins r s p c e = subst (λ (q : ℕ). Pays serve! (send true (begin b s) q)) (sym e) (omega (arith, bytes-at t b (sending true (begin b s) (chosen b s)), send-allow t (begin b s) (chosen b s) gb (begin-slot b s), begin-allow t b r s p g c gb))
+      begins r s p c e =
+          subst (λ (q : ℕ). Pays serve! (send true (begin b s) q)) (sym e)
+          (omega (
+            arith,
+            bytes-at t b (sending true (begin b s) (chosen b s)),
+            send-allow t (begin b s) (chosen b s) gb (begin-slot b s),
+            begin-allow t b r s p g c gb,
+          ))
         where
           gb : Tidy (begin b s)
-          gb = subst (λ (z : ℕ). Tidy (begin b z)) (sym (c .time)) (tidy-begin b r (c .slot) (subst (LeastIs (b .places)) (c .least) (least-is (b .places))) (rw (← c .time) (c .soon)) g)
+          gb =
+              subst (λ (z : ℕ). Tidy (begin b z)) (sym (c .time))
+              (tidy-begin b r (c .slot) (subst (LeastIs (b .places)) (c .least) (least-is (b .places))) (rw (← c .time) (c .soon)) g)
 
 -- and never more than 3L - 1 bytes
 allow-most : (t : ℕ) (b : Board) → Tidy b → allow t b ≤ most (b .largest)

@@ -18,8 +18,11 @@ use Rattle.base.proofs.Decides.{d-iff, d-true, d-leb, d-eqb, d-alike, d-not, d-
 use Rattle.units.specs.Classes.{Start, nextStart}
 use Rattle.units.specs.Credit.{largestCharge}
 use Rattle.units.proofs.Classes.{class-le}
-use Rattle.rules.specs.Board.{Record, charge, Stand, out, queued, serving, Place, freePlace, Board, at, Seventeen, depth, front, blockClass, isOpen, waits, spent}
-use Rattle.rules.specs.Spoilt.{everyPlace, numbersApart, numberInRange, shareInRange, ringInRange, lengthsIn, isQueued, isServing, deficitInRange, freeIsZero, heldWhileWaiting, standsByLane, isAt, count, inClass, allPlaces, slotAtPlace, ordersListed, readyNum, readyInRange, neverFalling, slotOf, slotInTime, clauses, unspoilt, clockInRange}
+use Rattle.rules.specs.Board.{Record, charge, Stand, out, queued, serving, Place, freePlace, Board, at, Seventeen, depth, front, blockClass, isOpen}
+use Rattle.rules.specs.Board.{waits, spent}
+use Rattle.rules.specs.Spoilt.{everyPlace, numbersApart, numberInRange, shareInRange, ringInRange, lengthsIn, isQueued, isServing, deficitInRange}
+use Rattle.rules.specs.Spoilt.{freeIsZero, heldWhileWaiting, standsByLane, isAt, count, inClass, allPlaces, slotAtPlace, ordersListed, readyNum}
+use Rattle.rules.specs.Spoilt.{readyInRange, neverFalling, slotOf, slotInTime, clauses, unspoilt, clockInRange}
 use Rattle.rules.specs.Blocks.{quiet}
 use Rattle.rules.proofs.Orders.{ready, Rising}
 use Rattle.rules.proofs.Shape.{All, Fit, StandOk, PlaceOk, SeatP, Distinct, free-ok, queued-in, listed-in, named-num}
@@ -36,7 +39,8 @@ d-lengths L [] = record { yes = λ e. tt; no = λ e. refl }
 d-lengths L (r ∷ rs) = d-and (d-and (d-leb 1 (r .bytes)) (d-leb (r .bytes) L)) (d-lengths L rs)
 
 -- where its block stands: by its lane, and what the slot asks
-d-stand : (L : ℕ) (x : Place) (s : Stand) → Decides ((alike (waits x) (isQueued s || isServing s) && (not (waits x) || isOpen x)) && slotOf L x s) (StandOk L (x .share) (x .lane) s)
+d-stand : (L : ℕ) (x : Place) (s : Stand)
+    → Decides ((alike (waits x) (isQueued s || isServing s) && (not (waits x) || isOpen x)) && slotOf L x s) (StandOk L (x .share) (x .lane) s)
 unfolding StandOk
 d-stand L x out = d-iff (d-and (d-and (d-alike (waits x) false) (d-imp (waits x) (d-leb 1 (x .share)))) (d-true true))
     (λ w. omega (arith, false-lt 1 (length (x .lane)) (w .0 .0)))
@@ -45,16 +49,20 @@ d-stand L x (queued ready) = d-iff (d-and (d-and (d-alike (waits x) true) (d-imp
     (λ w. (true-le 1 (length (x .lane)) (w .0 .0), w .0 .1 (w .0 .0)))
     (λ w. ((leb-yes 1 (length (x .lane)) (w .0), λ _. w .1), refl))
 d-stand L x (serving left) = d-iff
-    (d-and (d-and (d-alike (waits x) true) (d-imp (waits x) (d-leb 1 (x .share)))) (d-and (d-leb 1 (length (x .lane))) (d-and (d-leb (charge (front x) * 65536) left) (d-leb (suc left) (3 * largestCharge L * 65536)))))
+    (d-and (d-and (d-alike (waits x) true) (d-imp (waits x) (d-leb 1 (x .share))))
+    (d-and (d-leb 1 (length (x .lane))) (d-and (d-leb (charge (front x) * 65536) left) (d-leb (suc left) (3 * largestCharge L * 65536)))))
     (λ w. (w .1 .0, w .0 .1 (w .0 .0), w .1 .1 .0, w .1 .1 .1))
     (λ w. ((leb-yes 1 (length (x .lane)) (w .0), λ _. w .1), (w .0, (w .2, w .3))))
 
 d-start : (k n : ℕ) → Decides (eqb (n % 2 ^ k) 0) (Start k n)
 unfolding Start
-d-start k n = d-iff (d-eqb (n % 2 ^ k) 0) (λ e. (n / 2 ^ k, omega (arith, e, div-add-mod' n (2 ^ k)))) (λ w. ap (λ (a : ℕ). a % 2 ^ k) (w .1) ∙ mul-mod-left (w .0) (2 ^ k))
+d-start k n =
+    d-iff (d-eqb (n % 2 ^ k) 0) (λ e. (n / 2 ^ k, omega (arith, e, div-add-mod' n (2 ^ k))))
+    (λ w. ap (λ (a : ℕ). a % 2 ^ k) (w .1) ∙ mul-mod-left (w .0) (2 ^ k))
 
 pub d-ready : (clock : ℕ) (x : Place) → Decides (readyInRange clock x) (SeatP clock x)
-d-ready clock x = d-imp (isQueued (x .stand)) (d-and (d-start (blockClass x) (readyNum (x .stand))) (d-leb (readyNum (x .stand)) (nextStart (blockClass x) clock)))
+d-ready clock x =
+    d-imp (isQueued (x .stand)) (d-and (d-start (blockClass x) (readyNum (x .stand))) (d-leb (readyNum (x .stand)) (nextStart (blockClass x) clock)))
 
 -- the clauses on a place by itself
 pub record PlacePasses (L : ℕ) (x : Place) : Type 0 where
@@ -78,7 +86,8 @@ abbrev Zeros : Place → Type 0
 Zeros x = (x .number ≡ 0) × ((x .start ≡ 0) × ((1 ≤ length (x .lane) → ⊥) × (x .deficit ≡ 0)))
 
 d-free : (x : Place) → Decides (freeIsZero x) ((1 ≤ x .share) ⊎ Zeros x)
-d-free x = d-or (d-leb 1 (x .share)) (d-and (d-eqb (x .number) 0) (d-and (d-eqb (x .start) 0) (d-and (d-not (d-leb 1 (length (x .lane)))) (d-eqb (x .deficit) 0))))
+d-free x =
+    d-or (d-leb 1 (x .share)) (d-and (d-eqb (x .number) 0) (d-and (d-eqb (x .start) 0) (d-and (d-not (d-leb 1 (length (x .lane)))) (d-eqb (x .deficit) 0))))
 
 d-number : (x : Place) → Decides (numberInRange x) (isOpen x ≡ true → 1 ≤ x .number)
 d-number x = d-imp (isOpen x) (d-leb 1 (x .number))
@@ -118,7 +127,15 @@ place-ok L x h = record {
     named (inr o) (inr (number, (start, (full, deficit)))) =
         let share : x .share ≡ 0 = omega arith in
         let none : length (x .lane) ≤ 0 = omega arith in
-        inl (λ j. record { number = number j; share = share j; start = start j; lane = empty (x .lane) none j; deficit = deficit j; stand = lane-out L (x .share) (x .lane) (x .stand) none standOk j })
+        inl (λ j. record {
+          number = number j;
+          share = share j;
+          start = start j;
+          lane = empty (x .lane) none j;
+          deficit = deficit j;
+          stand =
+              lane-out L (x .share) (x .lane) (x .stand) none standOk j;
+        })
 
 pub place-passes : (L : ℕ) (x : Place) → PlaceOk L x → PlacePasses L x
 place-passes L x ok = record {
@@ -140,14 +157,22 @@ place-passes L x ok = record {
     clear false f = inr (f refl)
 
     free : (x ≡ freePlace) ⊎ ((1 ≤ x .number) × (1 ≤ x .share)) → (1 ≤ x .share) ⊎ Zeros x
-    free (inl e) = inr (ap (λ (y : Place). y .number) e, (ap (λ (y : Place). y .start) e, (λ l. omega (arith, ap (λ (y : Place). length (y .lane)) e), ap (λ (y : Place). y .deficit) e)))
+    free (inl e) =
+        inr (
+          ap (λ (y : Place). y .number) e,
+          (ap (λ (y : Place). y .start) e, (λ l. omega (arith, ap (λ (y : Place). length (y .lane)) e), ap (λ (y : Place). y .deficit) e)),
+        )
     free (inr o) = inl (o .1)
 
 -- ---- the places together
 
-d-apart : (b : Board) → Decides (numbersApart b) ((p : ℕ) → p < 64 → (q : ℕ) → q < 64 → (p ≡ q) ⊎ ((1 ≤ at b p .share) × ((1 ≤ at b q .share) × (at b p .number ≡ at b q .number)) → ⊥))
+d-apart : (b : Board)
+    → Decides (numbersApart b)
+    ((p : ℕ) → p < 64 → (q : ℕ) → q < 64 → (p ≡ q) ⊎ ((1 ≤ at b p .share) × ((1 ≤ at b q .share) × (at b p .number ≡ at b q .number)) → ⊥))
 unfolding numbersApart
-d-apart b = d-all 64 _ _ (λ p. d-all 64 _ _ (λ q. d-or (d-eqb p q) (d-not (d-and (d-leb 1 (at b p .share)) (d-and (d-leb 1 (at b q .share)) (d-eqb (at b p .number) (at b q .number)))))))
+d-apart b =
+    d-all 64 _ _ (λ p. d-all 64 _ _
+    (λ q. d-or (d-eqb p q) (d-not (d-and (d-leb 1 (at b p .share)) (d-and (d-leb 1 (at b q .share)) (d-eqb (at b p .number) (at b q .number)))))))
 
 pub d-held : (b : Board) → Decides (heldWhileWaiting b) (quiet b ≡ true → (k : ℕ) → k < 17 → b .held k ≡ 0)
 d-held b = d-imp (quiet b) (d-all 17 _ _ (λ k. d-eqb (b .held k) 0))
@@ -157,7 +182,9 @@ d-held b = d-imp (quiet b) (d-all 17 _ _ (λ k. d-eqb (b .held k) 0))
 d-inside : (ps : List ℕ) → Decides (allPlaces ps) ((q : ℕ) → 1 ≤ count q ps → q < 64)
 unfolding allPlaces count
 d-inside [] = record { yes = λ e q h. absurd (omega arith); no = λ e. refl }
-d-inside (p ∷ ps) = d-iff (d-and (d-leb (suc p) 64) (d-inside ps)) (λ w q h. go w q h (ℕ-discrete q p)) (λ f. (f p (omega (arith, ap oneIf (eqb-yes p p refl))), λ q h. f q (omega arith)))
+d-inside (p ∷ ps) =
+    d-iff (d-and (d-leb (suc p) 64) (d-inside ps)) (λ w q h. go w q h (ℕ-discrete q p))
+    (λ f. (f p (omega (arith, ap oneIf (eqb-yes p p refl))), λ q h. f q (omega arith)))
   where
     go : (p < 64) × ((q : ℕ) → 1 ≤ count q ps → q < 64) → (q : ℕ) → 1 ≤ oneIf (eqb q p) + count q ps → Dec (q ≡ p) → q < 64
     go w q h (yes e) = rw e (w .0)
@@ -167,9 +194,12 @@ pub d-rising : (l : List Place) (ps : List ℕ) → Decides (neverFalling l ps) 
 unfolding neverFalling Rising count
 d-rising l [] = record { yes = λ e. tt; no = λ e. refl }
 d-rising l (p ∷ []) = record { yes = λ e. (λ q h. absurd (omega arith), tt); no = λ e. refl }
-d-rising l (p ∷ (q ∷ qs)) = d-iff (d-and (d-leb (ready l p) (ready l q)) (d-rising l (q ∷ qs))) (λ w. (λ r h. later w r h (ℕ-discrete r q), w .1)) (λ w. (w .0 q (omega (arith, ap oneIf (eqb-yes q q refl))), w .1))
+d-rising l (p ∷ (q ∷ qs)) =
+    d-iff (d-and (d-leb (ready l p) (ready l q)) (d-rising l (q ∷ qs))) (λ w. (λ r h. later w r h (ℕ-discrete r q), w .1))
+    (λ w. (w .0 q (omega (arith, ap oneIf (eqb-yes q q refl))), w .1))
   where
-    later : (ready l p ≤ ready l q) × (((r : ℕ) → 1 ≤ count r qs → ready l q ≤ ready l r) × Rising l qs) → (r : ℕ) → 1 ≤ oneIf (eqb r q) + count r qs → Dec (r ≡ q) → ready l p ≤ ready l r
+    later : (ready l p ≤ ready l q) × (((r : ℕ) → 1 ≤ count r qs → ready l q ≤ ready l r) × Rising l qs) → (r : ℕ) → 1 ≤ oneIf (eqb r q) + count r qs
+        → Dec (r ≡ q) → ready l p ≤ ready l r
     later w r h (yes e) = rw e (w .0)
     later w r h (no e) = omega (arith, w .0, w .1 .0 r (omega (arith, ap oneIf (eqb-no r q e))))
 
@@ -243,14 +273,28 @@ slot-inside b g = go (b .slot) refl
 
 tidy-of : (b : Board) → Seventeen b → Each (clauses b) → Tidy b
 unfolding spent Rising count
-tidy-of b high (all64, (size, (clock, (numbers, (number, (share, (ring, (lengths, (deficit, (free, (shares, (held, (stands, (lists, (times, (rising, (slot, (inTime, _)))))))))))))))))) =
+tidy-of b high (
+  all64,
+  (
+    size,
+    (
+      clock,
+      (
+        numbers,
+        (number, (share, (ring, (lengths, (deficit, (free, (shares, (held, (stands, (lists, (times, (rising, (slot, (inTime, _)))))))))))))),
+      ),
+    ),
+  ),
+) =
     record {
       shape = record {
         least = size′ .0;
         most = size′ .1;
         all64 = long;
         placeOk = everywhere (PlaceOk (b .largest)) b long (free-ok (b .largest) (size′ .0)) passes;
-        seat = everywhere (SeatP (b .clock)) b long (λ e. absurd (false≢true e)) (λ p l. d-ready (b .clock) (at b p) .yes (at-place b (readyInRange (b .clock)) times p l));
+        seat =
+            everywhere (SeatP (b .clock)) b long (λ e. absurd (false≢true e))
+            (λ p l. d-ready (b .clock) (at b p) .yes (at-place b (readyInRange (b .clock)) times p l));
         spent = true-le (spent b) 65536 shares;
         names = distinct b long numbers;
         listed = λ k p. listed k p (split 17 k) (split 64 p);

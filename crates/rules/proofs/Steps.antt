@@ -14,7 +14,8 @@ use Rattle.base.proofs.Sums.{sum-le, sum-mul, sum-zero, sum-set, below-le, belo
 use Rattle.units.specs.Classes.{nextStart}
 use Rattle.units.proofs.Starts.{next-gt, next-start, next-mono, next-at}
 use Rattle.units.proofs.Classes.{class-le, class-lo}
-use Rattle.rules.proofs.Line.{Seat, free, class, pend, pend-yes, pend-off, pend-late, pend-high, room, room-in, room-high, SeatOk, Ok, hroom, Fits, Kept, Bought, Lowest, off, begun, begin-fits, tick-fits, deadline, ok-other, in-reach}
+use Rattle.rules.proofs.Line.{Seat, free, class, pend, pend-yes, pend-off, pend-late, pend-high, room, room-in, room-high, SeatOk, Ok, hroom, Fits, Kept}
+use Rattle.rules.proofs.Line.{Bought, Lowest, off, begun, begin-fits, tick-fits, deadline, ok-other, in-reach}
 use Rattle.rules.proofs.Line
 
 pub record Sound (l : List Seat) (H : ℕ → ℕ) (c d : ℕ) : Type 0 where
@@ -40,10 +41,18 @@ begin-sound l H c p s low = record { ok = λ i. deadline (begun l p) H c i fits 
 
 -- a slot ends: the clock goes on by one
 pub tick-sound : (l : List Seat) (H H′ : ℕ → ℕ) (c : ℕ) → Sound l H c 1 → Kept c (suc c) H H′ → ((j : ℕ) → H′ j ≤ H j) → Sound l H′ (suc c) 0
-tick-sound l H H′ c s kept less = record { ok = oks; fits = λ k a. tick-fits l H H′ c k (s .ok) kept (s .fits k a); bought = omega (arith, s .bought, below-le H′ H 17 (λ j _. less j)) }
+tick-sound l H H′ c s kept less =
+    record { ok = oks; fits = λ k a. tick-fits l H H′ c k (s .ok) kept (s .fits k a); bought = omega (arith, s .bought, below-le H′ H 17 (λ j _. less j)) }
   where
     oks : (i : ℕ) → Ok (suc c) 0 (getD l i free)
-    oks i e = let o = s .ok i e in record { bought = o .bought; start = o .start; soon = omega (arith, o .soon, next-mono (class (getD l i free)) c (suc c) (omega arith)); fresh = omega (arith, o .fresh) }
+    oks i e =
+        let o = s .ok i e in record {
+          bought = o .bought;
+          start = o .start;
+          soon = omega (arith, o .soon, next-mono (class (getD l i free)) c (suc c) (omega arith));
+          fresh =
+              omega (arith, o .fresh);
+        }
 
 -- nothing is pending: the clock goes to a time that is no later than any ready time
 pub jump-sound : (l : List Seat) (H H′ : ℕ → ℕ) (c c′ : ℕ) → c ≤ c′ → ((i : ℕ) → (getD l i free) .ord ≡ true → c′ ≤ (getD l i free) .ready)
@@ -51,7 +60,14 @@ pub jump-sound : (l : List Seat) (H H′ : ℕ → ℕ) (c c′ : ℕ) → c ≤
 jump-sound l H H′ c c′ le first s less = record { ok = oks; fits = fits; bought = omega (arith, s .bought, below-le H′ H 17 (λ j _. less j)) }
   where
     oks : (i : ℕ) → Ok c′ 0 (getD l i free)
-    oks i e = let o = s .ok i e in record { bought = o .bought; start = o .start; soon = omega (arith, o .soon, next-mono (class (getD l i free)) c c′ le); fresh = omega (arith, first i e, pow-pos (class (getD l i free))) }
+    oks i e =
+        let o = s .ok i e in record {
+          bought = o .bought;
+          start = o .start;
+          soon = omega (arith, o .soon, next-mono (class (getD l i free)) c c′ le);
+          fresh =
+              omega (arith, first i e, pow-pos (class (getD l i free)));
+        }
 
     each : (k i : ℕ) → 65536 * pend k c′ (getD l i free) ≤ room k c′ 0 (getD l i free)
     each k i = go (t .ord) refl (split (t .ready) c′) (split (class t) k)
@@ -82,7 +98,8 @@ joined c s = record { share = s .share; ord = true; ready = nextStart (class s) 
 
 pub join-sound : (l : List Seat) (H : ℕ → ℕ) (c d p : ℕ) → d ≤ 1 → p < length l → 1 ≤ (getD l p free) .share → (getD l p free) .ord ≡ false
     → Sound l H c d → Sound (set l p (joined c (getD l p free))) H c d
-join-sound l H c d p d1 h one was s = record { ok = ok-other l c d p new h (s .ok) (λ e. okNew); fits = fits; bought = omega (arith, s .bought, sum-set (λ t. t .share) free l p new h) }
+join-sound l H c d p d1 h one was s =
+    record { ok = ok-other l c d p new h (s .ok) (λ e. okNew); fits = fits; bought = omega (arith, s .bought, sum-set (λ t. t .share) free l p new h) }
   where
     old : Seat
     old = getD l p free
@@ -91,10 +108,26 @@ join-sound l H c d p d1 h one was s = record { ok = ok-other l c d p new h (s .o
     new = joined c old
 
     okNew : SeatOk c d new
-    okNew = record { bought = one; start = next-start (class old) c; soon = le-refl (nextStart (class old) c); fresh = omega (arith, next-gt (class old) c, pow-pos (class old)) }
+    okNew =
+        record {
+          bought = one;
+          start = next-start (class old) c;
+          soon = le-refl (nextStart (class old) c);
+          fresh =
+              omega (arith, next-gt (class old) c, pow-pos (class old));
+        }
 
     fits : (k : ℕ) → k ≤ 16 → Fits (set l p new) H c d k
-    fits k a = omega (arith, s .fits k a, sum-set (pend k c) free l p new h, pend-off k c old was, pend-late k c new (next-gt (class old) c), sum-set (room k c d) free l p new h, same)
+    fits k a =
+        omega (
+          arith,
+          s .fits k a,
+          sum-set (pend k c) free l p new h,
+          pend-off k c old was,
+          pend-late k c new (next-gt (class old) c),
+          sum-set (room k c d) free l p new h,
+          same,
+        )
       where
         same : room k c d new ≡ room k c d old
         same = room-share k c d new old refl
@@ -105,13 +138,20 @@ openedAt n = record { share = n; ord = false; ready = 0 }
 
 pub open-sound : (l : List Seat) (H : ℕ → ℕ) (c d p n : ℕ) → p < length l → getD l p free ≡ free → sum (λ s. s .share) l + below H 17 + n ≤ 65536
     → Sound l H c d → Sound (set l p (openedAt n)) H c d
-open-sound l H c d p n h was room-left s = record { ok = ok-other l c d p new h (s .ok) (λ e. absurd (false≢true e)); fits = fits; bought = omega (arith, room-left, sum-set (λ t. t .share) free l p new h) }
+open-sound l H c d p n h was room-left s =
+    record {
+      ok = ok-other l c d p new h (s .ok) (λ e. absurd (false≢true e));
+      fits = fits;
+      bought =
+          omega (arith, room-left, sum-set (λ t. t .share) free l p new h);
+    }
   where
     new : Seat
     new = openedAt n
 
     fits : (k : ℕ) → k ≤ 16 → Fits (set l p new) H c d k
-    fits k a = omega (arith, s .fits k a, sum-set (pend k c) free l p new h, pend-off k c new refl, sum-set (room k c d) free l p new h, rw (← was) at zero-room)
+    fits k a =
+        omega (arith, s .fits k a, sum-set (pend k c) free l p new h, pend-off k c new refl, sum-set (room k c d) free l p new h, rw (← was) at zero-room)
       where
         zero-room : room k c d free ≡ 0
         zero-room = go (split (class free) k)
@@ -125,7 +165,8 @@ pub record Holds (H H′ : ℕ → ℕ) (k n : ℕ) : Type 0 where
   pub here : H′ k ≡ H k + n
   pub there : (j : ℕ) → j ≢ k → H′ j ≡ H j
 
-pub close-sound : (l : List Seat) (H H′ : ℕ → ℕ) (c d p : ℕ) → p < length l → (getD l p free) .ord ≡ false → Holds H H′ (class (getD l p free)) ((getD l p free) .share)
+pub close-sound : (l : List Seat) (H H′ : ℕ → ℕ) (c d p : ℕ) → p < length l → (getD l p free) .ord ≡ false
+    → Holds H H′ (class (getD l p free)) ((getD l p free) .share)
     → Sound l H c d → Sound (set l p free) H′ c d
 unfolding hroom
 close-sound l H H′ c d p h was hold s = record { ok = ok-other l c d p free h (s .ok) (λ e. absurd (false≢true e)); fits = fits; bought = bought }
@@ -134,10 +175,26 @@ close-sound l H H′ c d p h was hold s = record { ok = ok-other l c d p free h 
     old = getD l p free
 
     bought : Bought (set l p free) H′
-    bought = omega (arith, s .bought, sum-set (λ t. t .share) free l p free h, below-one H′ H 17 (class old) (omega (arith, class-le (old .share))) (hold .there), hold .here)
+    bought =
+        omega (
+          arith,
+          s .bought,
+          sum-set (λ t. t .share) free l p free h,
+          below-one H′ H 17 (class old) (omega (arith, class-le (old .share))) (hold .there),
+          hold .here,
+        )
 
     fits : (k : ℕ) → k ≤ 16 → Fits (set l p free) H′ c d k
-    fits k a = omega (arith, s .fits k a, sum-set (pend k c) free l p free h, pend-off k c free refl, pend-off k c old was, sum-set (room k c d) free l p free h, moved (split (class old) k))
+    fits k a =
+        omega (
+          arith,
+          s .fits k a,
+          sum-set (pend k c) free l p free h,
+          pend-off k c free refl,
+          pend-off k c old was,
+          sum-set (room k c d) free l p free h,
+          moved (split (class old) k),
+        )
       where
         here : hroom c d H′ (class old) ≡ hroom c d H (class old) + old .share * (nextStart (class old) c - c - d)
         here = rw (hold .here) (add-mul (H (class old)) (old .share) (nextStart (class old) c - c - d))
@@ -151,4 +208,10 @@ close-sound l H H′ c d p h was hold s = record { ok = ok-other l c d p free h 
 
 -- nobody waits: nothing is held, and the shares may be anything that can be bought
 pub idle-sound : (l : List Seat) (H : ℕ → ℕ) (c d : ℕ) → ((i : ℕ) → (getD l i free) .ord ≡ false) → Bought l H → Sound l H c d
-idle-sound l H c d none bought = record { ok = λ i e. absurd (false≢true (sym (none i) ∙ e)); fits = λ k a. omega (arith, sum-zero (pend k c) free l (λ i. pend-off k c (getD l i free) (none i))); bought = bought }
+idle-sound l H c d none bought =
+    record {
+      ok = λ i e. absurd (false≢true (sym (none i) ∙ e));
+      fits =
+          λ k a. omega (arith, sum-zero (pend k c) free l (λ i. pend-off k c (getD l i free) (none i)));
+      bought = bought;
+    }

@@ -57,7 +57,8 @@ told-step s b p x g t = go (s .closed) refl
         goes =
             ap₂ (λ (u v : List Record). u ++ v) (t .whenOpen e .1) (f .took)
             ∙ append-assoc (s .sent) (at b p .lane) (tookOne p b x (step b x .out))
-            ∙ ap (λ (u : List Record). s .sent ++ u) (flow-step b x g p ∙ ap (λ (u : List Record). u ++ at nb p .lane) (sym (sent-for b (s .number) p (step b x .out) (f .sent))))
+            ∙ ap (λ (u : List Record). s .sent ++ u)
+            (flow-step b x g p ∙ ap (λ (u : List Record). u ++ at nb p .lane) (sym (sent-for b (s .number) p (step b x .out) (f .sent))))
             ∙ sym (append-assoc (s .sent) (sentFor (s .number) (answer b x)) (at nb p .lane))
 
         shut : closes (s .number) x (answer b x) ≡ true → s .taken ++ takenFor (s .number) x (answer b x) ≡ s .sent ++ sentFor (s .number) (answer b x)
@@ -76,7 +77,8 @@ pub opened-by : (b : Board) → Tidy b → (o : Opening) → OpenedBy b o (step 
 opened-by b g o = open-cases b o (OpenedBy b o) (λ code r e. absurd (true≢false (sym (eqb-yes code 0 e) ∙ refusal-not0 code r))) opens
   where
     opens : CanOpen b o → OpenedBy b o (record { out = done; next = goOn b (freeAt b) (opened o) })
-    opens c e = (freeAt b, record { inside = c .inside; bought = rw (ap (λ (x : Place). x .share) here) (c .share); named = ap (λ (x : Place). x .number) here }, here)
+    opens c e =
+        (freeAt b, record { inside = c .inside; bought = rw (ap (λ (x : Place). x .share) here) (c .share); named = ap (λ (x : Place). x .number) here }, here)
       where
         here : getD (set (b .places) (freeAt b) (opened o)) (freeAt b) freePlace ≡ opened o
         here = getD-set-same (b .places) (freeAt b) (opened o) freePlace (omega (arith, c .inside, g .shape .all64))
@@ -92,10 +94,21 @@ conserved b g o after e = go (opened-by b g o e)
     gb = tidy-step b (open! o) g
 
     go : (p : ℕ) × (Has nb p (o .number)) × (at nb p ≡ opened o) → Accounted (story (begins (o .number)) nb after) (play nb after)
-    go (p, h, l) = record { whenClosed = t .whenClosed; whenOpen = λ c. ((p, has-find (play nb after) p _ ge (t .whenOpen c .0)), t .whenOpen c .1 ∙ ap (λ (u : List Record). story (begins (o .number)) nb after .sent ++ u) (sym (has-lane (play nb after) p _ ge (t .whenOpen c .0)))) }
+    go (p, h, l) =
+        record {
+          whenClosed = t .whenClosed;
+          whenOpen =
+              λ c. (
+                (p, has-find (play nb after) p _ ge (t .whenOpen c .0)),
+                t .whenOpen c .1 ∙ ap (λ (u : List Record). story (begins (o .number)) nb after .sent ++ u)
+                    (sym (has-lane (play nb after) p _ ge (t .whenOpen c .0))),
+              );
+        }
       where
         t : Told (story (begins (o .number)) nb after) (play nb after) p
-        t = told-story (begins (o .number)) nb p after gb (record { whenClosed = λ f. absurd (false≢true f); whenOpen = λ _. (h, sym (ap (λ (x : Place). x .lane) l)) })
+        t =
+            told-story (begins (o .number)) nb p after gb
+            (record { whenClosed = λ f. absurd (false≢true f); whenOpen = λ _. (h, sym (ap (λ (x : Place). x .lane) l)) })
 
         ge : Tidy (play nb after)
         ge = tidy-play nb after gb

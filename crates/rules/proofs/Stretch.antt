@@ -23,17 +23,20 @@ use Rattle.rules.proofs.Run.{keeps-step}
 -- the slots that p begins at a clock from lo up to, but not at, hi
 unfoldable pub slotsAt : ℕ → ℕ → ℕ → Board → List Single → ℕ
 slotsAt lo hi p b [] = 0
-slotsAt lo hi p b (x ∷ xs) = oneIf (begun b (step b x) p && leb lo (slotClock (step b x .out)) && leb (suc (slotClock (step b x .out))) hi) + slotsAt lo hi p (step b x .next) xs
+slotsAt lo hi p b (x ∷ xs) =
+    oneIf (begun b (step b x) p && leb lo (slotClock (step b x .out)) && leb (suc (slotClock (step b x .out))) hi) + slotsAt lo hi p (step b x .next) xs
 
 -- where the block stands against its intervals
 pub due-ok : (b : Board) (p : ℕ) → Good b → inLine (at b p .stand) ≡ true
-    → (Start (blockClass (at b p)) (dueOf b p)) × (dueOf b p ≤ nextStart (blockClass (at b p)) (b .clock)) × (b .clock + busy (b .slot) < dueOf b p + 2 ^ blockClass (at b p))
+    → (Start (blockClass (at b p)) (dueOf b p)) × (dueOf b p ≤ nextStart (blockClass (at b p)) (b .clock))
+    × (b .clock + busy (b .slot) < dueOf b p + 2 ^ blockClass (at b p))
 due-ok b p g w = go (at b p .stand) refl w
   where
     k : ℕ
     k = blockClass (at b p)
 
-    go : (s : Stand) → at b p .stand ≡ s → inLine s ≡ true → (Start k (dueOf b p)) × (dueOf b p ≤ nextStart k (b .clock)) × (b .clock + busy (b .slot) < dueOf b p + 2 ^ k)
+    go : (s : Stand) → at b p .stand ≡ s → inLine s ≡ true
+        → (Start k (dueOf b p)) × (dueOf b p ≤ nextStart k (b .clock)) × (b .clock + busy (b .slot) < dueOf b p + 2 ^ k)
     go out e v = absurd (false≢true v)
     go (queued r) e v =
         let i : isQueued (at b p .stand) ≡ true = ap isQueued e in
@@ -51,7 +54,8 @@ Keeping p b (x ∷ xs) = (at (step b x .next) p .share ≡ at b p .share) × Kee
 none-left : (b : Board) (xs : List Single) (p lo hi : ℕ) → Good b → Keeping p b xs → hi ≤ barOf b p → slotsAt lo hi p b xs ≡ 0
 unfolding Keeping slotsAt
 none-left b [] p lo hi g w h = refl
-none-left b (x ∷ xs) p lo hi g w h = omega (arith, none-left (step b x .next) xs p lo hi (k .good) (w .1) (omega (arith, z .rise)), go (begun b (step b x) p) refl)
+none-left b (x ∷ xs) p lo hi g w h =
+    omega (arith, none-left (step b x .next) xs p lo hi (k .good) (w .1) (omega (arith, z .rise)), go (begun b (step b x) p) refl)
   where
     k : Keeps b (step b x)
     k = keeps-step b x g
@@ -70,7 +74,8 @@ none-left b (x ∷ xs) p lo hi g w h = omega (arith, none-left (step b x .next) 
     go false e = refl
     go true e = rw (leb-no (suc t) hi (omega (arith, z .slot e .0))) (last (leb lo t))
 
-pub never-two : (b : Board) (xs : List Single) (p k lo : ℕ) → Good b → Keeping p b xs → blockClass (at b p) ≡ k → Start k lo → slotsAt lo (lo + 2 ^ k) p b xs ≤ 1
+pub never-two : (b : Board) (xs : List Single) (p k lo : ℕ) → Good b → Keeping p b xs → blockClass (at b p) ≡ k → Start k lo
+    → slotsAt lo (lo + 2 ^ k) p b xs ≤ 1
 unfolding Keeping slotsAt
 never-two b [] p k lo g w e m = omega arith
 never-two b (x ∷ xs) p k lo g w e m = go (begun b (step b x) p) refl (split lo t) (never-two nb xs p k lo (ks .good) (w .1) (ap classOf (w .0) ∙ e) m)
@@ -100,5 +105,6 @@ never-two b (x ∷ xs) p k lo g w e m = go (begun b (step b x) p) refl (split lo
     go true f (inl s) r = omega (
       arith,
       at-most (true && leb lo t && leb (suc t) (lo + 2 ^ k)),
-      none-left nb xs p lo (lo + 2 ^ k) (ks .good) (w .1) (omega (arith, rw e at (z .slot f .1), start-gap k lo (nextStart k t) m (next-start k t) (omega (arith, next-gt k t)))),
+      none-left nb xs p lo (lo + 2 ^ k) (ks .good) (w .1)
+          (omega (arith, rw e at (z .slot f .1), start-gap k lo (nextStart k t) m (next-start k t) (omega (arith, next-gt k t)))),
     )

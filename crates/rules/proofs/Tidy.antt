@@ -51,8 +51,11 @@ module _ (L c : ℕ) (l : List Place) (o : ℕ → List ℕ) (H : ℕ → ℕ) (
       one : (q : ℕ) → isServing (pl (set l p x) q .stand) ≡ eqb q p
       one = one-serves l p x inL e (λ q f. g .one q ∙ eqb-no q p f)
 
-  same : (x : Place) → x .number ≡ pl l p .number → x .share ≡ pl l p .share → isQueued (x .stand) ≡ false → readyNum (x .stand) ≡ 0 → PlaceOk L x → Shape L c (set l p x) o H
-  same x n s q r new = shape-same p x inL s (q ∙ sym (serving-not-queued (pl l p .stand) isS)) (r ∙ sym (serving-ready (pl l p .stand) isS)) (names-kept l p x inL n s (g .shape .names)) new (g .shape)
+  same : (x : Place) → x .number ≡ pl l p .number → x .share ≡ pl l p .share → isQueued (x .stand) ≡ false → readyNum (x .stand) ≡ 0 → PlaceOk L x
+      → Shape L c (set l p x) o H
+  same x n s q r new =
+      shape-same p x inL s (q ∙ sym (serving-not-queued (pl l p .stand) isS)) (r ∙ sym (serving-ready (pl l p .stand) isS))
+      (names-kept l p x inL n s (g .shape .names)) new (g .shape)
 
   tidy-lit : Tidy (sendFrom (lit L c l o (some p) H) p)
   unfolding sendFrom
@@ -71,8 +74,13 @@ module _ (L c : ℕ) (l : List Place) (o : ℕ → List ℕ) (H : ℕ → ℕ) (
       o′ = upd o (blockClass (pl l p)) (o (blockClass (pl l p)) ++ (p ∷ []))
 
       two : 2 ≤ length (pl l p .lane) → (t : Bool) → ltb rest nx ≡ t → Tidy (cond t (ended b p (short c (pl l p)) o′) (goOn b p (going (pl l p))))
-      two m true e = tidy-ended (short c (pl l p)) o′ refl (shape-join p (onward (pl l p)) (drop 1 (pl l p .lane)) (leftOf (pl l p .stand) - charge (front (pl l p)) * 65536) inL (serving-not-queued (pl l p .stand) isS) (Slot.short-ok L c l o H p (g .shape) (g .one) m (true-le (suc rest) nx e)) (g .shape))
-      two m false e = tidy-goOn (going (pl l p)) refl (same (going (pl l p)) refl refl refl refl (Slot.going-ok L c l o H p (g .shape) (g .one) m (omega (arith, false-lt (suc rest) nx e))))
+      two m true e =
+          tidy-ended (short c (pl l p)) o′ refl
+          (shape-join p (onward (pl l p)) (drop 1 (pl l p .lane)) (leftOf (pl l p .stand) - charge (front (pl l p)) * 65536) inL
+          (serving-not-queued (pl l p .stand) isS) (Slot.short-ok L c l o H p (g .shape) (g .one) m (true-le (suc rest) nx e)) (g .shape))
+      two m false e =
+          tidy-goOn (going (pl l p)) refl
+          (same (going (pl l p)) refl refl refl refl (Slot.going-ok L c l o H p (g .shape) (g .one) m (omega (arith, false-lt (suc rest) nx e))))
 
       go : (t : Bool) → leb (length (pl l p .lane)) 1 ≡ t
           → Tidy (cond t (ended b p (emptied (pl l p)) o) (cond (ltb rest nx) (ended b p (short c (pl l p)) o′) (goOn b p (going (pl l p)))))
@@ -80,7 +88,8 @@ module _ (L c : ℕ) (l : List Place) (o : ℕ → List ℕ) (H : ℕ → ℕ) (
       go false e = two (false-lt (length (pl l p .lane)) 1 e) (ltb rest nx) refl
 
 pub tidy-send : (b : Board) (p : ℕ) → b .slot ≡ some p → Tidy b → Tidy (sendFrom b p)
-tidy-send b p e = subst (λ (s : Option ℕ). Tidy (set-slot s) → Tidy (sendFrom (set-slot s) p)) (sym e) (tidy-lit (b .largest) (b .clock) (b .places) (b .orders) (b .held) p)
+tidy-send b p e =
+    subst (λ (s : Option ℕ). Tidy (set-slot s) → Tidy (sendFrom (set-slot s) p)) (sym e) (tidy-lit (b .largest) (b .clock) (b .places) (b .orders) (b .held) p)
   where
     set-slot : Option ℕ → Board
     set-slot s = lit (b .largest) (b .clock) (b .places) (b .orders) s (b .held)
@@ -102,7 +111,13 @@ module _ (b : Board) (r : ℕ) (free : b .slot ≡ none) (least : LeastIs (b .pl
 
   pub tidy-begin : Tidy (begin b t)
   unfolding begin quiet
-  tidy-begin = record { shape = shape-begin t k p chosen (shape-clock t (release (b .clock) t (b .held)) (omega arith) (release-le (b .clock) t (b .held)) (g .shape)); one = one; calm = λ q. absurd (false≢true q); time = omega (arith, soon) }
+  tidy-begin =
+      record {
+        shape = shape-begin t k p chosen (shape-clock t (release (b .clock) t (b .held)) (omega arith) (release-le (b .clock) t (b .held)) (g .shape));
+        one = one;
+        calm = λ q. absurd (false≢true q);
+        time = omega (arith, soon);
+      }
     where
       h : p < length (b .places)
       h = queued-in (b .places) p (chosen .isQ)

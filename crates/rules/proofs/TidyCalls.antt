@@ -38,7 +38,8 @@ least-set (y ∷ l) (suc p) x e = rw (least-set l p x e)
 
 -- a call that leaves the clock, the slot and the stands as they were
 tidy-quiet : (b : Board) (p : ℕ) (x : Place) (H′ : ℕ → ℕ) → p < length (b .places) → x .stand ≡ at b p .stand → (quiet b ≡ true → (j : ℕ) → H′ j ≡ 0)
-    → Shape (b .largest) (b .clock) (set (b .places) p x) (b .orders) H′ → Tidy b → Tidy (lit (b .largest) (b .clock) (set (b .places) p x) (b .orders) (b .slot) H′)
+    → Shape (b .largest) (b .clock) (set (b .places) p x) (b .orders) H′ → Tidy b
+    → Tidy (lit (b .largest) (b .clock) (set (b .places) p x) (b .orders) (b .slot) H′)
 unfolding quiet
 tidy-quiet b p x H′ h e calm sh g = record {
   shape = sh;
@@ -75,7 +76,9 @@ module _ (b : Board) (p n : ℕ) (x : Record) (can : CanTake b p n x) (g : Tidy 
           noisy : (m : Option ℕ) → LeastIs (set (b .places) p y) m → isNone m ≡ true → ⊥
           noisy none l f = true≢false (rw (getD-set-same (b .places) p y freePlace in-l) at (l p))
           noisy (some r) l f = false≢true f
-      go false e = tidy-quiet b p z (b .held) in-l refl (g .calm) (shape-same p z in-l refl refl refl (names-kept (b .places) p z in-l refl refl (g .shape .names)) zok (g .shape)) g
+      go false e =
+          tidy-quiet b p z (b .held) in-l refl (g .calm)
+          (shape-same p z in-l refl refl refl (names-kept (b .places) p z in-l refl refl (g .shape .names)) zok (g .shape)) g
         where
           z : Place
           z = more (at b p) x
@@ -127,7 +130,13 @@ tidy-close b p n can g =
 
     room : (t : Bool) → sum (λ y. y .share) (b .places) + below (cond t (b .held) held) 17 + 0 ≤ 65536 + at b p .share
     room true = omega (arith, g .shape .spent)
-    room false = omega (arith, g .shape .spent, below-one held (b .held) 17 k (omega (arith, class-le (at b p .share))) (λ j e. upd-other (b .held) k (b .held k + at b p .share) j e), upd-same (b .held) k (b .held k + at b p .share))
+    room false =
+        omega (
+          arith,
+          g .shape .spent,
+          below-one held (b .held) 17 k (omega (arith, class-le (at b p .share))) (λ j e. upd-other (b .held) k (b .held k + at b p .share) j e),
+          upd-same (b .held) k (b .held k + at b p .share),
+        )
 
 pub tidy-serve : (b : Board) → Tidy b → Tidy (serve b .next)
 unfolding send

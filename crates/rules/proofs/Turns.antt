@@ -17,7 +17,8 @@ use Rattle.units.proofs.Starts.{next-gt, next-mono}
 use Rattle.units.specs.Credit.{creditOf, largestCharge}
 use Rattle.rules.specs.Spoilt.{isQueued, isServing, readyNum, isAt}
 use Rattle.rules.specs.Board.{Record, noRecord, onward, charge, Stand, out, queued, serving, Place, freePlace, blockClass, front, Board, at}
-use Rattle.rules.specs.Choice.{upd, leftOf, Out, refused, done, taken, Sending, sending, sent, Turn, isNone, emptied, short, going, more, ended, goOn, sendFrom, send}
+use Rattle.rules.specs.Choice.{upd, leftOf, Out, refused, done, taken, Sending, sending, sent, Turn, isNone, emptied, short, going, more, ended, goOn}
+use Rattle.rules.specs.Choice.{sendFrom, send}
 use Rattle.rules.specs.Choice.{refuse}
 use Rattle.rules.proofs.Line.{Seat}
 use Rattle.rules.proofs.Potential.{ahead, ahead-tick, ahead-join}
@@ -130,8 +131,10 @@ pub record Goes (b : Board) (t : Turn) (p : ℕ) : Type 0 where
   pub share : at (t .next) p .share ≡ at b p .share
   pub idle : begun b t p ≡ false → dueOf (t .next) p ≡ dueOf b p
   pub slot : begun b t p ≡ true
-      → (dueOf b p ≤ slotClock (t .out)) × (slotClock (t .out) < dueOf b p + 2 ^ blockClass (at b p)) × (dueOf (t .next) p ≡ dueOf b p + 2 ^ blockClass (at b p))
-  pub account : hand (at (t .next) p) + cond (fromPlace p (t .out)) (bytesSent (t .out)) 0 * 65536 ≡ hand (at b p) + cond (begun b t p) (creditOf (b .largest) (at b p .share)) 0
+      → (dueOf b p ≤ slotClock (t .out)) × (slotClock (t .out) < dueOf b p + 2 ^ blockClass (at b p))
+      × (dueOf (t .next) p ≡ dueOf b p + 2 ^ blockClass (at b p))
+  pub account : hand (at (t .next) p) + cond (fromPlace p (t .out)) (bytesSent (t .out)) 0 * 65536
+      ≡ hand (at b p) + cond (begun b t p) (creditOf (b .largest) (at b p .share)) 0
 
 pub record Keeps (b : Board) (t : Turn) : Type 0 where
   pub good : Good (t .next)
@@ -151,7 +154,8 @@ and-false true = refl
 and-false false = refl
 
 -- nothing of the block changes
-pub goes-same : (b : Board) (t : Turn) (p : ℕ) → fromPlace p (t .out) ≡ false → at (t .next) p .share ≡ at b p .share → dueOf (t .next) p ≡ dueOf b p → hand (at (t .next) p) ≡ hand (at b p) → Goes b t p
+pub goes-same : (b : Board) (t : Turn) (p : ℕ) → fromPlace p (t .out) ≡ false → at (t .next) p .share ≡ at b p .share → dueOf (t .next) p ≡ dueOf b p
+    → hand (at (t .next) p) ≡ hand (at b p) → Goes b t p
 goes-same b t p f e d h =
     record {
       share = e;
@@ -170,7 +174,16 @@ bars-same b t p f h = record { rise = h; slot = λ g. absurd (false≢true (sym 
     never = rw f (and-false (isNone (b .slot)))
 
 pub keeps-refuse : (b : Board) (n : ℕ) → Good b → Keeps b (refuse b n)
-keeps-refuse b n g = record { good = g; stays = λ p w e. (w, refl, omega arith); some! = λ e. absurd (false≢true e); goes = λ p w v. goes-same b (refuse b n) p refl refl refl refl; bars = λ p e. bars-same b (refuse b n) p refl (le-refl (barOf b p)); comes = comes }
+keeps-refuse b n g =
+    record {
+      good = g;
+      stays = λ p w e. (w, refl, omega arith);
+      some! = λ e. absurd (false≢true e);
+      goes =
+          λ p w v. goes-same b (refuse b n) p refl refl refl refl;
+      bars = λ p e. bars-same b (refuse b n) p refl (le-refl (barOf b p));
+      comes = comes;
+    }
   where
     comes : (p : ℕ) → inLine (at b p .stand) ≡ true → (inLine (at b p .stand) ≡ false) ⊎ (false ≡ true) → phi b p ≤ limit (b .largest) (blockClass (at b p))
     comes p w (inl e) = absurd (true≢false (sym w ∙ e))
@@ -207,7 +220,8 @@ pub record Sends (b nb : Board) (p n t given : ℕ) : Type 0 where
 -- the time t at which p sends is right for it: its slot is open, or it begins one within its interval
 pub record Timely (b : Board) (p t : ℕ) : Type 0 where
   pub inSlot : isNone (b .slot) ≡ false → dueOf b p ≡ nextStart (blockClass (at b p)) t
-  pub begins : isNone (b .slot) ≡ true → (dueOf b p ≤ t) × (t < dueOf b p + 2 ^ blockClass (at b p)) × (nextStart (blockClass (at b p)) t ≡ dueOf b p + 2 ^ blockClass (at b p))
+  pub begins : isNone (b .slot) ≡ true
+      → (dueOf b p ≤ t) × (t < dueOf b p + 2 ^ blockClass (at b p)) × (nextStart (blockClass (at b p)) t ≡ dueOf b p + 2 ^ blockClass (at b p))
 
 abbrev pub givenIn : Board → ℕ → ℕ
 givenIn b p = cond (isNone (b .slot)) (creditOf (b .largest) (at b p .share)) 0
@@ -272,7 +286,8 @@ keeps-sent b nb z only w long timely s = record { good = s .good; stays = stays;
         go : Dec (q ≡ p) → Goes b turn q
         go (yes e) = rw e (own (rw e at v′))
         go (no e) = goes-same b turn q (eqb-no q p e) (ap (λ (x : Place). x .share) (s .others q e))
-            (rw (s .others q e) (due-queued (nb .clock) (at b q .share) (at b q .stand) (isQ q e v) ∙ sym (due-queued (b .clock) (at b q .share) (at b q .stand) (isQ q e v))))
+            (rw (s .others q e) (due-queued (nb .clock) (at b q .share) (at b q .stand) (isQ q e v)
+            ∙ sym (due-queued (b .clock) (at b q .share) (at b q .stand) (isQ q e v))))
             (ap hand (s .others q e))
 
     stays : (q : ℕ) → inLine (at b q .stand) ≡ true → eqb q p ≡ false
@@ -316,7 +331,8 @@ keeps-sent b nb z only w long timely s = record { good = s .good; stays = stays;
         go (yes f) = rw f ownBars
         go (no f) = bars-same b turn q (eqb-no q p f) (rw (s .others q f) (bar-mono (b .clock) (nb .clock) (at b q .share) (at b q .stand) (s .onward)))
 
-    comes : (q : ℕ) → inLine (at nb q .stand) ≡ true → (inLine (at b q .stand) ≡ false) ⊎ (eqb q p ≡ true) → phi nb q ≤ limit (nb .largest) (blockClass (at nb q))
+    comes : (q : ℕ) → inLine (at nb q .stand) ≡ true → (inLine (at b q .stand) ≡ false) ⊎ (eqb q p ≡ true)
+        → phi nb q ≤ limit (nb .largest) (blockClass (at nb q))
     comes q v c = go (ℕ-discrete q p) c
       where
         go : Dec (q ≡ p) → (inLine (at b q .stand) ≡ false) ⊎ (eqb q p ≡ true) → phi nb q ≤ limit (nb .largest) (blockClass (at nb q))
@@ -330,7 +346,8 @@ lit L c l o s H = record { largest = L; clock = c; places = l; orders = o; slot 
 serving-seat : (x : Place) → isServing (x .stand) ≡ true → record { share = x .share; ord = false; ready = 0 } ≡ seatOf x
 serving-seat x e = go (x .stand) e
   where
-    go : (s : Stand) → isServing s ≡ true → _≡_ {A = Seat} (record { share = x .share; ord = false; ready = 0 }) (record { share = x .share; ord = isQueued s; ready = readyNum s })
+    go : (s : Stand) → isServing s ≡ true
+        → _≡_ {A = Seat} (record { share = x .share; ord = false; ready = 0 }) (record { share = x .share; ord = isQueued s; ready = readyNum s })
     go out f = refl
     go (queued r) f = absurd (false≢true f)
     go (serving n) f = refl
@@ -355,7 +372,8 @@ module _ (L c : ℕ) (l : List Place) (o : ℕ → List ℕ) (H : ℕ → ℕ) (
   inL : p < length l
   inL = Slot.inL L c l o H p (g .fine .shape) (g .one)
 
-  facts : (1 ≤ length (pl l p .lane)) × (1 ≤ pl l p .share) × (charge (front (pl l p)) * 65536 ≤ leftOf (pl l p .stand)) × (leftOf (pl l p .stand) < 3 * largestCharge L * 65536)
+  facts : (1 ≤ length (pl l p .lane)) × (1 ≤ pl l p .share) × (charge (front (pl l p)) * 65536 ≤ leftOf (pl l p .stand))
+      × (leftOf (pl l p .stand) < 3 * largestCharge L * 65536)
   facts = Slot.facts L c l o H p (g .fine .shape) (g .one)
 
   others-set : (x : Place) (q : ℕ) → q ≢ p → pl (set l p x) q ≡ pl l q
@@ -365,14 +383,20 @@ module _ (L c : ℕ) (l : List Place) (o : ℕ → List ℕ) (H : ℕ → ℕ) (
   noneServes = Slot.noneServes L c l o H p (g .fine .shape) (g .one)
 
   -- the slot goes on
-  module _ (more : 2 ≤ length (pl l p .lane)) (fits : charge (getD (drop 1 (pl l p .lane)) 0 noRecord) * 65536 ≤ leftOf (pl l p .stand) - charge (front (pl l p)) * 65536) where
+  module _ (more : 2 ≤ length (pl l p .lane))
+      (fits : charge (getD (drop 1 (pl l p .lane)) 0 noRecord) * 65536 ≤ leftOf (pl l p .stand) - charge (front (pl l p)) * 65536) where
     going-ok : PlaceOk L (going (pl l p))
     going-ok = Slot.going-ok L c l o H p (g .fine .shape) (g .one) more fits
 
     sends-going : Sends (lit L c l o (some p) H) (lit L c (set l p (going (pl l p))) o (some p) H) p (charge (front (pl l p))) c 0
     unfolding slotLeft
     sends-going = record {
-      good = record { fine = fine-same p (going (pl l p)) inL (serving-seat (pl l p) isS) (names-kept l p (going (pl l p)) inL refl refl (g .fine .shape .names)) going-ok (g .fine); one = one };
+      good =
+          record {
+            fine = fine-same p (going (pl l p)) inL (serving-seat (pl l p) isS)
+                (names-kept l p (going (pl l p)) inL refl refl (g .fine .shape .names)) going-ok (g .fine);
+            one = one;
+          };
       others = others-set (going (pl l p));
       paid = λ q e i. rw (getD-set-same l p (going (pl l p)) freePlace inL) (omega (arith, facts .2));
       last = λ w. omega (arith, phi-other (lit L c (set l p (going (pl l p))) o (some p) H) p (rw (getD-set-same l p (going (pl l p)) freePlace inL)));
@@ -399,7 +423,11 @@ module _ (L c : ℕ) (l : List Place) (o : ℕ → List ℕ) (H : ℕ → ℕ) (
   sends-emptied : Sends (lit L c l o (some p) H) (ended (lit L c l o (some p) H) p (emptied (pl l p)) o) p (charge (front (pl l p))) c 0
   unfolding slotLeft ended
   sends-emptied = record {
-    good = record { fine = fine-tick (fine-same p x inL (serving-seat (pl l p) isS) (names-kept l p x inL refl refl (g .fine .shape .names)) emptied-ok (g .fine)); one = noneServes x refl };
+    good =
+        record {
+          fine = fine-tick (fine-same p x inL (serving-seat (pl l p) isS) (names-kept l p x inL refl refl (g .fine .shape .names)) emptied-ok (g .fine));
+          one = noneServes x refl;
+        };
     others = others-set x;
     paid = λ q e i. omega (arith, ch-left, ahead-tick (most L) c (seatOf (pl l q)));
     last = λ w. absurd (gone w);
@@ -417,20 +445,27 @@ module _ (L c : ℕ) (l : List Place) (o : ℕ → List ℕ) (H : ℕ → ℕ) (
       gone w = false≢true (rw (getD-set-same l p x freePlace inL) at w)
 
   -- the new front needs more than is left: the slot ends, and the block joins its order again
-  module _ (more : 2 ≤ length (pl l p .lane)) (lacks : leftOf (pl l p .stand) - charge (front (pl l p)) * 65536 < charge (getD (drop 1 (pl l p .lane)) 0 noRecord) * 65536) where
+  module _ (more : 2 ≤ length (pl l p .lane))
+      (lacks : leftOf (pl l p .stand) - charge (front (pl l p)) * 65536 < charge (getD (drop 1 (pl l p .lane)) 0 noRecord) * 65536) where
     short-ok : PlaceOk L (short c (pl l p))
     short-ok = Slot.short-ok L c l o H p (g .fine .shape) (g .one) more lacks
 
-    sends-short : Sends (lit L c l o (some p) H) (ended (lit L c l o (some p) H) p (short c (pl l p)) (upd o (blockClass (pl l p)) (o (blockClass (pl l p)) ++ (p ∷ [])))) p (charge (front (pl l p))) c 0
+    sends-short : Sends (lit L c l o (some p) H)
+        (ended (lit L c l o (some p) H) p (short c (pl l p)) (upd o (blockClass (pl l p)) (o (blockClass (pl l p)) ++ (p ∷ [])))) p
+        (charge (front (pl l p))) c 0
     unfolding slotLeft ended
     sends-short = record {
       good = record {
-        fine = fine-tick (fine-join p (onward (pl l p)) (drop 1 (pl l p .lane)) (x .deficit) inL (omega arith) (serving-not-queued (pl l p .stand) isS) (facts .1) short-ok (g .fine));
+        fine =
+            fine-tick (fine-join p (onward (pl l p)) (drop 1 (pl l p .lane)) (x .deficit) inL (omega arith) (serving-not-queued (pl l p .stand) isS)
+            (facts .1) short-ok (g .fine));
         one = noneServes x refl;
       };
       others = others-set x;
       paid = λ q e i. omega (arith, ch-left, ahead-tick (most L) c (seatOf (pl l q)));
-      last = λ w. rw (phi-queued nb p (rw (getD-set-same l p x freePlace inL)), getD-set-same l p x freePlace inL) (omega (arith, ahead-tick (most L) c (seatOf x), ahead-join (most L) 0 c 1 (seatOf x) refl (omega arith) (omega arith)));
+      last =
+          λ w. rw (phi-queued nb p (rw (getD-set-same l p x freePlace inL)), getD-set-same l p x freePlace inL)
+          (omega (arith, ahead-tick (most L) c (seatOf x), ahead-join (most L) 0 c 1 (seatOf x) refl (omega arith) (omega arith)));
       kept = ap (λ (z : Place). z .share) (getD-set-same l p x freePlace inL);
       past = omega arith;
       onward = omega arith;
@@ -461,18 +496,22 @@ module _ (L c : ℕ) (l : List Place) (o : ℕ → List ℕ) (H : ℕ → ℕ) (
       o′ : ℕ → List ℕ
       o′ = upd o (blockClass (pl l p)) (o (blockClass (pl l p)) ++ (p ∷ []))
 
-      two : 2 ≤ length (pl l p .lane) → (t : Bool) → ltb rest nx ≡ t → Sends b (cond t (ended b p (short c (pl l p)) o′) (goOn b p (going (pl l p)))) p (charge (front (pl l p))) c 0
+      two : 2 ≤ length (pl l p .lane) → (t : Bool) → ltb rest nx ≡ t
+          → Sends b (cond t (ended b p (short c (pl l p)) o′) (goOn b p (going (pl l p)))) p (charge (front (pl l p))) c 0
       two m true e = sends-short m (true-le (suc rest) nx e)
       two m false e = sends-going m (omega (arith, false-lt (suc rest) nx e))
 
       go : (t : Bool) → leb (length (pl l p .lane)) 1 ≡ t
-          → Sends b (cond t (ended b p (emptied (pl l p)) o) (cond (ltb rest nx) (ended b p (short c (pl l p)) o′) (goOn b p (going (pl l p))))) p (charge (front (pl l p))) c 0
+          → Sends b (cond t (ended b p (emptied (pl l p)) o) (cond (ltb rest nx) (ended b p (short c (pl l p)) o′) (goOn b p (going (pl l p))))) p
+          (charge (front (pl l p))) c 0
       go true e = sends-emptied
       go false e = two (false-lt (length (pl l p .lane)) 1 e) (ltb rest nx) refl
 
 -- a send while the slot is open at p
 pub sends : (b : Board) (p : ℕ) → b .slot ≡ some p → Good b → Sends b (sendFrom b p) p (charge (front (at b p))) (b .clock) 0
-sends b p e = subst (λ (s : Option ℕ). Good (set-slot s) → Sends (set-slot s) (sendFrom (set-slot s) p) p (charge (front (at b p))) (b .clock) 0) (sym e) (sends-lit (b .largest) (b .clock) (b .places) (b .orders) (b .held) p)
+sends b p e =
+    subst (λ (s : Option ℕ). Good (set-slot s) → Sends (set-slot s) (sendFrom (set-slot s) p) p (charge (front (at b p))) (b .clock) 0) (sym e)
+    (sends-lit (b .largest) (b .clock) (b .places) (b .orders) (b .held) p)
   where
     set-slot : Option ℕ → Board
     set-slot s = lit (b .largest) (b .clock) (b .places) (b .orders) s (b .held)
@@ -484,11 +523,16 @@ lane-some L share lane (queued r) e h = h .0
 lane-some L share lane (serving n) e h = h .0
 
 pub front-pos : (b : Board) (p : ℕ) → Good b → inLine (at b p .stand) ≡ true → 1 ≤ charge (front (at b p))
-front-pos b p g w = fit-charge (b .largest) (front (at b p)) (all-front (Fit (b .largest)) noRecord (at b p .lane) (lane-some (b .largest) (at b p .share) (at b p .lane) (at b p .stand) w (g .fine .shape .placeOk p .standOk)) (g .fine .shape .placeOk p .items)) .0
+front-pos b p g w =
+    fit-charge (b .largest) (front (at b p))
+    (all-front (Fit (b .largest)) noRecord (at b p .lane)
+    (lane-some (b .largest) (at b p .share) (at b p .lane) (at b p .stand) w (g .fine .shape .placeOk p .standOk)) (g .fine .shape .placeOk p .items)) .0
 
 pub keeps-send : (b : Board) (p : ℕ) → b .slot ≡ some p → Good b → Keeps b (send false b p)
 unfolding send
-keeps-send b p e g = keeps-sent b (sendFrom b p) (sending false b p) only isW (front-pos b p g isW) timely (subst (λ (n : ℕ). Sends b (sendFrom b p) p (charge (front (at b p))) (b .clock) n) (sym given) (sends b p e g))
+keeps-send b p e g =
+    keeps-sent b (sendFrom b p) (sending false b p) only isW (front-pos b p g isW) timely
+    (subst (λ (n : ℕ). Sends b (sendFrom b p) p (charge (front (at b p))) (b .clock) n) (sym given) (sends b p e g))
   where
     isS : isServing (at b p .stand) ≡ true
     isS = g .one p ∙ ap (isAt p) e ∙ eqb-yes p p refl

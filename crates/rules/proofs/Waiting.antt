@@ -44,7 +44,9 @@ out-empty L share lane (serving n) q v h = absurd (true≢false v)
 
 -- a slot is open
 slot-waits : (b : Board) (p : ℕ) → Tidy b → b .slot ≡ some p → someWait (b .places) ≡ true
-slot-waits b p g e = some-yes (b .places) p (serving-in (b .places) p isS) (serving-ok (b .largest) (at b p .share) (at b p .lane) (at b p .stand) isS (g .shape .placeOk p .standOk) .0)
+slot-waits b p g e =
+    some-yes (b .places) p (serving-in (b .places) p isS)
+    (serving-ok (b .largest) (at b p .share) (at b p .lane) (at b p .stand) isS (g .shape .placeOk p .standOk) .0)
   where
     isS : isServing (at b p .stand) ≡ true
     isS = g .one p ∙ ap (isAt p) e ∙ eqb-yes p p refl
@@ -55,12 +57,16 @@ unfolding LeastIs
 order-waits b r g e = go (subst (LeastIs (b .places)) e (least-is (b .places)) .1)
   where
     go : (i : ℕ) × (isQueued (at b i .stand) ≡ true) × (ready (b .places) i ≡ r) → someWait (b .places) ≡ true
-    go (i, q, _) = some-yes (b .places) i (queued-in (b .places) i q) (queued-ok (b .largest) (at b i .share) (at b i .lane) (at b i .stand) q (g .shape .placeOk i .standOk) .0)
+    go (i, q, _) =
+        some-yes (b .places) i (queued-in (b .places) i q)
+        (queued-ok (b .largest) (at b i .share) (at b i .lane) (at b i .stand) q (g .shape .placeOk i .standOk) .0)
 
 -- neither
 none-waits : (b : Board) → Tidy b → b .slot ≡ none → leastReady (b .places) ≡ none → someWait (b .places) ≡ false
 unfolding LeastIs
-none-waits b g e f = some-no (b .places) (λ p. out-empty (b .largest) (at b p .share) (at b p .lane) (at b p .stand) (subst (LeastIs (b .places)) f (least-is (b .places)) p) (g .one p ∙ ap (isAt p) e) (g .shape .placeOk p .standOk))
+none-waits b g e f =
+    some-no (b .places) (λ p. out-empty (b .largest) (at b p .share) (at b p .lane) (at b p .stand) (subst (LeastIs (b .places)) f (least-is (b .places)) p)
+    (g .one p ∙ ap (isAt p) e) (g .shape .placeOk p .standOk))
 
 pub some-quiet : (b : Board) → Tidy b → someWait (b .places) ≡ not (quiet b)
 unfolding quiet
@@ -75,12 +81,20 @@ some-quiet b g = go (b .slot) refl (leastReady (b .places)) refl
 
 abbrev Codes : Board → Turn → Type 0
 Codes b u = ((told b (u .out) ≡ gives 1) × (someWait (b .places) ≡ false))
-    ⊎ (((told b (u .out) ≡ gives 11) × (someWait (b .places) ≡ true) × (b .slot ≡ none) × ((r : ℕ) × (leastReady (b .places) ≡ some r) × (2 ^ 62 ≤ max (b .clock) r)))
+    ⊎ (((told b (u .out) ≡ gives 11) × (someWait (b .places) ≡ true) × (b .slot ≡ none)
+    × ((r : ℕ) × (leastReady (b .places) ≡ some r) × (2 ^ 62 ≤ max (b .clock) r)))
     ⊎ (((s : Sent) × (told b (u .out) ≡ sends s)) × (someWait (b .places) ≡ true)))
 
 codes : (b : Board) → Tidy b → Codes b (serve b)
 unfolding send
-codes b g = serve-cases b g (Codes b) (record { unserved = un; goesOn = λ p c. inr (inr ((_, refl), slot-waits b p g (c .slot))); begins = λ r t p c e. inr (inr ((_, refl), order-waits b r g (c .least))) })
+codes b g =
+    serve-cases b g (Codes b)
+    (record {
+      unserved = un;
+      goesOn = λ p c. inr (inr ((_, refl), slot-waits b p g (c .slot)));
+      begins =
+          λ r t p c e. inr (inr ((_, refl), order-waits b r g (c .least)));
+    })
   where
     un : (code : ℕ) → Unserved b code → Refusal code → Codes b (refuse b code)
     un code (nobody e f) k = inl (refl, none-waits b g e f)

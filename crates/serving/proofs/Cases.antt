@@ -16,22 +16,42 @@ use Rattle.slots.specs.Slots.{EmptyEnd, endedEmpty, WaitingEnd, endedWaiting, o
 use Rattle.serving.specs.Serving.{sentFrom, lostFrom, enacted, CanEnact, stayed, withinNow, Told, withinOf, servedWithin}
 
 -- ---- A send: entry, charge and start are what the code computed
-module _ (shares lens : List ℕ) (p : ℕ) (e : Engine) (entry charge on k : ℕ) (entry-is : entry ≡ laneEntry p (getD (e .starts) p 0) 0) (charge-is : charge ≡ chargeOf (getD lens entry 0)) (on-is : on ≡ laneOn (getD (e .starts) p 0)) (k-is : k ≡ classOf (getD shares p 0)) where
-  pub sent-last : getD (e .counts) p 0 - 1 ≡ 0 → (x : EmptyEnd) → x ≡ endedEmpty k (e .now .clock) (e .now .active) (e .now .pending) (e .queues .heads) (e .queues .held)
-      → engineNow (set (e .starts) p on) (set (e .counts) p (getD (e .counts) p 0 - 1)) (e .queues .deficits) (e .queues .ready) (e .queues .next) (e .queues .heads) (e .queues .tails) (x .held) (x .now) ≡ sentFrom shares lens p e
+module _ (shares lens : List ℕ) (p : ℕ) (e : Engine) (entry charge on k : ℕ) (entry-is : entry ≡ laneEntry p (getD (e .starts) p 0) 0)
+    (charge-is : charge ≡ chargeOf (getD lens entry 0)) (on-is : on ≡ laneOn (getD (e .starts) p 0)) (k-is : k ≡ classOf (getD shares p 0)) where
+  pub sent-last : getD (e .counts) p 0 - 1 ≡ 0 → (x : EmptyEnd)
+      → x ≡ endedEmpty k (e .now .clock) (e .now .active) (e .now .pending) (e .queues .heads) (e .queues .held)
+      → engineNow (set (e .starts) p on) (set (e .counts) p (getD (e .counts) p 0 - 1)) (e .queues .deficits) (e .queues .ready) (e .queues .next)
+      (e .queues .heads) (e .queues .tails) (x .held) (x .now) ≡ sentFrom shares lens p e
   unfolding sentFrom
   sent-last z x x-is = rw (eq-eqb (getD (e .counts) p 0 - 1) 0 z, ← on-is, ← k-is, ← x-is)
 
-  module _ (following need : ℕ) (more : getD (e .counts) p 0 - 1 ≢ 0) (following-is : following ≡ laneEntry p on 0) (need-is : need ≡ chargeOf (getD lens following 0)) where
+  module _ (following need : ℕ) (more : getD (e .counts) p 0 - 1 ≢ 0) (following-is : following ≡ laneEntry p on 0)
+      (need-is : need ≡ chargeOf (getD lens following 0)) where
     pub sent-on : need ≤ e .now .left .0 - charge
-        → engineNow (set (e .starts) p on) (set (e .counts) p (getD (e .counts) p 0 - 1)) (e .queues .deficits) (e .queues .ready) (e .queues .next) (e .queues .heads) (e .queues .tails) (e .queues .held) (numbersNow (e .now .clock) (e .now .active) (e .now .pending) (p + 1) (e .now .left .0 - charge)) ≡ sentFrom shares lens p e
+        → engineNow (set (e .starts) p on) (set (e .counts) p (getD (e .counts) p 0 - 1)) (e .queues .deficits) (e .queues .ready) (e .queues .next)
+        (e .queues .heads) (e .queues .tails) (e .queues .held)
+        (numbersNow (e .now .clock) (e .now .active) (e .now .pending) (p + 1) (e .now .left .0 - charge)) ≡ sentFrom shares lens p e
     unfolding sentFrom
-    sent-on h = rw (ne-eqb (getD (e .counts) p 0 - 1) 0 more, ← entry-is, ← charge-is, ← on-is, ← following-is, ← need-is, le-leb need (e .now .left .0 - charge) h)
+    sent-on h =
+        rw (ne-eqb (getD (e .counts) p 0 - 1) 0 more, ← entry-is, ← charge-is, ← on-is, ← following-is, ← need-is, le-leb need (e .now .left .0 - charge) h)
 
-    pub sent-waits : e .now .left .0 - charge < need → (x : WaitingEnd) → x ≡ endedWaiting p k (e .now .left .0 - charge) (e .now .clock) (e .now .active) (e .now .pending) (e .queues)
-        → engineNow (set (e .starts) p on) (set (e .counts) p (getD (e .counts) p 0 - 1)) (x .queues .deficits) (x .queues .ready) (x .queues .next) (x .queues .heads) (x .queues .tails) (x .queues .held) (x .now) ≡ sentFrom shares lens p e
+    pub sent-waits : e .now .left .0 - charge < need → (x : WaitingEnd)
+        → x ≡ endedWaiting p k (e .now .left .0 - charge) (e .now .clock) (e .now .active) (e .now .pending) (e .queues)
+        → engineNow (set (e .starts) p on) (set (e .counts) p (getD (e .counts) p 0 - 1)) (x .queues .deficits) (x .queues .ready) (x .queues .next)
+        (x .queues .heads) (x .queues .tails) (x .queues .held) (x .now) ≡ sentFrom shares lens p e
     unfolding sentFrom
-    sent-waits h x x-is = rw (ne-eqb (getD (e .counts) p 0 - 1) 0 more, ← entry-is, ← charge-is, ← on-is, ← following-is, ← need-is, lt-leb need (e .now .left .0 - charge) h, ← k-is, ← x-is)
+    sent-waits h x x-is =
+        rw (
+          ne-eqb (getD (e .counts) p 0 - 1) 0 more,
+          ← entry-is,
+          ← charge-is,
+          ← on-is,
+          ← following-is,
+          ← need-is,
+          lt-leb need (e .now .left .0 - charge) h,
+          ← k-is,
+          ← x-is,
+        )
 
 -- what is lost of the slot
 module _ (lens : List ℕ) (p : ℕ) (e : Engine) where
@@ -48,7 +68,9 @@ module _ (lens : List ℕ) (p : ℕ) (e : Engine) where
 -- ---- A serve within a number of bytes and the room of a list
 module _ (shares lens : List ℕ) (L bytes room : ℕ) (e : Engine) where
   abbrev atRest : Step → Type 0
-  atRest s = withinNow s (e .starts) (e .counts) (e .queues .deficits) (e .queues .ready) (e .queues .next) (e .queues .heads) (e .queues .tails) (e .queues .held) ≡ servedWithin shares lens L bytes room e
+  atRest s =
+      withinNow s (e .starts) (e .counts) (e .queues .deficits) (e .queues .ready) (e .queues .next) (e .queues .heads) (e .queues .tails) (e .queues .held)
+      ≡ servedWithin shares lens L bytes room e
 
   pub within-stop : (code : ℕ) (s : Step) → choiceOf e ≡ Stop code → s ≡ stayed code (e .now) → atRest s
   unfolding servedWithin
@@ -59,7 +81,8 @@ module _ (shares lens : List ℕ) (L bytes room : ℕ) (e : Engine) where
     unfolding servedWithin
     within-full s z s-is = rw (c, eq-eqb room 0 z, s-is)
 
-    module _ (entry charge : ℕ) (some : room ≢ 0) (entry-is : entry ≡ laneEntry p (getD (e .starts) p 0) 0) (charge-is : charge ≡ charged (getD lens entry 0)) where
+    module _ (entry charge : ℕ) (some : room ≢ 0) (entry-is : entry ≡ laneEntry p (getD (e .starts) p 0) 0)
+        (charge-is : charge ≡ charged (getD lens entry 0)) where
       pub within-long : (s : Step) → bytes < charge → s ≡ stayed 13 (e .now) → atRest s
       unfolding servedWithin
       within-long s h s-is = rw (c, ne-eqb room 0 some, ← entry-is, ← charge-is, lt-ltb bytes charge h, s-is)

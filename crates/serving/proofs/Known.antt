@@ -42,7 +42,9 @@ module _ (b : struct.Board) (ids lens : List ℕ) (known : Known b ids lens) whe
   can-known = subst (λ (c : struct.Board). CanServe (c .shares) lens (c .largest) (engineOf c)) spells (can-serve m fit ids lens holds (known .lens-all))
 
   pub by-cases : (bytes room : ℕ) (w : Within) → w ≡ within b lens bytes room → Stops m bytes room w ⊎ Goes m ids lens bytes room w
-  by-cases bytes room w e = subst (λ (x : Within). Stops m bytes room x ⊎ Goes m ids lens bytes room x) (ap (λ (c : struct.Board). within c lens bytes room) spells ∙ sym e) (within-by m fit ids lens holds bytes room)
+  by-cases bytes room w e =
+      subst (λ (x : Within). Stops m bytes room x ⊎ Goes m ids lens bytes room x) (ap (λ (c : struct.Board). within c lens bytes room) spells ∙ sym e)
+      (within-by m fit ids lens holds bytes room)
 
   pub after-is : (w : Within) → withEngine (encode m) (engineAfter w) ≡ encode (serve m .next) → withEngine b (engineAfter w) ≡ encode (serve m .next)
   after-is w e = ap (λ (c : struct.Board). withEngine c (engineAfter w)) (sym spells) ∙ e

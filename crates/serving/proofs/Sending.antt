@@ -41,18 +41,25 @@ use Rattle.slots.proofs.Clock.{clock-is}
 -- ---- The engine's steps, with what they read named
 
 joined-eq : (next heads tails ready : List ℕ) (active p k time t : ℕ) → getD tails k 0 ≡ t
-    → joinedOrders (ordersNow next heads tails ready active) p k time ≡ ordersNow (set (cond (eqb t 0) next (set next (t - 1) (suc p))) p 0) (cond (eqb t 0) (set heads k (suc p)) heads) (set tails k (suc p)) (set ready p time) (withBit active k)
+    → joinedOrders (ordersNow next heads tails ready active) p k time
+    ≡ ordersNow (set (cond (eqb t 0) next (set next (t - 1) (suc p))) p 0) (cond (eqb t 0) (set heads k (suc p)) heads) (set tails k (suc p)) (set ready p time)
+    (withBit active k)
 unfolding joinedOrders
 joined-eq next heads tails ready active p k time t e = rw (e, add-one p)
 
 empty-eq : (k c active pending : ℕ) (heads held : List ℕ) (h : ℕ) (w : Turned) → getD heads k 0 ≡ h → turned c (suc c) heads (turnedNow pending held) ≡ w
-    → endedEmpty k c active pending heads held ≡ emptyEndNow (numbersNow (suc c) (cond (eqb h 0) (withoutBit active k) active) (w .pending) 0 0) (cond (eqb (cond (eqb h 0) (withoutBit active k) active) 0) (replicate 17 0) (w .held))
+    → endedEmpty k c active pending heads held
+    ≡ emptyEndNow (numbersNow (suc c) (cond (eqb h 0) (withoutBit active k) active) (w .pending) 0 0)
+    (cond (eqb (cond (eqb h 0) (withoutBit active k) active) 0) (replicate 17 0) (w .held))
 unfolding endedEmpty stillActive
 empty-eq k c active pending heads held h w e f = rw (add-one c, e, f)
 
 waiting-eq : (p k left c active pending : ℕ) (q : Queues) (o : Orders) (w : Turned)
-    → joinedOrders (ordersNow (q .next) (q .heads) (q .tails) (q .ready) active) p k (nextStart k c) ≡ o → turned c (suc c) (o .heads) (turnedNow pending (q .held)) ≡ w
-    → endedWaiting p k left c active pending q ≡ waitingEndNow (numbersNow (suc c) (o .active) (w .pending) 0 0) (queuesNow (set (q .deficits) p left) (o .ready) (o .next) (o .heads) (o .tails) (w .held))
+    → joinedOrders (ordersNow (q .next) (q .heads) (q .tails) (q .ready) active) p k (nextStart k c) ≡ o
+    → turned c (suc c) (o .heads) (turnedNow pending (q .held)) ≡ w
+    → endedWaiting p k left c active pending q
+    ≡ waitingEndNow (numbersNow (suc c) (o .active) (w .pending) 0 0)
+    (queuesNow (set (q .deficits) p left) (o .ready) (o .next) (o .heads) (o .tails) (w .held))
 unfolding endedWaiting
 waiting-eq p k left c active pending q o w e f = rw (add-one c, e, f)
 
@@ -60,11 +67,18 @@ waiting-eq p k left c active pending q o w e f = rw (add-one c, e, f)
 abbrev pub emptyEngine : ℕ → ℕ → ℕ → ℕ → Engine → Engine
 emptyEngine p k st n e =
     let x = endedEmpty k (e .now .clock) (e .now .active) (e .now .pending) (e .queues .heads) (e .queues .held) in
-    engineNow (set (e .starts) p st) (set (e .counts) p n) (e .queues .deficits) (e .queues .ready) (e .queues .next) (e .queues .heads) (e .queues .tails) (x .held) (x .now)
+    engineNow (set (e .starts) p st) (set (e .counts) p n) (e .queues .deficits) (e .queues .ready) (e .queues .next) (e .queues .heads) (e .queues .tails)
+    (x .held) (x .now)
 
 abbrev pub goingEngine : ℕ → ℕ → ℕ → ℕ → Engine → Engine
 goingEngine p st n left e =
-    record { starts = set (e .starts) p st; counts = set (e .counts) p n; queues = e .queues; now = numbersNow (e .now .clock) (e .now .active) (e .now .pending) (p + 1) left }
+    record {
+      starts = set (e .starts) p st;
+      counts = set (e .counts) p n;
+      queues = e .queues;
+      now =
+          numbersNow (e .now .clock) (e .now .active) (e .now .pending) (p + 1) left;
+    }
 
 abbrev pub waitingEngine : ℕ → ℕ → ℕ → ℕ → ℕ → Engine → Engine
 waitingEngine p k st n left e =
@@ -108,7 +122,8 @@ module _ (m : Board.Board) (fit : Fit m) (p : ℕ) (held! : m .slot ≡ some p) 
   gone : (j : ℕ) → count p (m .orders j) ≡ 0
   gone j = listed-out (m .places) (m .orders) (g .shape .listed) j p (serving-not-queued (at m p .stand) isS)
 
-  same-links : (y : Place) → y .share ≡ at m p .share → (o : ℕ → List ℕ) → tab 64 (λ j. behind j (o (blockClass (at m j)))) ≡ tab 64 (λ j. behind j (o (blockClass (pl (set l p y) j))))
+  same-links : (y : Place) → y .share ≡ at m p .share → (o : ℕ → List ℕ)
+      → tab 64 (λ j. behind j (o (blockClass (at m j)))) ≡ tab 64 (λ j. behind j (o (blockClass (pl (set l p y) j))))
   same-links y e o = tab-ext 64 _ _ (λ j h. ap (λ (n : ℕ). behind j (o (classOf n))) (sym (set-field (λ (w : Place). w .share) l p y inL e j)))
 
   was-active : anyWaits k l ≡ true
@@ -123,7 +138,9 @@ module _ (m : Board.Board) (fit : Fit m) (p : ℕ) (held! : m .slot ≡ some p) 
   second two = lt-ltb 0 (length (drop 1 (at m p .lane))) (omega (arith, length-drop 1 (at m p .lane)))
 
   -- THE SLOT GOES ON
-  pub going-is : 1 < length (at m p .lane) → withEngine (encode m) (goingEngine p (onward (at m p)) (length (at m p .lane) - 1) (leftAfter (at m p)) (engineOf (encode m))) ≡ encode (goOn m p (going (at m p)))
+  pub going-is : 1 < length (at m p .lane)
+      → withEngine (encode m) (goingEngine p (onward (at m p)) (length (at m p .lane) - 1) (leftAfter (at m p)) (engineOf (encode m)))
+      ≡ encode (goOn m p (going (at m p)))
   unfolding encode
   going-is two = same (record {
     numbers = kept (λ w. w .number) l p y refl;
@@ -159,7 +176,8 @@ module _ (m : Board.Board) (fit : Fit m) (p : ℕ) (held! : m .slot ≡ some p) 
     unfolding ended
     now-active = active-order (ended m p (emptied (at m p)) (m .orders)) next! refl k
 
-    active-is : (t : Bool) → eqb (firstLink (m .orders k)) 0 ≡ t → cond t (withoutBit (encode m .active) k) (encode m .active) ≡ setBelow 17 (λ j. anyWaits j (set l p y0))
+    active-is : (t : Bool) → eqb (firstLink (m .orders k)) 0 ≡ t
+        → cond t (withoutBit (encode m .active) k) (encode m .active) ≡ setBelow 17 (λ j. anyWaits j (set l p y0))
     unfolding encode
     active-is true e = set-less (λ j. anyWaits j l) (λ j. anyWaits j (set l p y0)) 17 k k17 (now-active ∙ ap not e) others
     active-is false e = set-ext (λ j. anyWaits j l) (λ j. anyWaits j (set l p y0)) 17 (λ j h. go j (ℕ-discrete j k))
@@ -172,7 +190,9 @@ module _ (m : Board.Board) (fit : Fit m) (p : ℕ) (held! : m .slot ≡ some p) 
     unfolding ended encode
     quiet-is = nobody (ended m p (emptied (at m p)) (m .orders)) next! refl
 
-    held-is : (t : Bool) → isNone (leastReady (set l p y0)) ≡ t → cond t (replicate 17 0) (tab 17 (release (m .clock) (suc (m .clock)) (m .held))) ≡ tab 17 (settle (set l p y0) (release (m .clock) (suc (m .clock)) (m .held)))
+    held-is : (t : Bool) → isNone (leastReady (set l p y0)) ≡ t
+        → cond t (replicate 17 0) (tab 17 (release (m .clock) (suc (m .clock)) (m .held)))
+        ≡ tab 17 (settle (set l p y0) (release (m .clock) (suc (m .clock)) (m .held)))
     unfolding settle tab
     held-is true e = zeros ∙ tab-ext 17 _ _ (λ j h. sym (ap (λ (b : Bool). cond b 0 (release (m .clock) (suc (m .clock)) (m .held) j)) e))
       where
@@ -183,8 +203,12 @@ module _ (m : Board.Board) (fit : Fit m) (p : ℕ) (held! : m .slot ≡ some p) 
     pub empty-is : withEngine (encode m) (emptyEngine p k (onward (at m p)) 0 (engineOf (encode m))) ≡ encode (ended m p (emptied (at m p)) (m .orders))
     unfolding ended encode
     empty-is =
-        ap (λ (x : EmptyEnd). withEngine (encode m) (engineNow (set (encode m .starts) p (onward (at m p))) (set (encode m .counts) p 0) (encode m .deficits) (encode m .ready) (encode m .next) (encode m .heads) (encode m .tails) (x .held) (x .now)))
-        (empty-eq k (m .clock) (encode m .active) (encode m .pending) (encode m .heads) (encode m .held) (firstLink (m .orders k)) _ (getD-tab 17 (λ j. firstLink (m .orders j)) k 0 k17) (clock-is l (m .orders) (m .held) (m .clock) (suc (m .clock)) (g .shape .listed) (g .shape .seat) (omega arith)))
+        ap (λ (x : EmptyEnd). withEngine (encode m)
+        (engineNow (set (encode m .starts) p (onward (at m p))) (set (encode m .counts) p 0) (encode m .deficits) (encode m .ready) (encode m .next)
+        (encode m .heads) (encode m .tails) (x .held) (x .now)))
+        (empty-eq k (m .clock) (encode m .active) (encode m .pending) (encode m .heads) (encode m .held) (firstLink (m .orders k)) _
+        (getD-tab 17 (λ j. firstLink (m .orders j)) k 0 k17)
+        (clock-is l (m .orders) (m .held) (m .clock) (suc (m .clock)) (g .shape .listed) (g .shape .seat) (omega arith)))
         ∙ same (record {
           numbers = kept (λ w. w .number) l p y0 refl;
           shares = kept (λ w. w .share) l p y0 refl;
@@ -195,7 +219,9 @@ module _ (m : Board.Board) (fit : Fit m) (p : ℕ) (held! : m .slot ≡ some p) 
           next = same-links y0 refl (m .orders);
           heads = refl;
           tails = refl;
-          held = ap (λ (b : Bool). cond b (replicate 17 0) (tab 17 (release (m .clock) (suc (m .clock)) (m .held)))) (ap (λ (a : ℕ). eqb a 0) act ∙ quiet-is) ∙ held-is (isNone (leastReady (set l p y0))) refl;
+          held =
+              ap (λ (b : Bool). cond b (replicate 17 0) (tab 17 (release (m .clock) (suc (m .clock)) (m .held)))) (ap (λ (a : ℕ). eqb a 0) act ∙ quiet-is)
+              ∙ held-is (isNone (leastReady (set l p y0))) refl;
           largest = refl;
           clock = refl;
           active = act;
@@ -241,24 +267,41 @@ module _ (m : Board.Board) (fit : Fit m) (p : ℕ) (held! : m .slot ≡ some p) 
         away = due-away l (m .clock) p y1 (o j) (gone j)
 
         late : dueBy (m .clock) (pl (set l p y1) p .stand) ≡ false
-        late = ap (λ (w : Place). dueBy (m .clock) (w .stand)) (getD-set-same l p y1 freePlace inL) ∙ leb-no (nextStart k (m .clock)) (m .clock) (next-gt k (m .clock))
+        late =
+            ap (λ (w : Place). dueBy (m .clock) (w .stand)) (getD-set-same l p y1 freePlace inL)
+            ∙ leb-no (nextStart k (m .clock)) (m .clock) (next-gt k (m .clock))
 
         go : Dec (j ≡ k) → anyDue (set l p y1) (m .clock) (o1 j) ≡ anyDue l (m .clock) (o j)
-        go (yes e) = rw e (ap (anyDue (set l p y1) (m .clock)) (upd-same o k (o k ++ (p ∷ []))) ∙ due-snoc (set l p y1) (m .clock) p (o k) late ∙ due-away l (m .clock) p y1 (o k) (gone k))
+        go (yes e) =
+            rw e (ap (anyDue (set l p y1) (m .clock)) (upd-same o k (o k ++ (p ∷ []))) ∙ due-snoc (set l p y1) (m .clock) p (o k) late
+            ∙ due-away l (m .clock) p y1 (o k) (gone k))
         go (no e) = ap (anyDue (set l p y1) (m .clock)) (upd-other o k (o k ++ (p ∷ [])) j e) ∙ away
 
     listed1 : Listed (set l p y1) o1
     unfolding ended
     listed1 = next! .shape .listed
 
-    clock1 : turned (m .clock) (suc (m .clock)) (tab 17 (λ j. firstLink (o1 j))) (turnedNow (setBelow 17 (λ j. anyDue l (m .clock) (o j))) (tab 17 (m .held))) ≡ turnedNow (setBelow 17 (λ j. anyDue (set l p y1) (suc (m .clock)) (o1 j))) (tab 17 (release (m .clock) (suc (m .clock)) (m .held)))
-    clock1 = ap (λ (s : ℕ). turned (m .clock) (suc (m .clock)) (tab 17 (λ j. firstLink (o1 j))) (turnedNow s (tab 17 (m .held)))) (set-ext _ _ 17 (λ j h. due-old j)) ∙ clock-is (set l p y1) o1 (m .held) (m .clock) (suc (m .clock)) listed1 seats (omega arith)
+    clock1 : turned (m .clock) (suc (m .clock)) (tab 17 (λ j. firstLink (o1 j))) (turnedNow (setBelow 17 (λ j. anyDue l (m .clock) (o j))) (tab 17 (m .held)))
+        ≡ turnedNow (setBelow 17 (λ j. anyDue (set l p y1) (suc (m .clock)) (o1 j))) (tab 17 (release (m .clock) (suc (m .clock)) (m .held)))
+    clock1 =
+        ap (λ (s : ℕ). turned (m .clock) (suc (m .clock)) (tab 17 (λ j. firstLink (o1 j))) (turnedNow s (tab 17 (m .held)))) (set-ext _ _ 17 (λ j h. due-old j))
+        ∙ clock-is (set l p y1) o1 (m .held) (m .clock) (suc (m .clock)) listed1 seats (omega arith)
 
-    pub short-is : withEngine (encode m) (waitingEngine p k (onward (at m p)) (length (at m p .lane) - 1) (leftAfter (at m p)) (engineOf (encode m))) ≡ encode (ended m p (short (m .clock) (at m p)) (upd (m .orders) k (m .orders k ++ (p ∷ []))))
+    pub short-is : withEngine (encode m) (waitingEngine p k (onward (at m p)) (length (at m p .lane) - 1) (leftAfter (at m p)) (engineOf (encode m)))
+        ≡ encode (ended m p (short (m .clock) (at m p)) (upd (m .orders) k (m .orders k ++ (p ∷ []))))
     unfolding ended encode
     short-is =
-        ap (λ (x : WaitingEnd). withEngine (encode m) (record { starts = set (encode m .starts) p (onward (at m p)); counts = set (encode m .counts) p (length (at m p .lane) - 1); queues = x .queues; now = x .now }))
-        (waiting-eq p k (leftAfter (at m p)) (m .clock) (encode m .active) (encode m .pending) (engineOf (encode m) .queues) _ _ (joined-eq (nexts o kj) (heads o kj) (tails o kj) (encode m .ready) (encode m .active) p k (nextStart k (m .clock)) (lastLink (o k)) (getD-tab 17 (λ j. lastLink (o j)) k 0 k17)) (ap (λ (h : List ℕ). turned (m .clock) (suc (m .clock)) h (turnedNow (encode m .pending) (encode m .held))) hds ∙ clock1))
+        ap (λ (x : WaitingEnd). withEngine (encode m)
+        (record {
+          starts = set (encode m .starts) p (onward (at m p));
+          counts = set (encode m .counts) p (length (at m p .lane) - 1);
+          queues = x .queues;
+          now = x .now;
+        }))
+        (waiting-eq p k (leftAfter (at m p)) (m .clock) (encode m .active) (encode m .pending) (engineOf (encode m) .queues) _ _
+        (joined-eq (nexts o kj) (heads o kj) (tails o kj) (encode m .ready) (encode m .active) p k (nextStart k (m .clock)) (lastLink (o k))
+        (getD-tab 17 (λ j. lastLink (o j)) k 0 k17))
+        (ap (λ (h : List ℕ). turned (m .clock) (suc (m .clock)) h (turnedNow (encode m .pending) (encode m .held))) hds ∙ clock1))
         ∙ same (record {
           numbers = kept (λ w. w .number) l p y1 refl;
           shares = kept (λ w. w .share) l p y1 refl;
@@ -266,13 +309,17 @@ module _ (m : Board.Board) (fit : Fit m) (p : ℕ) (held! : m .slot ≡ some p) 
           starts = sym (map-set (λ (w : Place). w .start) l p y1);
           counts = ap (set (encode m .counts) p) (sym (length-drop 1 (at m p .lane))) ∙ sym (map-set (λ (w : Place). length (w .lane)) l p y1);
           ready = sym (map-set (λ (w : Place). readyNum (w .stand)) l p y1);
-          next = nexts-join o kj p k p64 k17 refl (gone k) (class m g k) (once m g k) (small m g k) (eqb (lastLink (o k)) 0) refl ∙ same-links y1 refl (upd o k (o k ++ (p ∷ [])));
+          next =
+              nexts-join o kj p k p64 k17 refl (gone k) (class m g k) (once m g k) (small m g k) (eqb (lastLink (o k)) 0) refl
+              ∙ same-links y1 refl (upd o k (o k ++ (p ∷ [])));
           heads = hds;
           tails = tails-join o kj p k p64 k17 refl (gone k) (class m g k) (once m g k) (small m g k);
           held = held-short;
           largest = refl;
           clock = refl;
-          active = set-more (λ j. anyWaits j l) (λ j. anyWaits j (set l p y1)) 17 k k17 (still-waits y1 (second two) refl k ∙ was-active) (λ j ne. still-waits y1 (second two) refl j);
+          active =
+              set-more (λ j. anyWaits j l) (λ j. anyWaits j (set l p y1)) 17 k k17 (still-waits y1 (second two) refl k ∙ was-active)
+              (λ j ne. still-waits y1 (second two) refl j);
           pending = refl;
           slot = refl;
           left = refl;

@@ -23,7 +23,8 @@ use Rattle.lanes.specs.Lanes.{laneDepth, laneFirst, laneEntry, laneOn}
 use Rattle.lanes.proofs.Rings.{ring-moved}
 use Rattle.rules.specs.Board
 use Rattle.rules.specs.Board.{Record, noRecord, Place, freePlace, blockClass, at, entry, charge, front, onward}
-use Rattle.rules.specs.Choice.{isNone, Out, refused, done, taken, Sending, sending, sent, Turn, leftOf, leftAfter, lostAt, leastReady, upd, started, emptied, short, going, ended, goOn, sendFrom, send, begin, lowest, chosen, serve}
+use Rattle.rules.specs.Choice.{isNone, Out, refused, done, taken, Sending, sending, sent, Turn, leftOf, leftAfter, lostAt, leastReady, upd, started, emptied}
+use Rattle.rules.specs.Choice.{short, going, ended, goOn, sendFrom, send, begin, lowest, chosen, serve}
 use Rattle.rules.specs.Spoilt.{count, inClass}
 use Rattle.rules.proofs.Orders.{pl, upd-other, in-head, count-head}
 use Rattle.rules.proofs.Shape.{LeastIs, least-is, Chosen, choose, all-front, release-le, queued-in, Fit as record-fit}
@@ -59,10 +60,15 @@ next-entry p x = ring-moved (laneFirst p) laneDepth (x .start) 0
 
 module _ (m : Board.Board) (fit : Fit m) (ids lens : List ℕ) (holds : Holds m ids lens) (p : ℕ) where
   pub front-is : 1 ≤ length (at m p .lane) → recordAt ids lens (laneEntry p (at m p .start) 0) ≡ front (at m p)
-  front-is h = ap (recordAt ids lens) (front-entry p (at m p)) ∙ sym (ap (λ (xs : List Record). getD xs 0 noRecord) (holds p) ∙ lane-at ids lens p (at m p) (length (at m p .lane)) 0 h)
+  front-is h =
+      ap (recordAt ids lens) (front-entry p (at m p))
+      ∙ sym (ap (λ (xs : List Record). getD xs 0 noRecord) (holds p) ∙ lane-at ids lens p (at m p) (length (at m p .lane)) 0 h)
 
   second-is : 1 < length (at m p .lane) → recordAt ids lens (laneEntry p (laneOn (at m p .start)) 0) ≡ getD (drop 1 (at m p .lane)) 0 noRecord
-  second-is two = ap (recordAt ids lens) (next-entry p (at m p)) ∙ sym (getD-drop 1 (at m p .lane) 0 noRecord ∙ ap (λ (xs : List Record). getD xs 1 noRecord) (holds p) ∙ lane-at ids lens p (at m p) (length (at m p .lane)) 1 two)
+  second-is two =
+      ap (recordAt ids lens) (next-entry p (at m p))
+      ∙ sym (getD-drop 1 (at m p .lane) 0 noRecord ∙ ap (λ (xs : List Record). getD xs 1 noRecord) (holds p)
+      ∙ lane-at ids lens p (at m p) (length (at m p .lane)) 1 two)
 
 -- a waiting record is no longer than L
 short-front : (m : Board.Board) → Fit m → (p : ℕ) → 1 ≤ length (at m p .lane) → front (at m p) .bytes ≤ m .largest
@@ -100,8 +106,10 @@ unfolding onward
 after-is x = refl
 
 -- a change at one place, whose lane the tables hold
-holds-set : (l : List Place) (p : ℕ) (y : Place) (ids lens : List ℕ) → p < length l → ((i : ℕ) → pl l i .lane ≡ laneOf ids lens i (pl l i) (length (pl l i .lane)))
-    → y .lane ≡ laneOf ids lens p y (length (y .lane)) → (i : ℕ) → pl (set l p y) i .lane ≡ laneOf ids lens i (pl (set l p y) i) (length (pl (set l p y) i .lane))
+holds-set : (l : List Place) (p : ℕ) (y : Place) (ids lens : List ℕ) → p < length l
+    → ((i : ℕ) → pl l i .lane ≡ laneOf ids lens i (pl l i) (length (pl l i .lane)))
+    → y .lane ≡ laneOf ids lens p y (length (y .lane)) → (i : ℕ)
+    → pl (set l p y) i .lane ≡ laneOf ids lens i (pl (set l p y) i) (length (pl (set l p y) i .lane))
 holds-set l p y ids lens h old new i = go (ℕ-discrete i p)
   where
     go : Dec (i ≡ p) → pl (set l p y) i .lane ≡ laneOf ids lens i (pl (set l p y) i) (length (pl (set l p y) i .lane))
@@ -134,7 +142,8 @@ module _ (m : Board.Board) (fit : Fit m) (p : ℕ) (held! : m .slot ≡ some p) 
   pub send-is : withEngine (encode m) (sentFrom (encode m .shares) lens p (engineOf (encode m))) ≡ encode (sendFrom m p)
   unfolding sendFrom
   send-is =
-      ap (withEngine (encode m)) (sent-eq (encode m .shares) lens p (engineOf (encode m)) (x .start) (length (x .lane)) (x .share) (start-is m p) (count-is m p) (share-is m p))
+      ap (withEngine (encode m))
+      (sent-eq (encode m .shares) lens p (engineOf (encode m)) (x .start) (length (x .lane)) (x .share) (start-is m p) (count-is m p) (share-is m p))
       ∙ rw (rest-is, after-is x, last-one (length (x .lane)) one!) (go (leb (length (x .lane)) 1) refl (tidy-send m p held! (fit .tidy)))
     where
       need : ℕ
@@ -150,17 +159,29 @@ module _ (m : Board.Board) (fit : Fit m) (p : ℕ) (held! : m .slot ≡ some p) 
       C = goOn m p (going x)
 
       two : 1 < length (x .lane) → (u : Bool) → Tidy (cond u B C)
-          → withEngine (encode m) (cond (not u) (goingEngine p (onward x) (length (x .lane) - 1) (leftAfter x) (engineOf (encode m))) (waitingEngine p (blockClass x) (onward x) (length (x .lane) - 1) (leftAfter x) (engineOf (encode m)))) ≡ encode (cond u B C)
+          → withEngine (encode m)
+          (cond (not u) (goingEngine p (onward x) (length (x .lane) - 1) (leftAfter x) (engineOf (encode m)))
+          (waitingEngine p (blockClass x) (onward x) (length (x .lane) - 1) (leftAfter x) (engineOf (encode m)))) ≡ encode (cond u B C)
       two h true t = short-is m fit p held! h t
       two h false t = going-is m fit p held! h
 
       needs : 1 < length (x .lane) → chargeOf (getD lens (laneEntry p (onward x) 0) 0) ≡ charge (getD (drop 1 (x .lane)) 0 noRecord) * 65536
-      needs h = ap (λ (n : ℕ). chargeOf (getD lens (laneEntry p n 0) 0)) (sym (after-is x)) ∙ ap (λ (r : Record). chargeOf (r .bytes)) (second-is m fit ids lens holds p h) ∙ charge-is (getD (drop 1 (x .lane)) 0 noRecord)
+      needs h =
+          ap (λ (n : ℕ). chargeOf (getD lens (laneEntry p n 0) 0)) (sym (after-is x))
+          ∙ ap (λ (r : Record). chargeOf (r .bytes)) (second-is m fit ids lens holds p h) ∙ charge-is (getD (drop 1 (x .lane)) 0 noRecord)
 
       go : (t : Bool) → leb (length (x .lane)) 1 ≡ t → Tidy (cond t A (cond (ltb (leftAfter x) need) B C))
-          → withEngine (encode m) (cond t (emptyEngine p (blockClass x) (onward x) (length (x .lane) - 1) (engineOf (encode m))) (cond (leb (chargeOf (getD lens (laneEntry p (onward x) 0) 0)) (leftAfter x)) (goingEngine p (onward x) (length (x .lane) - 1) (leftAfter x) (engineOf (encode m))) (waitingEngine p (blockClass x) (onward x) (length (x .lane) - 1) (leftAfter x) (engineOf (encode m))))) ≡ encode (cond t A (cond (ltb (leftAfter x) need) B C))
-      go true f t = let z : length (x .lane) - 1 ≡ 0 = omega (arith, true-le (length (x .lane)) 1 f) in ap (λ (n : ℕ). withEngine (encode m) (emptyEngine p (blockClass x) (onward x) n (engineOf (encode m)))) z ∙ empty-is m fit p held! t
-      go false f t = rw (needs (false-lt (length (x .lane)) 1 f), fits-not need (leftAfter x)) (two (false-lt (length (x .lane)) 1 f) (ltb (leftAfter x) need) t)
+          → withEngine (encode m)
+          (cond t (emptyEngine p (blockClass x) (onward x) (length (x .lane) - 1) (engineOf (encode m)))
+          (cond (leb (chargeOf (getD lens (laneEntry p (onward x) 0) 0)) (leftAfter x))
+          (goingEngine p (onward x) (length (x .lane) - 1) (leftAfter x) (engineOf (encode m)))
+          (waitingEngine p (blockClass x) (onward x) (length (x .lane) - 1) (leftAfter x) (engineOf (encode m)))))
+          ≡ encode (cond t A (cond (ltb (leftAfter x) need) B C))
+      go true f t =
+          let z : length (x .lane) - 1 ≡ 0 = omega (arith, true-le (length (x .lane)) 1 f) in
+          ap (λ (n : ℕ). withEngine (encode m) (emptyEngine p (blockClass x) (onward x) n (engineOf (encode m)))) z ∙ empty-is m fit p held! t
+      go false f t =
+          rw (needs (false-lt (length (x .lane)) 1 f), fits-not need (leftAfter x)) (two (false-lt (length (x .lane)) 1 f) (ltb (leftAfter x) need) t)
 
   -- the tables hold the lanes after it
   pub holds-send : Holds (sendFrom m p) ids lens
@@ -168,16 +189,23 @@ module _ (m : Board.Board) (fit : Fit m) (p : ℕ) (held! : m .slot ≡ some p) 
   holds-send = go (leb (length (x .lane)) 1)
     where
       rest : (y : Place) → y .start ≡ onward x → y .lane ≡ drop 1 (x .lane) → y .lane ≡ laneOf ids lens p y (length (y .lane))
-      rest y s d = d ∙ ap (drop 1) (holds p) ∙ sym (lane-drop ids lens p x y (length (x .lane)) s) ∙ ap (laneOf ids lens p y) (sym (length-drop 1 (x .lane)) ∙ ap length (sym d))
+      rest y s d =
+          d ∙ ap (drop 1) (holds p) ∙ sym (lane-drop ids lens p x y (length (x .lane)) s)
+          ∙ ap (laneOf ids lens p y) (sym (length-drop 1 (x .lane)) ∙ ap length (sym d))
 
-      with! : (y : Place) → y .lane ≡ laneOf ids lens p y (length (y .lane)) → (i : ℕ) → pl (set (m .places) p y) i .lane ≡ laneOf ids lens i (pl (set (m .places) p y) i) (length (pl (set (m .places) p y) i .lane))
+      with! : (y : Place) → y .lane ≡ laneOf ids lens p y (length (y .lane)) → (i : ℕ)
+          → pl (set (m .places) p y) i .lane ≡ laneOf ids lens i (pl (set (m .places) p y) i) (length (pl (set (m .places) p y) i .lane))
       with! y e = holds-set (m .places) p y ids lens (inL m fit p held!) holds e
 
-      two : (u : Bool) → Holds (cond u (ended m p (short (m .clock) x) (upd (m .orders) (blockClass x) (m .orders (blockClass x) ++ (p ∷ [])))) (goOn m p (going x))) ids lens
+      two : (u : Bool) → Holds
+          (cond u (ended m p (short (m .clock) x) (upd (m .orders) (blockClass x) (m .orders (blockClass x) ++ (p ∷ [])))) (goOn m p (going x))) ids lens
       two true = with! (short (m .clock) x) (rest (short (m .clock) x) refl refl)
       two false = with! (going x) (rest (going x) refl refl)
 
-      go : (t : Bool) → Holds (cond t (ended m p (emptied x) (m .orders)) (cond (ltb (leftAfter x) (charge (getD (drop 1 (x .lane)) 0 noRecord) * 65536)) (ended m p (short (m .clock) x) (upd (m .orders) (blockClass x) (m .orders (blockClass x) ++ (p ∷ [])))) (goOn m p (going x)))) ids lens
+      go : (t : Bool) → Holds
+          (cond t (ended m p (emptied x) (m .orders))
+          (cond (ltb (leftAfter x) (charge (getD (drop 1 (x .lane)) 0 noRecord) * 65536))
+          (ended m p (short (m .clock) x) (upd (m .orders) (blockClass x) (m .orders (blockClass x) ++ (p ∷ [])))) (goOn m p (going x)))) ids lens
       go true = with! (emptied x) (sym (empty-lane ids lens p (emptied x)))
       go false = two (ltb (leftAfter x) (charge (getD (drop 1 (x .lane)) 0 noRecord) * 65536))
 
@@ -202,7 +230,8 @@ module _ (m : Board.Board) (fit : Fit m) (p : ℕ) (held! : m .slot ≡ some p) 
     fits = rw (start-is m p, bytes-is, charge-is (front x), left-of) (ok .2);
   }
     where
-      ok : (1 ≤ length (x .lane)) × (1 ≤ x .share) × (charge (front x) * 65536 ≤ leftOf (x .stand)) × (leftOf (x .stand) < 3 * largestCharge (m .largest) * 65536)
+      ok : (1 ≤ length (x .lane)) × (1 ≤ x .share) × (charge (front x) * 65536 ≤ leftOf (x .stand))
+          × (leftOf (x .stand) < 3 * largestCharge (m .largest) * 65536)
       ok = serving-ok (m .largest) (x .share) (x .lane) (x .stand) (isS m fit p held!) (fit .tidy .shape .placeOk p .standOk)
 
       tail-of : getD (encode m .tails) (blockClass x) 0 ≡ lastLink (m .orders (blockClass x))
@@ -212,7 +241,8 @@ module _ (m : Board.Board) (fit : Fit m) (p : ℕ) (held! : m .slot ≡ some p) 
       time = omega (arith, fit .tidy .time, ap busy held!)
 
 -- ---- The slot that serves is the open one, or one that begins: m′ is the board with it, and p its place
-module _ (m m′ : Board.Board) (p t : ℕ) (ids lens : List ℕ) (fit : Fit m′) (held! : m′ .slot ≡ some p) (holds : Holds m′ ids lens) (open-is : withEngine (encode m) (opened (encode m .shares) (encode m .largest) p t (engineOf (encode m))) ≡ encode m′) where
+module _ (m m′ : Board.Board) (p t : ℕ) (ids lens : List ℕ) (fit : Fit m′) (held! : m′ .slot ≡ some p) (holds : Holds m′ ids lens)
+    (open-is : withEngine (encode m) (opened (encode m .shares) (encode m .largest) p t (engineOf (encode m))) ≡ encode m′) where
   enact-is : withEngine (encode m) (enacted (encode m .shares) lens (encode m .largest) p t (engineOf (encode m))) ≡ encode (sendFrom m′ p)
   unfolding enacted
   enact-is = ap (λ (b : struct.Board). withEngine b (sentFrom (b .shares) lens p (engineOf b))) open-is ∙ send-is m′ fit p held! ids lens holds
@@ -227,7 +257,14 @@ module _ (m m′ : Board.Board) (p t : ℕ) (ids lens : List ℕ) (fit : Fit m�
 -- an open slot stays as it is
 opened-as : (shares : List ℕ) (L p t : ℕ) (e : Engine) → e .now .slot ≡ suc p → e .now .clock ≡ t → opened shares L p t e ≡ e
 unfolding opened openedSlot
-opened-as shares L p t e s c = rw (eqb-slot) (λ j. record { starts = e .starts; counts = e .counts; queues = e .queues; now = record { clock = sym c j; active = e .now .active; pending = e .now .pending; slot = (add-one p ∙ sym s) j; left = e .now .left } })
+opened-as shares L p t e s c =
+    rw (eqb-slot) (λ j. record {
+      starts = e .starts;
+      counts = e .counts;
+      queues = e .queues;
+      now =
+          record { clock = sym c j; active = e .now .active; pending = e .now .pending; slot = (add-one p ∙ sym s) j; left = e .now .left };
+    })
   where
     eqb-slot : eqb (e .now .slot) 0 ≡ false
     eqb-slot = ne-eqb (e .now .slot) 0 (λ z. omega (arith, s))
@@ -287,7 +324,8 @@ choice-open m p e = rw e (rw (ne-eqb (suc p) 0 (λ z. omega arith)) (ap (λ (n :
     less = omega arith
 
 -- no slot is open: what is chosen, from the class and the clock
-choice-free : (m : Board.Board) (k t h : ℕ) → m .slot ≡ none → eqb (encode m .active) 0 ≡ false → chosenClass (encode m .active) (encode m .pending) ≡ k → slotClock (m .clock) (encode m .pending) k ≡ t → getD (encode m .heads) k 0 ≡ h
+choice-free : (m : Board.Board) (k t h : ℕ) → m .slot ≡ none → eqb (encode m .active) 0 ≡ false → chosenClass (encode m .active) (encode m .pending) ≡ k
+    → slotClock (m .clock) (encode m .pending) k ≡ t → getD (encode m .heads) k 0 ≡ h
     → choiceOf (engineOf (encode m)) ≡ cond (leb (2 ^ 62) t) (Stop 11) (Go (h - 1) t)
 unfolding choice encode
 choice-free m k t h e a c d f = rw (e, a, c, d, f)
@@ -374,7 +412,12 @@ module _ (m : Board.Board) (fit : Fit m) (ids lens : List ℕ) (holds : Holds m 
   unfolding encode
   serves-on p w = record {
     chooses = choice-open m p (w .slot);
-    can = λ h. record { begins = λ z. absurd (omega (arith, z, open-slot m p (w .slot))); sends = can-sends m m p (m .clock) ids lens fit (w .slot) holds stays h };
+    can =
+        λ h. record {
+          begins = λ z. absurd (omega (arith, z, open-slot m p (w .slot)));
+          sends =
+              can-sends m m p (m .clock) ids lens fit (w .slot) holds stays h;
+        };
     enacts = enact-is m m p (m .clock) ids lens fit (w .slot) holds stays;
     holds = holds-send m fit p (w .slot) ids lens holds;
     inside = w .inside;
@@ -387,7 +430,8 @@ module _ (m : Board.Board) (fit : Fit m) (ids lens : List ℕ) (holds : Holds m 
   }
     where
       stays : withEngine (encode m) (opened (encode m .shares) (encode m .largest) p (m .clock) (engineOf (encode m))) ≡ encode m
-      stays = ap (withEngine (encode m)) (opened-as (encode m .shares) (encode m .largest) p (m .clock) (engineOf (encode m)) (open-slot m p (w .slot)) clock-of)
+      stays =
+          ap (withEngine (encode m)) (opened-as (encode m .shares) (encode m .largest) p (m .clock) (engineOf (encode m)) (open-slot m p (w .slot)) clock-of)
         where
           clock-of : encode m .clock ≡ m .clock
           clock-of = refl
@@ -419,7 +463,9 @@ module _ (m : Board.Board) (fit : Fit m) (ids lens : List ℕ) (holds : Holds m 
       fit-begin = record { tidy = next!; classes = record { noOrder = no-order; noHeld = no-held } }
         where
           no-order : (k : ℕ) → 17 ≤ k → begin m t .orders k ≡ []
-          no-order k h = upd-other (m .orders) (lowest m t) (drop 1 (m .orders (lowest m t))) k (λ q. omega (arith, q, w .choice .isKind, class-le (at m p .share))) ∙ fit .classes .noOrder k h
+          no-order k h =
+              upd-other (m .orders) (lowest m t) (drop 1 (m .orders (lowest m t))) k (λ q. omega (arith, q, w .choice .isKind, class-le (at m p .share)))
+              ∙ fit .classes .noOrder k h
 
           no-held : (k : ℕ) → 17 ≤ k → begin m t .held k ≡ 0
           no-held k h = omega (arith, release-le (m .clock) t (m .held) k, fit .classes .noHeld k h)
@@ -439,10 +485,14 @@ module _ (m : Board.Board) (fit : Fit m) (ids lens : List ℕ) (holds : Holds m 
           ∙ ap (λ (x : Place). x .start) (getD-set-same (m .places) p y freePlace in-l)
 
       holds-begin : Holds (begin m t) ids lens
-      holds-begin = subst (λ (l : List Place). (i : ℕ) → pl l i .lane ≡ laneOf ids lens i (pl l i) (length (pl l i .lane))) (sym places-are) (holds-set (m .places) p y ids lens in-l holds (holds p ∙ lane-by ids lens p (at m p) y (length (at m p .lane)) refl))
+      holds-begin =
+          subst (λ (l : List Place). (i : ℕ) → pl l i .lane ≡ laneOf ids lens i (pl l i) (length (pl l i .lane))) (sym places-are)
+          (holds-set (m .places) p y ids lens in-l holds (holds p ∙ lane-by ids lens p (at m p) y (length (at m p .lane)) refl))
 
       front-at : recordAt ids lens (laneEntry p (at m p .start) 0) ≡ front (at (begin m t) p)
-      front-at = front-is m fit ids lens holds p (w .lane) ∙ sym (ap (λ (l : List Place). front (pl l p)) places-are ∙ ap front (getD-set-same (m .places) p y freePlace in-l))
+      front-at =
+          front-is m fit ids lens holds p (w .lane)
+          ∙ sym (ap (λ (l : List Place). front (pl l p)) places-are ∙ ap front (getD-set-same (m .places) p y freePlace in-l))
 
       opens : withEngine (encode m) (opened (encode m .shares) (encode m .largest) p t (engineOf (encode m))) ≡ encode (begin m t)
       opens = begin-is m fit t p (omega (arith, w .time)) (w .slot) (w .choice) (sym e) next!
@@ -463,10 +513,13 @@ module _ (m : Board.Board) (fit : Fit m) (ids lens : List ℕ) (holds : Holds m 
           ps = drop 1 (m .orders (lowest m t))
 
           away : count p ps ≡ 0
-          away = omega (arith, fit .tidy .shape .listed (lowest m t) p, oneIf-le (inClass (lowest m t) (at m p)), ap (count p) (w .choice .first), count-head p ps)
+          away =
+              omega (arith, fit .tidy .shape .listed (lowest m t) p, oneIf-le (inClass (lowest m t) (at m p)), ap (count p) (w .choice .first), count-head p ps)
 
           after : getD (encode m .next) p 0 ≡ firstLink ps
-          after = after-first (m .orders) (λ j. blockClass (at m j)) p (lowest m t) ps (w .inside) (omega (arith, w .choice .isKind, class-le (at m p .share))) (sym (w .choice .isKind)) (w .choice .first) away
+          after =
+              after-first (m .orders) (λ j. blockClass (at m j)) p (lowest m t) ps (w .inside) (omega (arith, w .choice .isKind, class-le (at m p .share)))
+              (sym (w .choice .isKind)) (w .choice .first) away
 
           first-small : (qs : List ℕ) → ps ≡ qs → firstLink qs ≤ 64
           first-small [] q = omega arith
@@ -478,11 +531,13 @@ module _ (m : Board.Board) (fit : Fit m) (ids lens : List ℕ) (holds : Holds m 
   -- A SERVE, by the rules' answer
   pub serve-by : ByAnswer m ids lens (serve m .out) (serve m .next)
   unfolding ByAnswer send begin
-  serve-by = serve-cases m (fit .tidy) (λ (u : Turn). ByAnswer m ids lens (u .out) (u .next)) (record { unserved = unserved; goesOn = goes-on; begins = begins })
+  serve-by =
+      serve-cases m (fit .tidy) (λ (u : Turn). ByAnswer m ids lens (u .out) (u .next)) (record { unserved = unserved; goesOn = goes-on; begins = begins })
     where
       unserved : (code : ℕ) → Unserved m code → Refusal code → Refuses m code m
       unserved code (nobody e l) r = record { refusal = λ z. omega arith; stops = choice-none m e (sets.nobody m (fit .tidy) e ∙ ap isNone l); stays = refl }
-      unserved code (late q e l h) r = record { refusal = λ z. omega arith; stops = chooses m fit e q l ∙ rw (leb-yes (2 ^ 62) (max (m .clock) q) h); stays = refl }
+      unserved code (late q e l h) r =
+          record { refusal = λ z. omega arith; stops = chooses m fit e q l ∙ rw (leb-yes (2 ^ 62) (max (m .clock) q) h); stays = refl }
 
       goes-on : (p : ℕ) → GoesOn m p → ByAnswer m ids lens (send false m p .out) (send false m p .next)
       goes-on p w = serves-on p w
@@ -495,7 +550,8 @@ module _ (m : Board.Board) (fit : Fit m) (ids lens : List ℕ) (holds : Holds m 
   unfolding ByAnswer
   can-serve h = record { chooses = can-choose m fit; enacts = λ place time e. go (serve m .out) serve-by place time e }
     where
-      go : (o : Out) → ByAnswer m ids lens o (serve m .next) → (place time : ℕ) → choiceOf (engineOf (encode m)) ≡ Go place time → CanEnact (encode m .shares) lens (encode m .largest) place time (engineOf (encode m))
+      go : (o : Out) → ByAnswer m ids lens o (serve m .next) → (place time : ℕ) → choiceOf (engineOf (encode m)) ≡ Go place time
+          → CanEnact (encode m .shares) lens (encode m .largest) place time (engineOf (encode m))
       go (refused code) w place time e = absurd (stop-go code place time (sym (w .stops) ∙ e))
       go (sent s) w place time e =
           let f = sym (w .chooses) ∙ e in

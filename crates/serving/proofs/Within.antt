@@ -137,8 +137,11 @@ module _ (m : Board.Board) (fit : Fit m) (ids lens : List ℕ) (holds : Holds m 
           cond full (withinOf 14 untold (engineOf (encode m)))
           (cond long (withinOf 13 untold (engineOf (encode m))) (withinOf 0 told E))
 
-      by-bytes : 1 ≤ room → (bytes < c) ⊎ (c ≤ bytes) → Stops m bytes room (result false (ltb bytes c)) ⊎ Goes m ids lens bytes room (result false (ltb bytes c))
-      by-bytes some (inl h) = rw (lt-ltb bytes c h) (inl (record { code = λ z. omega arith; same = refl; burst-is = burst-long m bytes s e room (λ z. omega arith) h; why = inr (inr (r, h, small)) }))
+      by-bytes : 1 ≤ room → (bytes < c) ⊎ (c ≤ bytes)
+          → Stops m bytes room (result false (ltb bytes c)) ⊎ Goes m ids lens bytes room (result false (ltb bytes c))
+      by-bytes some (inl h) =
+          rw (lt-ltb bytes c h)
+          (inl (record { code = λ z. omega arith; same = refl; burst-is = burst-long m bytes s e room (λ z. omega arith) h; why = inr (inr (r, h, small)) }))
       by-bytes some (inr h) = rw (le-ltb bytes c h) (inr (record {
         code = refl;
         sends = s;
@@ -163,16 +166,20 @@ module _ (m : Board.Board) (fit : Fit m) (ids lens : List ℕ) (holds : Holds m 
           entry-small : laneEntry p (at m p .start) 0 < 2048
           entry-small = lane-inside p (at m p .start) 0 (w .inside)
 
-      by-room : (1 ≤ room) ⊎ (room < 1) → Stops m bytes room (result (eqb room 0) (ltb bytes c)) ⊎ Goes m ids lens bytes room (result (eqb room 0) (ltb bytes c))
+      by-room : (1 ≤ room) ⊎ (room < 1)
+          → Stops m bytes room (result (eqb room 0) (ltb bytes c)) ⊎ Goes m ids lens bytes room (result (eqb room 0) (ltb bytes c))
       by-room (inl h) = rw (ne-eqb room 0 (λ z. omega arith)) (by-bytes h (turn (split c bytes)))
         where
           turn : (c ≤ bytes) ⊎ (bytes < c) → (bytes < c) ⊎ (c ≤ bytes)
           turn (inl x) = inr x
           turn (inr x) = inl x
-      by-room (inr h) = let z : room ≡ 0 = omega arith in rw (eq-eqb room 0 z) (inl (record { code = λ y. omega arith; same = refl; burst-is = burst-full m bytes s e room z; why = inr (inl z) }))
+      by-room (inr h) =
+          let z : room ≡ 0 = omega arith in
+          rw (eq-eqb room 0 z) (inl (record { code = λ y. omega arith; same = refl; burst-is = burst-full m bytes s e room z; why = inr (inl z) }))
 
   -- A SERVE WITHIN, by the rules
-  pub within-by : Stops m bytes room (servedWithin (encode m .shares) lens (encode m .largest) bytes room (engineOf (encode m))) ⊎ Goes m ids lens bytes room (servedWithin (encode m .shares) lens (encode m .largest) bytes room (engineOf (encode m)))
+  pub within-by : Stops m bytes room (servedWithin (encode m .shares) lens (encode m .largest) bytes room (engineOf (encode m)))
+      ⊎ Goes m ids lens bytes room (servedWithin (encode m .shares) lens (encode m .largest) bytes room (engineOf (encode m)))
   unfolding servedWithin ByAnswer
   within-by = go (serve m .out) refl (serve-by m fit ids lens holds)
     where

@@ -37,15 +37,18 @@ use Rattle.slots.proofs.Sets.{still-is}
 use Rattle.slots.proofs.Clock.{clock-is}
 
 -- the engine's step, with what it reads named
-opened-new : (shares : List ℕ) (L p t : ℕ) (e : Engine) (s k a d : ℕ) (w : Turned) → eqb (e .now .slot) 0 ≡ true → getD shares p 0 ≡ s → classOf s ≡ k → getD (e .queues .next) p 0 ≡ a → getD (e .queues .deficits) p 0 ≡ d
+opened-new : (shares : List ℕ) (L p t : ℕ) (e : Engine) (s k a d : ℕ) (w : Turned) → eqb (e .now .slot) 0 ≡ true → getD shares p 0 ≡ s → classOf s ≡ k
+    → getD (e .queues .next) p 0 ≡ a → getD (e .queues .deficits) p 0 ≡ d
     → turned (e .now .clock) t (e .queues .heads) (turnedNow (e .now .pending) (e .queues .held)) ≡ w
-    → opened shares L p t e ≡ engineNow (e .starts) (e .counts) (set (e .queues .deficits) p 0) (set (e .queues .ready) p 0) (set (e .queues .next) p 0) (set (e .queues .heads) k a)
+    → opened shares L p t e
+    ≡ engineNow (e .starts) (e .counts) (set (e .queues .deficits) p 0) (set (e .queues .ready) p 0) (set (e .queues .next) p 0) (set (e .queues .heads) k a)
     (cond (eqb a 0) (set (e .queues .tails) k 0) (e .queues .tails)) (w .held)
     (numbersNow t (e .now .active) (stillPending (w .pending) k t (set (e .queues .heads) k a) (set (e .queues .ready) p 0)) (suc p) (d + creditOf L s))
 unfolding opened openedSlot beganAt leftLinks
 opened-new shares L p t e s k a d w z hs hk ha hd hw = rw (z, hs, hk, ha, hd, hw, add-one p)
 
-module _ (m : Board.Board) (fit : Fit m) (t p : ℕ) (later : m .clock ≤ t) (free : m .slot ≡ none) (ch : Chosen (m .places) (m .orders) t (lowest m t) p) (first : chosen m t ≡ p) (next! : Tidy (begin m t)) where
+module _ (m : Board.Board) (fit : Fit m) (t p : ℕ) (later : m .clock ≤ t) (free : m .slot ≡ none) (ch : Chosen (m .places) (m .orders) t (lowest m t) p)
+    (first : chosen m t ≡ p) (next! : Tidy (begin m t)) where
   g : Tidy m
   g = fit .tidy
 
@@ -88,7 +91,9 @@ module _ (m : Board.Board) (fit : Fit m) (t p : ℕ) (later : m .clock ≤ t) (f
   pub begin-is : withEngine (encode m) (opened (encode m .shares) (m .largest) p t (engineOf (encode m))) ≡ encode (begin m t)
   unfolding encode begin
   begin-is =
-      ap (withEngine (encode m)) (opened-new (encode m .shares) (m .largest) p t (engineOf (encode m)) (at m p .share) k (firstLink ps) (at m p .deficit) _ none! share (sym (ch .isKind)) after owed (clock-is l o (m .held) (m .clock) t (g .shape .listed) (g .shape .seat) later))
+      ap (withEngine (encode m))
+      (opened-new (encode m .shares) (m .largest) p t (engineOf (encode m)) (at m p .share) k (firstLink ps) (at m p .deficit) _ none! share
+      (sym (ch .isKind)) after owed (clock-is l o (m .held) (m .clock) t (g .shape .listed) (g .shape .seat) later))
       ∙ same (record {
         numbers = kept (λ w. w .number) l p y refl ∙ named (λ w. w .number);
         shares = kept (λ w. w .share) l p y refl ∙ named (λ w. w .share);
@@ -96,7 +101,10 @@ module _ (m : Board.Board) (fit : Fit m) (t p : ℕ) (later : m .clock ≤ t) (f
         starts = kept (λ w. w .start) l p y refl ∙ named (λ w. w .start);
         counts = kept (λ w. length (w .lane)) l p y refl ∙ named (λ w. length (w .lane));
         ready = ready;
-        next = nexts-leave o kj p k ps p64 k17 (sym (ch .isKind)) (ch .first) rest ∙ tab-ext 64 _ _ (λ j h. ap (λ (n : ℕ). behind j (upd o k ps (classOf n))) (sym (set-field (λ (w : Place). w .share) l p y inL refl j) ∙ ap (λ (q : ℕ). pl (set l q (started (m .largest) (at m q))) j .share) (sym first)));
+        next =
+            nexts-leave o kj p k ps p64 k17 (sym (ch .isKind)) (ch .first) rest
+            ∙ tab-ext 64 _ _ (λ j h. ap (λ (n : ℕ). behind j (upd o k ps (classOf n)))
+            (sym (set-field (λ (w : Place). w .share) l p y inL refl j) ∙ ap (λ (q : ℕ). pl (set l q (started (m .largest) (at m q))) j .share) (sym first)));
         heads = hds;
         tails = tails-leave o kj p k ps p64 k17 (sym (ch .isKind)) (ch .first) rest;
         held = refl;
@@ -142,7 +150,11 @@ module _ (m : Board.Board) (fit : Fit m) (t p : ℕ) (later : m .clock ≤ t) (f
       was = due-any (m .places) t p (m .orders k) isIn (ch .isQ) (ch .isDue)
 
       others : (j : ℕ) → j ≢ k → pending (begin m t) j ≡ anyDue (m .places) t (m .orders j)
-      others j ne = ap₂ (λ (q : ℕ) (xs : List ℕ). anyDue (set l q (started (m .largest) (at m q))) t xs) first (upd-other o k ps j ne) ∙ due-away l t p y (m .orders j) (elsewhere j ne)
+      others j ne =
+          ap₂ (λ (q : ℕ) (xs : List ℕ). anyDue (set l q (started (m .largest) (at m q))) t xs) first (upd-other o k ps j ne)
+          ∙ due-away l t p y (m .orders j) (elsewhere j ne)
 
       left : at m p .deficit + creditOf (m .largest) (at m p .share) ≡ slotLeft (begin m t .places) (begin m t .slot)
-      left = sym (ap (λ (q : ℕ). leftOf (pl (set l q (started (m .largest) (at m q))) q .stand)) first ∙ ap (λ (w : Place). leftOf (w .stand)) (getD-set-same l p y freePlace inL))
+      left =
+          sym (ap (λ (q : ℕ). leftOf (pl (set l q (started (m .largest) (at m q))) q .stand)) first
+          ∙ ap (λ (w : Place). leftOf (w .stand)) (getD-set-same l p y freePlace inL))

@@ -57,9 +57,14 @@ module _ (m : Board.Board) (g : Tidy m) (free : m .slot ≡ none) (r : ℕ) (li 
   first-class = omega (arith, class-le (at m (first .0) .share))
 
   -- a class is pending
-  now! : r ≤ m .clock → (slotClock (m .clock) (encode m .pending) (chosenClass (encode m .active) (encode m .pending)) ≡ m .clock) × (chosenClass (encode m .active) (encode m .pending) ≡ lowest m (m .clock))
+  now! : r ≤ m .clock → (slotClock (m .clock) (encode m .pending) (chosenClass (encode m .active) (encode m .pending)) ≡ m .clock)
+      × (chosenClass (encode m .active) (encode m .pending) ≡ lowest m (m .clock))
   unfolding slotClock chosenClass encode lowest
-  now! h = (rw (ne-eqb (setBelow 17 (pending m)) 0 some!), rw (ne-eqb (setBelow 17 (pending m)) 0 some!) (lowest-set (pending m) (least (pending m) 17) under (least-true (pending m) 17 under) (least-false (pending m) 17)))
+  now! h = (
+    rw (ne-eqb (setBelow 17 (pending m)) 0 some!),
+    rw (ne-eqb (setBelow 17 (pending m)) 0 some!)
+        (lowest-set (pending m) (least (pending m) 17) under (least-true (pending m) 17 under) (least-false (pending m) 17)),
+  )
     where
       on : pending m (blockClass (at m (first .0))) ≡ true
       on = due-pending (m .places) (m .orders) (m .clock) (g .shape .listed) (first .0) (first .1) (omega (arith, first .2))
@@ -81,7 +86,9 @@ module _ (m : Board.Board) (g : Tidy m) (free : m .slot ≡ none) (r : ℕ) (li 
       where
         go : (t : Bool) → pending m j ≡ t → t ≡ false
         go false e = refl
-        go true e = let w = any-due (m .places) (m .clock) (m .orders j) e in absurd (omega (arith, w .2, lowest-ready (w .0) (listed-in (m .places) (m .orders) (g .shape .listed) j (w .0) (w .1) .0)))
+        go true e =
+            let w = any-due (m .places) (m .clock) (m .orders j) e in
+            absurd (omega (arith, w .2, lowest-ready (w .0) (listed-in (m .places) (m .orders) (g .shape .listed) j (w .0) (w .1) .0)))
 
     -- every block in an order is ready at the next start of its class
     at-start : (i : ℕ) → isQueued (at m i .stand) ≡ true → ready (m .places) i ≡ nextStart (blockClass (at m i)) (m .clock)
@@ -96,7 +103,9 @@ module _ (m : Board.Board) (g : Tidy m) (free : m .slot ≡ none) (r : ℕ) (li 
     active-class i q = active-order m g free (blockClass (at m i)) ∙ go (m .orders (blockClass (at m i))) refl
       where
         go : (xs : List ℕ) → m .orders (blockClass (at m i)) ≡ xs → not (eqb (firstLink xs) 0) ≡ true
-        go [] e = absurd (false≢true (sym (ap (anyDue (m .places) (ready (m .places) i)) e) ∙ due-pending (m .places) (m .orders) (ready (m .places) i) (g .shape .listed) i q (omega arith)))
+        go [] e =
+            absurd (false≢true (sym (ap (anyDue (m .places) (ready (m .places) i)) e)
+            ∙ due-pending (m .places) (m .orders) (ready (m .places) i) (g .shape .listed) i q (omega arith)))
         go (x ∷ xs) e = ap not (ne-eqb (suc x) 0 (λ z. omega arith))
 
     k-low : (i : ℕ) → isQueued (at m i .stand) ≡ true → k ≤ blockClass (at m i)
@@ -125,7 +134,15 @@ module _ (m : Board.Board) (g : Tidy m) (free : m .slot ≡ none) (r : ℕ) (li 
         let q = member .0 in
         let e = at-start q (member .2) in
         let u = ap (λ (j : ℕ). nextStart j (m .clock)) (member .3) in
-        omega (arith, e, u, lowest-ready q (member .2), at-start (first .0) (first .1), first .2, next-align k (blockClass (at m (first .0))) (m .clock) (k-low (first .0) (first .1)))
+        omega (
+          arith,
+          e,
+          u,
+          lowest-ready q (member .2),
+          at-start (first .0) (first .1),
+          first .2,
+          next-align k (blockClass (at m (first .0))) (m .clock) (k-low (first .0) (first .1)),
+        )
 
     below-k : (j : ℕ) → j < k → anyDue (m .places) r (m .orders j) ≡ false
     unfolding anyDue
@@ -133,26 +150,36 @@ module _ (m : Board.Board) (g : Tidy m) (free : m .slot ≡ none) (r : ℕ) (li 
       where
         go : (xs : List ℕ) → m .orders j ≡ xs → anyDue (m .places) r xs ≡ false
         go [] e = refl
-        go (q ∷ qs) e = absurd (false≢true (sym (least-false a 17 j l) ∙ active-order m g free j ∙ ap (λ (xs : List ℕ). not (eqb (firstLink xs) 0)) e ∙ ap not (ne-eqb (suc q) 0 (λ z. omega arith))))
+        go (q ∷ qs) e =
+            absurd (false≢true (sym (least-false a 17 j l) ∙ active-order m g free j ∙ ap (λ (xs : List ℕ). not (eqb (firstLink xs) 0)) e
+            ∙ ap not (ne-eqb (suc q) 0 (λ z. omega arith))))
 
     lowest-is : lowest m r ≡ k
     unfolding lowest
-    lowest-is = least-found (λ j. anyDue (m .places) r (m .orders j)) 17 k k17 below-k (due-any (m .places) r (member .0) (m .orders k) (member .1) (member .2) due)
+    lowest-is =
+        least-found (λ j. anyDue (m .places) r (m .orders j)) 17 k k17 below-k (due-any (m .places) r (member .0) (m .orders k) (member .1) (member .2) due)
       where
         due : ready (m .places) (member .0) ≤ r
         due = omega (arith, at-start (member .0) (member .2), ap (λ (j : ℕ). nextStart j (m .clock)) (member .3), start-is)
 
-    later! : (slotClock (m .clock) (encode m .pending) (chosenClass (encode m .active) (encode m .pending)) ≡ r) × (chosenClass (encode m .active) (encode m .pending) ≡ lowest m r)
+    later! : (slotClock (m .clock) (encode m .pending) (chosenClass (encode m .active) (encode m .pending)) ≡ r)
+        × (chosenClass (encode m .active) (encode m .pending) ≡ lowest m r)
     unfolding slotClock chosenClass encode
-    later! = (rw (eq-eqb (setBelow 17 (pending m)) 0 (set-void (pending m) calm), low) start-is, rw (eq-eqb (setBelow 17 (pending m)) 0 (set-void (pending m) calm)) (low ∙ sym lowest-is))
+    later! = (
+      rw (eq-eqb (setBelow 17 (pending m)) 0 (set-void (pending m) calm), low) start-is,
+      rw (eq-eqb (setBelow 17 (pending m)) 0 (set-void (pending m) calm)) (low ∙ sym lowest-is),
+    )
       where
         low : lowestBit (setBelow 17 (active m)) ≡ k
         low = lowest-set (active m) k k17 (least-true a 17 k17) (least-false a 17)
 
   -- THE CHOICE
-  pub choice-is : (slotClock (m .clock) (encode m .pending) (chosenClass (encode m .active) (encode m .pending)) ≡ max (m .clock) r) × (chosenClass (encode m .active) (encode m .pending) ≡ lowest m (max (m .clock) r))
+  pub choice-is : (slotClock (m .clock) (encode m .pending) (chosenClass (encode m .active) (encode m .pending)) ≡ max (m .clock) r)
+      × (chosenClass (encode m .active) (encode m .pending) ≡ lowest m (max (m .clock) r))
   choice-is = go (split r (m .clock))
     where
-      go : (r ≤ m .clock) ⊎ (m .clock < r) → (slotClock (m .clock) (encode m .pending) (chosenClass (encode m .active) (encode m .pending)) ≡ max (m .clock) r) × (chosenClass (encode m .active) (encode m .pending) ≡ lowest m (max (m .clock) r))
+      go : (r ≤ m .clock) ⊎ (m .clock < r)
+          → (slotClock (m .clock) (encode m .pending) (chosenClass (encode m .active) (encode m .pending)) ≡ max (m .clock) r)
+          × (chosenClass (encode m .active) (encode m .pending) ≡ lowest m (max (m .clock) r))
       go (inl h) = let e : max (m .clock) r ≡ m .clock = omega arith in rw e (now! h)
       go (inr h) = let e : max (m .clock) r ≡ r = omega arith in rw e (later! h)

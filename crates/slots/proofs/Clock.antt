@@ -72,9 +72,12 @@ module _ (c t : ℕ) (h : c ≤ t) (full : ℕ → Bool) (heads : List ℕ) (her
   less : ℕ → (ℕ → ℕ) → ℕ → ℕ
   less k H j = cond (eqb j k) 0 (H j)
 
-  one-class : (k : ℕ) → k < 17 → (f : ℕ → Bool) (H : ℕ → ℕ) → passed k heads (turnedNow (setBelow 17 f) (tab 17 H)) ≡ turnedNow (setBelow 17 (more k f)) (tab 17 (less k H))
+  one-class : (k : ℕ) → k < 17 → (f : ℕ → Bool) (H : ℕ → ℕ)
+      → passed k heads (turnedNow (setBelow 17 f) (tab 17 H)) ≡ turnedNow (setBelow 17 (more k f)) (tab 17 (less k H))
   unfolding more less
-  one-class k l f H = ap₂ turnedNow (rw (here k l) (go (full k) refl)) (tab-set 17 H (less k H) k 0 l (ap (λ (b : Bool). cond b 0 (H k)) (eqb-yes k k refl)) (λ j m ne. ap (λ (b : Bool). cond b 0 (H j)) (eqb-no j k ne)))
+  one-class k l f H =
+      ap₂ turnedNow (rw (here k l) (go (full k) refl))
+      (tab-set 17 H (less k H) k 0 l (ap (λ (b : Bool). cond b 0 (H k)) (eqb-yes k k refl)) (λ j m ne. ap (λ (b : Bool). cond b 0 (H j)) (eqb-no j k ne)))
     where
       other : (j : ℕ) → j ≢ k → f j || (eqb j k && full j) ≡ f j
       other j ne = ap (λ (b : Bool). f j || (b && full j)) (eqb-no j k ne) ∙ or-false (f j)
@@ -95,8 +98,11 @@ module _ (c t : ℕ) (h : c ≤ t) (full : ℕ → Bool) (heads : List ℕ) (her
           same j (no q) = sym (other j q)
 
   -- a class below k, or one of which no start is passed, is as it was
-  idle : (k : ℕ) (f : ℕ → Bool) (H : ℕ → ℕ) → ((j : ℕ) → j < 17 → leb k j && gone j ≡ false) → turnedNow (setBelow 17 f) (tab 17 H) ≡ turnedNow (setBelow 17 (due k f)) (tab 17 (rest k H))
-  idle k f H e = ap₂ turnedNow (set-ext f (due k f) 17 (λ j l. sym (and-or (f j) (leb k j) (gone j) (full j) (e j l)))) (tab-ext 17 H (rest k H) (λ j l. sym (ap (λ (b : Bool). cond b 0 (H j)) (e j l))))
+  idle : (k : ℕ) (f : ℕ → Bool) (H : ℕ → ℕ) → ((j : ℕ) → j < 17 → leb k j && gone j ≡ false)
+      → turnedNow (setBelow 17 f) (tab 17 H) ≡ turnedNow (setBelow 17 (due k f)) (tab 17 (rest k H))
+  idle k f H e =
+      ap₂ turnedNow (set-ext f (due k f) 17 (λ j l. sym (and-or (f j) (leb k j) (gone j) (full j) (e j l))))
+      (tab-ext 17 H (rest k H) (λ j l. sym (ap (λ (b : Bool). cond b 0 (H j)) (e j l))))
     where
       and-or : (a b d w : Bool) → b && d ≡ false → a || (b && (d && w)) ≡ a
       and-or a true true w q = absurd (true≢false q)
@@ -104,7 +110,8 @@ module _ (c t : ℕ) (h : c ≤ t) (full : ℕ → Bool) (heads : List ℕ) (her
       and-or a false d w q = or-false a
 
   -- a start of class k is passed: what is left to do from the next class on
-  onward : (k : ℕ) → gone k ≡ true → (f : ℕ → Bool) (H : ℕ → ℕ) → turnedNow (setBelow 17 (due (k + 1) (more k f))) (tab 17 (rest (k + 1) (less k H))) ≡ turnedNow (setBelow 17 (due k f)) (tab 17 (rest k H))
+  onward : (k : ℕ) → gone k ≡ true → (f : ℕ → Bool) (H : ℕ → ℕ)
+      → turnedNow (setBelow 17 (due (k + 1) (more k f))) (tab 17 (rest (k + 1) (less k H))) ≡ turnedNow (setBelow 17 (due k f)) (tab 17 (rest k H))
   unfolding more less
   onward k p f H = ap₂ turnedNow (set-ext _ _ 17 (λ j l. sets j (ℕ-discrete j k) (split k j))) (tab-ext 17 _ _ (λ j l. shares j (ℕ-discrete j k) (split k j)))
     where
@@ -114,7 +121,8 @@ module _ (c t : ℕ) (h : c ≤ t) (full : ℕ → Bool) (heads : List ℕ) (her
       under : (j : ℕ) → j < k → (leb (k + 1) j ≡ false) × (leb k j ≡ false) × (eqb j k ≡ false)
       under j l = (leb-no (k + 1) j (omega arith), leb-no k j l, eqb-no j k (λ q. omega arith))
 
-      sets : (j : ℕ) → Dec (j ≡ k) → (k ≤ j) ⊎ (j < k) → (f j || (eqb j k && full j)) || (leb (k + 1) j && (gone j && full j)) ≡ f j || (leb k j && (gone j && full j))
+      sets : (j : ℕ) → Dec (j ≡ k) → (k ≤ j) ⊎ (j < k)
+          → (f j || (eqb j k && full j)) || (leb (k + 1) j && (gone j && full j)) ≡ f j || (leb k j && (gone j && full j))
       sets j (yes q) s = rw (q, eqb-yes k k refl, leb-no (k + 1) k (omega arith), leb-yes k k (omega arith), p) (or-false (f k || full k))
       sets j (no q) (inl s) = rw (above j q s .0, above j q s .1, above j q s .2) (ap (λ (b : Bool). b || (gone j && full j)) (or-false (f j)))
       sets j (no q) (inr s) = rw (under j s .0, under j s .1, under j s .2) (or-false (f j || false))
@@ -125,25 +133,35 @@ module _ (c t : ℕ) (h : c ≤ t) (full : ℕ → Bool) (heads : List ℕ) (her
       shares j (no q) (inr s) = rw (under j s .0, under j s .1, under j s .2)
 
   -- n classes from class k on
-  all-classes : (n k : ℕ) → n + k ≡ 17 → (f : ℕ → Bool) (H : ℕ → ℕ) → turnedFrom n k c t heads (turnedNow (setBelow 17 f) (tab 17 H)) ≡ turnedNow (setBelow 17 (due k f)) (tab 17 (rest k H))
+  all-classes : (n k : ℕ) → n + k ≡ 17 → (f : ℕ → Bool) (H : ℕ → ℕ)
+      → turnedFrom n k c t heads (turnedNow (setBelow 17 f) (tab 17 H)) ≡ turnedNow (setBelow 17 (due k f)) (tab 17 (rest k H))
   unfolding turnedFrom
   all-classes zero k e f H = idle k f H (λ j l. ap (λ (b : Bool). b && gone j) (leb-no k j (omega arith)))
   all-classes (suc n) k e f H = go (all-classes n (k + 1) (omega arith)) (ℕ-discrete (c / 2 ^ k) (t / 2 ^ k))
     where
-      go : ((f′ : ℕ → Bool) (H′ : ℕ → ℕ) → turnedFrom n (k + 1) c t heads (turnedNow (setBelow 17 f′) (tab 17 H′)) ≡ turnedNow (setBelow 17 (due (k + 1) f′)) (tab 17 (rest (k + 1) H′))) → Dec (c / 2 ^ k ≡ t / 2 ^ k)
-          → cond (eqb (c / 2 ^ k) (t / 2 ^ k)) (turnedNow (setBelow 17 f) (tab 17 H)) (turnedFrom n (k + 1) c t heads (passed k heads (turnedNow (setBelow 17 f) (tab 17 H)))) ≡ turnedNow (setBelow 17 (due k f)) (tab 17 (rest k H))
+      go : ((f′ : ℕ → Bool) (H′ : ℕ → ℕ)
+          → turnedFrom n (k + 1) c t heads (turnedNow (setBelow 17 f′) (tab 17 H′)) ≡ turnedNow (setBelow 17 (due (k + 1) f′)) (tab 17 (rest (k + 1) H′)))
+          → Dec (c / 2 ^ k ≡ t / 2 ^ k)
+          → cond (eqb (c / 2 ^ k) (t / 2 ^ k)) (turnedNow (setBelow 17 f) (tab 17 H))
+          (turnedFrom n (k + 1) c t heads (passed k heads (turnedNow (setBelow 17 f) (tab 17 H)))) ≡ turnedNow (setBelow 17 (due k f)) (tab 17 (rest k H))
       go r (yes q) = rw (eq-eqb (c / 2 ^ k) (t / 2 ^ k) q) (idle k f H (λ j l. none j (split k j)))
         where
           none : (j : ℕ) → (k ≤ j) ⊎ (j < k) → leb k j && gone j ≡ false
-          none j (inl l) = ap (λ (b : Bool). leb k j && b) (leb-no (nextStart j c) t (omega (arith, same-interval k c t q, next-align k j c l))) ∙ and-false (leb k j)
+          none j (inl l) =
+              ap (λ (b : Bool). leb k j && b) (leb-no (nextStart j c) t (omega (arith, same-interval k c t q, next-align k j c l))) ∙ and-false (leb k j)
           none j (inr l) = ap (λ (b : Bool). b && gone j) (leb-no k j l)
-      go r (no q) = rw (ne-eqb (c / 2 ^ k) (t / 2 ^ k) q) (ap (turnedFrom n (k + 1) c t heads) (one-class k (omega arith) f H) ∙ r (more k f) (less k H) ∙ onward k (leb-yes (nextStart k c) t (other-interval k c t h q)) f H)
+      go r (no q) =
+          rw (ne-eqb (c / 2 ^ k) (t / 2 ^ k) q)
+          (ap (turnedFrom n (k + 1) c t heads) (one-class k (omega arith) f H) ∙ r (more k f) (less k H)
+          ∙ onward k (leb-yes (nextStart k c) t (other-interval k c t h q)) f H)
 
-  turned-is : (f : ℕ → Bool) (H : ℕ → ℕ) → turned c t heads (turnedNow (setBelow 17 f) (tab 17 H)) ≡ turnedNow (setBelow 17 (λ j. f j || (gone j && full j))) (tab 17 (release c t H))
+  turned-is : (f : ℕ → Bool) (H : ℕ → ℕ)
+      → turned c t heads (turnedNow (setBelow 17 f) (tab 17 H)) ≡ turnedNow (setBelow 17 (λ j. f j || (gone j && full j))) (tab 17 (release c t H))
   unfolding turned release
   turned-is f H =
       all-classes 17 0 refl f H
-      ∙ ap₂ turnedNow (set-ext _ _ 17 (λ j l. ap (λ (b : Bool). f j || (b && (gone j && full j))) (leb-yes 0 j (omega arith)))) (tab-ext 17 _ _ (λ j l. ap (λ (b : Bool). cond (b && gone j) 0 (H j)) (leb-yes 0 j (omega arith))))
+      ∙ ap₂ turnedNow (set-ext _ _ 17 (λ j l. ap (λ (b : Bool). f j || (b && (gone j && full j))) (leb-yes 0 j (omega arith))))
+      (tab-ext 17 _ _ (λ j l. ap (λ (b : Bool). cond (b && gone j) 0 (H j)) (leb-yes 0 j (omega arith))))
 
 -- ---- So the pending classes and the held shares after it are the rules'
 
@@ -182,14 +200,17 @@ due-later l o c t listed seat h k = go (true-or (anyDue l c (o k)))
         reached (inl d) = rw (leb-yes (nextStart k c) t d) (sym (due-any l t p (o k) isFirst (isIn p isFirst .0) (omega (arith, at-next e p isFirst))))
         reached (inr d) = rw (leb-no (nextStart k c) t d) (sym (not-yet d (anyDue l t (o k)) refl))
 
-    go : (anyDue l c (o k) ≡ true) ⊎ (anyDue l c (o k) ≡ false) → anyDue l c (o k) || (leb (nextStart k c) t && not (eqb (firstLink (o k)) 0)) ≡ anyDue l t (o k)
+    go : (anyDue l c (o k) ≡ true) ⊎ (anyDue l c (o k) ≡ false)
+        → anyDue l c (o k) || (leb (nextStart k c) t && not (eqb (firstLink (o k)) 0)) ≡ anyDue l t (o k)
     go (inl e) = let w = any-due l c (o k) e in rw e (sym (due-any l t (w .0) (o k) (w .1) (isIn (w .0) (w .1) .0) (omega (arith, w .2))))
     go (inr e) = rw e (later e (o k) refl)
 
 pub clock-is : (l : List Place) (o : ℕ → List ℕ) (H : ℕ → ℕ) (c t : ℕ) → Listed l o → ((q : ℕ) → SeatP c (pl l q)) → c ≤ t
-    → turned c t (tab 17 (λ k. firstLink (o k))) (turnedNow (setBelow 17 (λ k. anyDue l c (o k))) (tab 17 H)) ≡ turnedNow (setBelow 17 (λ k. anyDue l t (o k))) (tab 17 (release c t H))
+    → turned c t (tab 17 (λ k. firstLink (o k))) (turnedNow (setBelow 17 (λ k. anyDue l c (o k))) (tab 17 H))
+    ≡ turnedNow (setBelow 17 (λ k. anyDue l t (o k))) (tab 17 (release c t H))
 clock-is l o H c t listed seat h =
-    turned-is c t h (λ k. not (eqb (firstLink (o k)) 0)) (tab 17 (λ k. firstLink (o k))) (λ k i. ap (λ (n : ℕ). eqb n 0) (getD-tab 17 (λ j. firstLink (o j)) k 0 i) ∙ sym (not-not (eqb (firstLink (o k)) 0))) (λ k. anyDue l c (o k)) H
+    turned-is c t h (λ k. not (eqb (firstLink (o k)) 0)) (tab 17 (λ k. firstLink (o k)))
+    (λ k i. ap (λ (n : ℕ). eqb n 0) (getD-tab 17 (λ j. firstLink (o j)) k 0 i) ∙ sym (not-not (eqb (firstLink (o k)) 0))) (λ k. anyDue l c (o k)) H
     ∙ ap (λ (s : ℕ). turnedNow s (tab 17 (release c t H))) (set-ext _ _ 17 (λ k i. due-later l o c t listed seat h k))
   where
     not-not : (b : Bool) → not (not b) ≡ b

@@ -60,11 +60,13 @@ module _ (m : Board.Board) (g : Tidy m) where
       isQ : isQueued (at m p .stand) ≡ true
       isQ = listed-in (m .places) (m .orders) (g .shape .listed) k p (rw e (in-head p ps)) .0
 
-      go : (anyDue (m .places) (m .clock) (p ∷ ps) ≡ true) ⊎ (anyDue (m .places) (m .clock) (p ∷ ps) ≡ false) → leb (ready (m .places) p) (m .clock) ≡ anyDue (m .places) (m .clock) (p ∷ ps)
+      go : (anyDue (m .places) (m .clock) (p ∷ ps) ≡ true) ⊎ (anyDue (m .places) (m .clock) (p ∷ ps) ≡ false)
+          → leb (ready (m .places) p) (m .clock) ≡ anyDue (m .places) (m .clock) (p ∷ ps)
       go (inl f) = leb-yes (ready (m .places) p) (m .clock) (first-due (m .places) (m .clock) p ps (rw e at (g .shape .rising k)) f) ∙ sym f
       go (inr f) = late (split (ready (m .places) p) (m .clock))
         where
-          late : (ready (m .places) p ≤ m .clock) ⊎ (m .clock < ready (m .places) p) → leb (ready (m .places) p) (m .clock) ≡ anyDue (m .places) (m .clock) (p ∷ ps)
+          late : (ready (m .places) p ≤ m .clock) ⊎ (m .clock < ready (m .places) p)
+              → leb (ready (m .places) p) (m .clock) ≡ anyDue (m .places) (m .clock) (p ∷ ps)
           late (inl h) = absurd (true≢false (sym (due-any (m .places) (m .clock) p (p ∷ ps) (in-head p ps) isQ h) ∙ f))
           late (inr h) = leb-no (ready (m .places) p) (m .clock) h ∙ sym f
 
@@ -85,9 +87,12 @@ module _ (m : Board.Board) (g : Tidy m) where
     still-is = rw (getD-tab 17 (λ j. firstLink (m .orders j)) k 0 k17) (go (m .orders k) refl)
       where
         go : (xs : List ℕ) → m .orders k ≡ xs
-            → cond (eqb (firstLink xs) 0) (withoutBit (setBelow 17 f) k) (cond (ltb (m .clock) (getD (encode m .ready) (firstLink xs - 1) 0)) (withoutBit (setBelow 17 f) k) (setBelow 17 f)) ≡ setBelow 17 (pending m)
+            → cond (eqb (firstLink xs) 0) (withoutBit (setBelow 17 f) k)
+            (cond (ltb (m .clock) (getD (encode m .ready) (firstLink xs - 1) 0)) (withoutBit (setBelow 17 f) k) (setBelow 17 f)) ≡ setBelow 17 (pending m)
         go [] e = dropped (ap (anyDue (m .places) (m .clock)) e)
-        go (p ∷ ps) e = rw (ne-eqb (suc p) 0 (λ z. omega arith), less, List·getD-map (λ (x : Place). readyNum (x .stand)) (m .places) p freePlace) (late (split (ready (m .places) p) (m .clock)))
+        go (p ∷ ps) e =
+            rw (ne-eqb (suc p) 0 (λ z. omega arith), less, List·getD-map (λ (x : Place). readyNum (x .stand)) (m .places) p freePlace)
+            (late (split (ready (m .places) p) (m .clock)))
           where
             less : suc p - 1 ≡ p
             less = omega arith
@@ -95,7 +100,8 @@ module _ (m : Board.Board) (g : Tidy m) where
             first : leb (ready (m .places) p) (m .clock) ≡ pending m k
             first = due-first k p ps e ∙ ap (anyDue (m .places) (m .clock)) (sym e)
 
-            late : (ready (m .places) p ≤ m .clock) ⊎ (m .clock < ready (m .places) p) → cond (ltb (m .clock) (ready (m .places) p)) (withoutBit (setBelow 17 f) k) (setBelow 17 f) ≡ setBelow 17 (pending m)
+            late : (ready (m .places) p ≤ m .clock) ⊎ (m .clock < ready (m .places) p)
+                → cond (ltb (m .clock) (ready (m .places) p)) (withoutBit (setBelow 17 f) k) (setBelow 17 f) ≡ setBelow 17 (pending m)
             late (inl h) = rw (le-ltb (m .clock) (ready (m .places) p) h) (kept (sym first ∙ leb-yes (ready (m .places) p) (m .clock) h))
             late (inr h) = rw (lt-ltb (m .clock) (ready (m .places) p) h) (dropped (sym first ∙ leb-no (ready (m .places) p) (m .clock) h))
 
@@ -121,7 +127,9 @@ module _ (m : Board.Board) (g : Tidy m) where
             off : (p : ℕ) → (isActive k (at m p) ≡ true) ⊎ (isActive k (at m p) ≡ false) → isActive k (at m p) ≡ false
             off p (inr f) = f
             off p (inl f) = absurd (nothing (at m p) k p (rw e at (g .shape .listed k p)) (rw (sym (waits-queued p)) f))
-        go (q ∷ qs) e = rw (ne-eqb (suc q) 0 (λ z. omega arith)) (active-here k q (m .places) (queued-in (m .places) q (w .0)) (rw (waits-queued q, w .0) (eqb-yes k (blockClass (at m q)) (w .1))))
+        go (q ∷ qs) e =
+            rw (ne-eqb (suc q) 0 (λ z. omega arith))
+            (active-here k q (m .places) (queued-in (m .places) q (w .0)) (rw (waits-queued q, w .0) (eqb-yes k (blockClass (at m q)) (w .1))))
           where
             w : (isQueued (at m q .stand) ≡ true) × (k ≡ blockClass (at m q))
             w = listed-in (m .places) (m .orders) (g .shape .listed) k q (rw e (in-head q qs))
@@ -143,4 +151,6 @@ module _ (m : Board.Board) (g : Tidy m) where
             i = h .1 .0
 
             on : active m (blockClass (at m i)) ≡ true
-            on = active-here (blockClass (at m i)) i (m .places) (queued-in (m .places) i (h .1 .1)) (rw (waits-queued i, h .1 .1) (eqb-yes (blockClass (at m i)) (blockClass (at m i)) refl))
+            on =
+                active-here (blockClass (at m i)) i (m .places) (queued-in (m .places) i (h .1 .1))
+                (rw (waits-queued i, h .1 .1) (eqb-yes (blockClass (at m i)) (blockClass (at m i)) refl))

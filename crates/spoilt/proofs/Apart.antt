@@ -41,7 +41,13 @@ module _ (numbers : List ℕ) (all64 : length numbers ≡ 64) where
 
   once : (p : ℕ) → p < 64 → num p ≢ 0 → ((q : ℕ) → q < 64 → num p ≡ num q → p ≡ q) → timesFound numbers (num p) ≡ 1
   unfolding timesFound
-  once p hp pos only = omega (arith, below-one (λ j. oneIf (eqb (num j) (num p))) (λ j. 0) 64 p hp away, below-zero (λ j. 0) 64 (λ j l. refl), ap oneIf (eqb-yes (num p) (num p) refl))
+  once p hp pos only =
+      omega (
+        arith,
+        below-one (λ j. oneIf (eqb (num j) (num p))) (λ j. 0) 64 p hp away,
+        below-zero (λ j. 0) 64 (λ j l. refl),
+        ap oneIf (eqb-yes (num p) (num p) refl),
+      )
     where
       away : (j : ℕ) → j ≢ p → oneIf (eqb (num j) (num p)) ≡ 0
       away j ne = ap oneIf (eqb-no (num j) (num p) (go (split 64 j)))

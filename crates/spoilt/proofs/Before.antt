@@ -21,7 +21,8 @@ abbrev first : Bool → Bool → ℕ
 first t u = cond t 3 (cond u 0 2)
 
 -- the computed test is the one of the promise
-pub test-is : (b : struct.Board) (ids lens : List ℕ) → Sized b → length ids ≡ tableLength → length lens ≡ tableLength → soundTest b ids lens ≡ isSound b ids lens
+pub test-is : (b : struct.Board) (ids lens : List ℕ) → Sized b → length ids ≡ tableLength → length lens ≡ tableLength
+    → soundTest b ids lens ≡ isSound b ids lens
 test-is b ids lens z i l = decided-alike (sound-decides b ids lens z i l) (is-sound-decides b ids lens)
 
 -- what is found by it, with tables of 2,048 entries

@@ -26,7 +26,8 @@ use Rattle.lanes.specs.Lanes.{laneEntry}
 use Rattle.rules.specs.Board
 use Rattle.rules.specs.Board.{Record, charge, out, queued, serving, Place, at, front, blockClass, isOpen, waits, spent}
 use Rattle.rules.specs.Spoilt
-use Rattle.rules.specs.Spoilt.{everyPlace, isQueued, isServing, lengthsIn, standsByLane, isAt, count, inClass, allPlaces, slotAtPlace, ordersListed, readyNum, neverFalling, slotOf, slotInTime, clauses, unspoilt}
+use Rattle.rules.specs.Spoilt.{everyPlace, isQueued, isServing, lengthsIn, standsByLane, isAt, count, inClass, allPlaces, slotAtPlace, ordersListed, readyNum}
+use Rattle.rules.specs.Spoilt.{neverFalling, slotOf, slotInTime, clauses, unspoilt}
 use Rattle.board.specs.declared.Board as struct
 use Rattle.board.specs.Reading.{tab, bareOf, placeOf, slotBy, view, Sized}
 use Rattle.board.proofs.Rings.{lane-at}
@@ -34,7 +35,8 @@ use Rattle.board.proofs.ClassSets.{and-never}
 use Rattle.spoilt_places.specs.Ranges.{sizeInRange, numbersApart, numberInRange, inOrder, sharesFit, heldWhileWaiting, noneHeld}
 use Rattle.spoilt_orders.specs.Walks.{clockInRange}
 use Rattle.spoilt.proofs.Apart.{d-apart}
-use Rattle.spoilt.proofs.Places.{stand-is, inner, waits-is, queued-is, serving-is, number-is, share-is, ring-is, deficit-is, free-is, lengths-from, record-is, share-at, number-at, queued-at, all-64}
+use Rattle.spoilt.proofs.Places.{stand-is, inner, waits-is, queued-is, serving-is, number-is, share-is, ring-is, deficit-is, free-is, lengths-from}
+use Rattle.spoilt.proofs.Places.{record-is, share-at, number-at, queued-at, all-64}
 use Rattle.spoilt.proofs.Sets.{quiet-is}
 use Rattle.spoilt.proofs.Rules.{Rules, Belongs}
 use Rattle.spoilt.proofs.Spelling.{walk!, member, member-ready, ready-at, open-at, lists-all, slot-at, ordered, falls-as, active-field, slot-serves}
@@ -50,16 +52,19 @@ sum-tab f (suc n) g = omega (arith, sum-tab f n (λ i. g (suc i)), below-first (
 pub spent-is : (b : struct.Board) (ids lens : List ℕ) → Sized b → spent (view b ids lens) ≡ totalOf (b .shares) + totalOf (b .held)
 unfolding spent view placeOf bareOf
 spent-is b ids lens z =
-    ap₂ (λ (m n : ℕ). m + n) (sum-tab (λ (x : Place). x .share) 64 (placeOf b ids lens) ∙ sym (total-below (b .shares) 64 (λ p. getD (b .shares) p 0) (z .shares) (λ p l. refl)))
+    ap₂ (λ (m n : ℕ). m + n)
+    (sum-tab (λ (x : Place). x .share) 64 (placeOf b ids lens) ∙ sym (total-below (b .shares) 64 (λ p. getD (b .shares) p 0) (z .shares) (λ p l. refl)))
     (sym (total-below (b .held) 17 (λ k. getD (b .held) k 0) (z .held) (λ k l. refl)))
 
 -- ---- a test of every place that is read
 
-pub every-from : (b : struct.Board) (ids lens : List ℕ) (t : Place → Bool) → ((p : ℕ) → p < 64 → t (placeOf b ids lens p) ≡ true) → everyPlace (view b ids lens) t ≡ true
+pub every-from : (b : struct.Board) (ids lens : List ℕ) (t : Place → Bool) → ((p : ℕ) → p < 64 → t (placeOf b ids lens p) ≡ true)
+    → everyPlace (view b ids lens) t ≡ true
 every-from b ids lens t h = all-intro (λ p. t (at (view b ids lens) p)) 64 (λ p l. rw (inner b ids lens p l) (h p l))
 
 -- the front record's charge, in parts
-pub front-charge : (b : struct.Board) (ids lens : List ℕ) (p : ℕ) → eqb (getD (b .counts) p 0) 0 ≡ false → charge (front (placeOf b ids lens p)) * 65536 ≡ chargeOf (getD lens (laneEntry p (getD (b .starts) p 0) 0) 0)
+pub front-charge : (b : struct.Board) (ids lens : List ℕ) (p : ℕ) → eqb (getD (b .counts) p 0) 0 ≡ false
+    → charge (front (placeOf b ids lens p)) * 65536 ≡ chargeOf (getD lens (laneEntry p (getD (b .starts) p 0) 0) 0)
 unfolding charge chargeOf placeOf
 front-charge b ids lens p e =
     ap (λ (r : Record). charged (r .bytes) * 65536) (lane-at ids lens p (bareOf b p) (getD (b .counts) p 0) 0 (pos (getD (b .counts) p 0) e))
@@ -73,7 +78,8 @@ front-charge b ids lens p e =
 pub all-places : (qs : List ℕ) → ((q : ℕ) → 1 ≤ count q qs → q < 64) → allPlaces qs ≡ true
 unfolding allPlaces count
 all-places [] h = refl
-all-places (q ∷ qs) h = and-both (ltb q 64) (allPlaces qs) (le-leb (suc q) 64 (h q (omega (arith, ap oneIf (eqb-yes q q refl))))) (all-places qs (λ p c. h p (omega arith)))
+all-places (q ∷ qs) h =
+    and-both (ltb q 64) (allPlaces qs) (le-leb (suc q) 64 (h q (omega (arith, ap oneIf (eqb-yes q q refl))))) (all-places qs (λ p c. h p (omega arith)))
 
 module _ (b : struct.Board) (ids lens : List ℕ) (z : Sized b) (r : Rules b lens) where
   abbrev v : Board.Board
@@ -82,7 +88,9 @@ module _ (b : struct.Board) (ids lens : List ℕ) (z : Sized b) (r : Rules b len
   -- open block numbers distinct
   alone : (p q : ℕ) → p < 64 → q < 64 → 1 ≤ getD (b .shares) p 0 → getD (b .numbers) p 0 ≡ getD (b .numbers) q 0 → p ≡ q
   unfolding numberInRange
-  alone p q hp hq s e = go (d-imp (ltb 0 (getD (b .shares) p 0)) (d-leb 1 (getD (b .numbers) p 0)) .yes (r .places p hp .0) (le-leb 1 (getD (b .shares) p 0) s)) (d-apart (b .numbers) (z .numbers) .yes (r .apart) p hp)
+  alone p q hp hq s e =
+      go (d-imp (ltb 0 (getD (b .shares) p 0)) (d-leb 1 (getD (b .numbers) p 0)) .yes (r .places p hp .0) (le-leb 1 (getD (b .shares) p 0) s))
+      (d-apart (b .numbers) (z .numbers) .yes (r .apart) p hp)
     where
       go : 1 ≤ getD (b .numbers) p 0 → (getD (b .numbers) p 0 ≡ 0) ⊎ ((i : ℕ) → i < 64 → getD (b .numbers) p 0 ≡ getD (b .numbers) i 0 → p ≡ i) → p ≡ q
       go l (inl f) = absurd (omega arith)
@@ -93,11 +101,15 @@ module _ (b : struct.Board) (ids lens : List ℕ) (z : Sized b) (r : Rules b len
   apart-clause = all-intro _ 64 (λ p hp. all-intro _ 64 (λ q hq. test p q hp hq))
     where
       test : (p q : ℕ) → p < 64 → q < 64 → eqb p q || not (isOpen (at v p) && (isOpen (at v q) && eqb (at v p .number) (at v q .number))) ≡ true
-      test p q hp hq = d-or (d-eqb p q) (d-not (d-and (d-leb 1 (at v p .share)) (d-and (d-leb 1 (at v q .share)) (d-eqb (at v p .number) (at v q .number))))) .no (go (ℕ-discrete p q))
+      test p q hp hq =
+          d-or (d-eqb p q) (d-not (d-and (d-leb 1 (at v p .share)) (d-and (d-leb 1 (at v q .share)) (d-eqb (at v p .number) (at v q .number))))) .no
+          (go (ℕ-discrete p q))
         where
           go : Dec (p ≡ q) → (p ≡ q) ⊎ ((1 ≤ at v p .share) × ((1 ≤ at v q .share) × (at v p .number ≡ at v q .number)) → ⊥)
           go (yes e) = inl e
-          go (no e) = inr (λ w. e (alone p q hp hq (omega (arith, w .0, share-at b ids lens p hp)) (sym (number-at b ids lens p hp) ∙ w .1 .1 ∙ number-at b ids lens q hq)))
+          go (no e) =
+              inr (λ w. e (alone p q hp hq (omega (arith, w .0, share-at b ids lens p hp))
+              (sym (number-at b ids lens p hp) ∙ w .1 .1 ∙ number-at b ids lens q hq)))
 
   -- each waiting block in an order or in the open slot
   stands : (p : ℕ) → p < 64 → standsByLane (placeOf b ids lens p) ≡ true
@@ -107,7 +119,8 @@ module _ (b : struct.Board) (ids lens : List ℕ) (z : Sized b) (r : Rules b len
       has-share : eqb (getD (b .counts) p 0) 0 ≡ false → isOpen (placeOf b ids lens p) ≡ true
       has-share e = ap isOpen (sym (inner b ids lens p h)) ∙ le-leb 1 (at v p .share) (omega (arith, share-at b ids lens p h, open-at b ids lens r p h e))
 
-      go : (c : Bool) → eqb (getD (b .counts) p 0) 0 ≡ c → (s : Bool) → alike (not c) ((not c && not s) || (not c && s)) && (not (not c) || isOpen (placeOf b ids lens p)) ≡ true
+      go : (c : Bool) → eqb (getD (b .counts) p 0) 0 ≡ c → (s : Bool)
+          → alike (not c) ((not c && not s) || (not c && s)) && (not (not c) || isOpen (placeOf b ids lens p)) ≡ true
       go true e s = refl
       go false e true = has-share e
       go false e false = has-share e
@@ -160,13 +173,17 @@ module _ (b : struct.Board) (ids lens : List ℕ) (z : Sized b) (r : Rules b len
 
   -- ready times of the blocks in an order
   readies : (p : ℕ) → p < 64 → Spoilt.readyInRange (b .clock) (at v p) ≡ true
-  readies p h = d-imp (isQueued (at v p .stand)) (d-and (d-eqb (readyNum (at v p .stand) % 2 ^ k) 0) (d-leb (readyNum (at v p .stand)) (nextStart k (b .clock)))) .no (λ e. (multiple e, soon e))
+  readies p h =
+      d-imp (isQueued (at v p .stand)) (d-and (d-eqb (readyNum (at v p .stand) % 2 ^ k) 0) (d-leb (readyNum (at v p .stand)) (nextStart k (b .clock)))) .no
+      (λ e. (multiple e, soon e))
     where
       k : ℕ
       k = blockClass (at v p)
 
       own : isQueued (at v p .stand) ≡ true → Belongs b k p
-      own e = member b ids lens r k (omega (arith, class-le (at v p .share))) p (omega (arith, lists-all b ids lens r k (omega (arith, class-le (at v p .share))) p h, ap oneIf (ap₂ (λ (s t : Bool). s && t) e (eqb-yes k k refl))))
+      own e =
+          member b ids lens r k (omega (arith, class-le (at v p .share))) p
+          (omega (arith, lists-all b ids lens r k (omega (arith, class-le (at v p .share))) p h, ap oneIf (ap₂ (λ (s t : Bool). s && t) e (eqb-yes k k refl))))
 
       same : isQueued (at v p .stand) ≡ true → readyNum (at v p .stand) ≡ getD (b .ready) p 0
       same e = ready-at b ids lens r p h (sym (queued-at b ids lens p h) ∙ e)
@@ -203,7 +220,9 @@ module _ (b : struct.Board) (ids lens : List ℕ) (z : Sized b) (r : Rules b len
 
   held-clause : Spoilt.heldWhileWaiting v ≡ true
   unfolding heldWhileWaiting noneHeld view
-  held-clause = ap (λ (t : Bool). not t || allBelow 17 (λ k. eqb (getD (b .held) k 0) 0)) (quiet-is b ids lens (ordered b ids lens r) ∙ ap (λ (n : ℕ). eqb n 0) (active-field b ids lens r z)) ∙ r .held
+  held-clause =
+      ap (λ (t : Bool). not t || allBelow 17 (λ k. eqb (getD (b .held) k 0) 0))
+      (quiet-is b ids lens (ordered b ids lens r) ∙ ap (λ (n : ℕ). eqb n 0) (active-field b ids lens r z)) ∙ r .held
 
   pub keeps-is : unspoilt v ≡ true
   unfolding unspoilt view

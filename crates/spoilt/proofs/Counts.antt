@@ -76,7 +76,8 @@ module _ (l : List Place) where
     pub all-listed : ((k : ℕ) → k < 17 → (q : ℕ) → count q (o k) ≤ 1) → ((k : ℕ) → k < 17 → (q : ℕ) → 1 ≤ count q (o k) → inClass k (pl l q) ≡ true)
         → below (λ k. length (o k)) 17 ≡ allBlocks → (k : ℕ) → k < 17 → (q : ℕ) → q < 64 → count q (o k) ≡ oneIf (inClass k (pl l q))
     all-listed once member total k h = below-equal (λ q. count q (o k)) (λ q. oneIf (inClass k (pl l q))) 64 (λ q g. at-most k h q)
-        (below-equal met blocks 17 (λ j g. below-le (λ q. count q (o j)) (λ q. oneIf (inClass j (pl l q))) 64 (λ q i. at-most j g q)) (sym lengths ∙ total ∙ sym by-class) k h)
+        (below-equal met blocks 17 (λ j g. below-le (λ q. count q (o j)) (λ q. oneIf (inClass j (pl l q))) 64 (λ q i. at-most j g q))
+        (sym lengths ∙ total ∙ sym by-class) k h)
       where
         at-most : (j : ℕ) → j < 17 → (q : ℕ) → count q (o j) ≤ oneIf (inClass j (pl l q))
         at-most j g q = go (split 1 (count q (o j)))

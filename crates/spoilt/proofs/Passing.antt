@@ -43,7 +43,8 @@ use Rattle.spoilt.specs.Test.{slotOpen}
 use Rattle.spoilt.proofs.Apart.{d-apart}
 use Rattle.spoilt.proofs.Counts.{all-met}
 use Rattle.spoilt.proofs.Walk.{orderOf, walked-from, lengthOf}
-use Rattle.spoilt.proofs.Places.{inner, share-at, number-at, waits-is, stand-is, serving-is, ready-is, number-is, share-is, ring-is, deficit-is, free-is, lengths-to, queued-at}
+use Rattle.spoilt.proofs.Places.{inner, share-at, number-at, waits-is, stand-is, serving-is, ready-is, number-is, share-is, ring-is, deficit-is, free-is}
+use Rattle.spoilt.proofs.Places.{lengths-to, queued-at}
 use Rattle.spoilt.proofs.Sets.{in-class, Ordered, active-is, pending-is, quiet-is}
 use Rattle.spoilt.proofs.Rules.{SlotRule, d-serves, Rules, placeRulesAt, belong-all, Belongs, d-belongs}
 use Rattle.spoilt.proofs.Spelling.{falls-as, last-is}
@@ -65,7 +66,8 @@ module _ (b : struct.Board) (ids lens : List ℕ) (z : Sized b) (s : Sound b ids
 
   ready-field : (p : ℕ) → p < 64 → getD (b .ready) p 0 ≡ readyNum (at v p .stand)
   unfolding encode
-  ready-field p h = sym (ap (λ (c : struct.Board). getD (c .ready) p 0) (s .spells)) ∙ List·getD-map (λ (x : Place). readyNum (x .stand)) (v .places) p freePlace
+  ready-field p h =
+      sym (ap (λ (c : struct.Board). getD (c .ready) p 0) (s .spells)) ∙ List·getD-map (λ (x : Place). readyNum (x .stand)) (v .places) p freePlace
 
   next-field : (p : ℕ) → p < 64 → getD (b .next) p 0 ≡ behind p (v .orders (blockClass (at v p)))
   unfolding encode
@@ -99,13 +101,20 @@ module _ (b : struct.Board) (ids lens : List ℕ) (z : Sized b) (s : Sound b ids
     where
       go : (t : Bool) → inOrder p (getD (b .counts) p 0) (b .slot) ≡ t → t || (eqb (getD (b .ready) p 0) 0 && eqb (getD (b .next) p 0) 0) ≡ true
       go true e = refl
-      go false e = and-both (eqb (getD (b .ready) p 0) 0) (eqb (getD (b .next) p 0) 0) (eqb-yes (getD (b .ready) p 0) 0 no-ready) (eqb-yes (getD (b .next) p 0) 0 no-next)
+      go false e =
+          and-both (eqb (getD (b .ready) p 0) 0) (eqb (getD (b .next) p 0) 0) (eqb-yes (getD (b .ready) p 0) 0 no-ready)
+          (eqb-yes (getD (b .next) p 0) 0 no-next)
         where
           no-ready : getD (b .ready) p 0 ≡ 0
-          no-ready = ready-field p h ∙ ap (λ (x : Place). readyNum (x .stand)) (inner b ids lens p h) ∙ ready-is b ids lens p ∙ ap (λ (t : Bool). cond t (getD (b .ready) p 0) 0) e
+          no-ready =
+              ready-field p h ∙ ap (λ (x : Place). readyNum (x .stand)) (inner b ids lens p h) ∙ ready-is b ids lens p
+              ∙ ap (λ (t : Bool). cond t (getD (b .ready) p 0) 0) e
 
           no-next : getD (b .next) p 0 ≡ 0
-          no-next = next-field p h ∙ behind-none p (v .orders (blockClass (at v p))) (tidy .shape .listed (blockClass (at v p)) p ∙ ap (λ (t : Bool). oneIf (t && eqb (blockClass (at v p)) (blockClass (at v p)))) (queued-at b ids lens p h ∙ e))
+          no-next =
+              next-field p h ∙ behind-none p (v .orders (blockClass (at v p)))
+              (tidy .shape .listed (blockClass (at v p)) p
+              ∙ ap (λ (t : Bool). oneIf (t && eqb (blockClass (at v p)) (blockClass (at v p)))) (queued-at b ids lens p h ∙ e))
 
   place-rules : (p : ℕ) → p < 64 → Each (placeRulesAt b p)
   unfolding view
@@ -133,10 +142,17 @@ module _ (b : struct.Board) (ids lens : List ℕ) (z : Sized b) (s : Sound b ids
 
   open-at : (p : ℕ) → p < 64 → eqb (getD (b .counts) p 0) 0 ≡ false → 1 ≤ getD (b .shares) p 0
   unfolding placeOf bareOf
-  open-at p h e = d-imp (waits (placeOf b ids lens p)) (d-leb 1 (getD (b .shares) p 0)) .yes (and-right (alike (waits (placeOf b ids lens p)) _) _ (passes p h .stands)) (waits-is b ids lens p ∙ ap not e)
+  open-at p h e =
+      d-imp (waits (placeOf b ids lens p)) (d-leb 1 (getD (b .shares) p 0)) .yes (and-right (alike (waits (placeOf b ids lens p)) _) _ (passes p h .stands))
+      (waits-is b ids lens p ∙ ap not e)
 
   slot-at : (p : ℕ) → b .slot ≡ suc p → (p < 64) × (eqb (getD (b .counts) p 0) 0 ≡ false)
-  slot-at p e = (inside, not-true (eqb (getD (b .counts) p 0) 0) (and-left (not (eqb (getD (b .counts) p 0) 0)) _ (sym (serving-is b ids lens p) ∙ ap (λ (x : Place). isServing (x .stand)) (sym (inner b ids lens p inside)) ∙ serves)))
+  slot-at p e = (
+    inside,
+    not-true (eqb (getD (b .counts) p 0) 0)
+        (and-left (not (eqb (getD (b .counts) p 0) 0)) _
+        (sym (serving-is b ids lens p) ∙ ap (λ (x : Place). isServing (x .stand)) (sym (inner b ids lens p inside)) ∙ serves)),
+  )
     where
       serves : isServing (at v p .stand) ≡ true
       serves = tidy .one p ∙ ap (isAt p) (slot-as p e) ∙ eqb-yes p p refl
@@ -159,7 +175,10 @@ module _ (b : struct.Board) (ids lens : List ℕ) (z : Sized b) (s : Sound b ids
 
   ready-at : (k q : ℕ) → 1 ≤ count q (v .orders k) → (readyNum (at v q .stand) % 2 ^ k ≡ 0) × (readyNum (at v q .stand) ≤ nextStart k (b .clock))
   unfolding view
-  ready-at k q c = rw (← same) at (d-imp (isQueued (at v q .stand)) (d-and (d-eqb (readyNum (at v q .stand) % 2 ^ blockClass (at v q)) 0) (d-leb (readyNum (at v q .stand)) (nextStart (blockClass (at v q)) (b .clock)))) .yes
+  ready-at k q c =
+      rw (← same) at (d-imp (isQueued (at v q .stand))
+      (d-and (d-eqb (readyNum (at v q .stand) % 2 ^ blockClass (at v q)) 0)
+      (d-leb (readyNum (at v q .stand)) (nextStart (blockClass (at v q)) (b .clock)))) .yes
       (d-ready (b .clock) (at v q) .no (tidy .shape .seat q)) (listed-at k q c .0))
     where
       same : k ≡ blockClass (at v q)
@@ -170,7 +189,9 @@ module _ (b : struct.Board) (ids lens : List ℕ) (z : Sized b) (s : Sound b ids
   belong k q c = record {
     inside = inside;
     listed = listed;
-    class = in-class (getD (b .shares) q 0) k (open-at q inside waiting) (omega (arith, tidy .shape .placeOk q .most, share-at b ids lens q inside)) ∙ eqb-yes k (classOf (getD (b .shares) q 0)) (listed-at k q c .1 ∙ ap classOf (share-at b ids lens q inside));
+    class =
+        in-class (getD (b .shares) q 0) k (open-at q inside waiting) (omega (arith, tidy .shape .placeOk q .most, share-at b ids lens q inside))
+        ∙ eqb-yes k (classOf (getD (b .shares) q 0)) (listed-at k q c .1 ∙ ap classOf (share-at b ids lens q inside));
     times = omega (arith, times, div-add-mod' (getD (b .ready) q 0) (2 ^ k));
     soon = omega (arith, ready-at k q c .1, ready-field q inside);
   }
@@ -190,31 +211,41 @@ module _ (b : struct.Board) (ids lens : List ℕ) (z : Sized b) (s : Sound b ids
   walks : (k : ℕ) → k < 17 → lengthOf b k ≡ length (orderOf b k)
   unfolding view
   walks k h = walked-from b k ends! (belong-all b k (orderOf b k) (λ q c. d-belongs b k q .no (belong k q c)))
-      (sym (falls-as (v .places) (b .ready) (orderOf b k) (λ q c. sym (ready-field q (small v tidy k q c)))) ∙ d-rising (v .places) (v .orders k) .no (tidy .shape .rising k))
+      (sym (falls-as (v .places) (b .ready) (orderOf b k) (λ q c. sym (ready-field q (small v tidy k q c))))
+      ∙ d-rising (v .places) (v .orders k) .no (tidy .shape .rising k))
       (last-is (orderOf b k) ∙ sym (tail-field k h))
     where
       ends! : ends (b .next) 64 (getD (b .heads) k 0) ≡ true
-      ends! = sym (ap (ends (b .next) 64) (first-follow (b .next) (getD (b .heads) k 0))) ∙ linked-ends (b .next) 64 (orderOf b k) (follow-length (b .next) 64 (getD (b .heads) k 0))
-          (linked-behind (b .next) (orderOf b k) (once v tidy k) (λ q c. next-field q (small v tidy k q c) ∙ ap (λ (j : ℕ). behind q (v .orders j)) (class v tidy k q c)))
+      ends! =
+          sym (ap (ends (b .next) 64) (first-follow (b .next) (getD (b .heads) k 0)))
+          ∙ linked-ends (b .next) 64 (orderOf b k) (follow-length (b .next) 64 (getD (b .heads) k 0))
+          (linked-behind (b .next) (orderOf b k) (once v tidy k)
+          (λ q c. next-field q (small v tidy k q c) ∙ ap (λ (j : ℕ). behind q (v .orders j)) (class v tidy k q c)))
 
   all-listed : below (lengthOf b) 17 ≡ blocksInOrder (b .slot) (b .counts)
   unfolding view blocksInOrder
   all-listed =
       below-ext (lengthOf b) (λ k. length (orderOf b k)) 17 walks
       ∙ all-met (v .places) (orderOf b) (λ k h q l. few v tidy k q l) (λ k h q l. tidy .shape .listed k q)
-      ∙ below-ext (λ p. oneIf (isQueued (at v p .stand))) (λ p. oneIf (inOrder p (getD (b .counts) p 0) (b .slot))) 64 (λ p h. ap oneIf (queued-at b ids lens p h))
+      ∙ below-ext (λ p. oneIf (isQueued (at v p .stand))) (λ p. oneIf (inOrder p (getD (b .counts) p 0) (b .slot))) 64
+      (λ p h. ap oneIf (queued-at b ids lens p h))
 
   slot-none : b .slot ≡ 0 → v .slot ≡ none
   unfolding view
   slot-none e = ap slotBy e
 
-  front-rule : (p : ℕ) → b .slot ≡ suc p → p < 64 → eqb (getD (b .counts) p 0) 0 ≡ false → (charge (front (placeOf b ids lens p)) * 65536 ≤ b .left .0) × (b .left .0 < 3 * largestCharge (b .largest) * 65536)
+  front-rule : (p : ℕ) → b .slot ≡ suc p → p < 64 → eqb (getD (b .counts) p 0) 0 ≡ false
+      → (charge (front (placeOf b ids lens p)) * 65536 ≤ b .left .0) × (b .left .0 < 3 * largestCharge (b .largest) * 65536)
   unfolding view
-  front-rule p e h c = d-and (d-true (waits (placeOf b ids lens p))) (d-and (d-leb (charge (front (placeOf b ids lens p)) * 65536) (b .left .0)) (d-leb (suc (b .left .0)) (3 * largestCharge (b .largest) * 65536))) .yes
+  front-rule p e h c =
+      d-and (d-true (waits (placeOf b ids lens p)))
+      (d-and (d-leb (charge (front (placeOf b ids lens p)) * 65536) (b .left .0)) (d-leb (suc (b .left .0)) (3 * largestCharge (b .largest) * 65536))) .yes
       (ap (slotOf (b .largest) (placeOf b ids lens p)) (sym stands) ∙ passes p h .slot) .1
     where
       stands : placeOf b ids lens p .stand ≡ serving (b .left .0)
-      stands = stand-is b ids lens p ∙ ap₂ (λ (c s : Bool). cond c out (cond s (serving (b .left .0)) (queued (getD (b .ready) p 0)))) c (eqb-yes (b .slot) (p + 1) (e ∙ sym (add-one p)))
+      stands =
+          stand-is b ids lens p
+          ∙ ap₂ (λ (c s : Bool). cond c out (cond s (serving (b .left .0)) (queued (getD (b .ready) p 0)))) c (eqb-yes (b .slot) (p + 1) (e ∙ sym (add-one p)))
 
   early : (p : ℕ) → b .slot ≡ suc p → b .clock < 2 ^ 62
   unfolding view
@@ -222,9 +253,11 @@ module _ (b : struct.Board) (ids lens : List ℕ) (z : Sized b) (s : Sound b ids
 
   slot-rule : SlotRule b lens
   unfolding chargeOf largestCharge
-  slot-rule = record { closed = λ e. left-field ∙ ap (slotLeft (v .places)) (slot-none e); place = λ p e. slot-at p e .0; serves = λ p e. serves p e (slot-at p e) }
+  slot-rule =
+      record { closed = λ e. left-field ∙ ap (slotLeft (v .places)) (slot-none e); place = λ p e. slot-at p e .0; serves = λ p e. serves p e (slot-at p e) }
     where
-      serves : (p : ℕ) → b .slot ≡ suc p → (p < 64) × (eqb (getD (b .counts) p 0) 0 ≡ false) → slotOpen (b .largest) (b .clock) (b .left .0) (getD (b .counts) p 0) (getD lens (laneEntry p (getD (b .starts) p 0) 0) 0) ≡ true
+      serves : (p : ℕ) → b .slot ≡ suc p → (p < 64) × (eqb (getD (b .counts) p 0) 0 ≡ false)
+          → slotOpen (b .largest) (b .clock) (b .left .0) (getD (b .counts) p 0) (getD lens (laneEntry p (getD (b .starts) p 0) 0) 0) ≡ true
       serves p e w = d-serves (b .largest) (b .clock) (b .left .0) (getD (b .counts) p 0) (getD lens (laneEntry p (getD (b .starts) p 0) 0) 0) .no (record {
         waits = w .1;
         fits = omega (arith, front-rule p e (w .0) (w .1) .0, front-charge b ids lens p (w .1));
@@ -235,24 +268,31 @@ module _ (b : struct.Board) (ids lens : List ℕ) (z : Sized b) (s : Sound b ids
   apart : numbersApart (b .numbers) ≡ true
   apart = d-apart (b .numbers) (z .numbers) .no (λ p h. go p h (tidy .shape .placeOk p .named))
     where
-      named : (p q : ℕ) → p < 64 → q < 64 → 1 ≤ at v p .number → getD (b .numbers) p 0 ≡ getD (b .numbers) q 0 → (at v q ≡ freePlace) ⊎ ((1 ≤ at v q .number) × (1 ≤ at v q .share)) → 1 ≤ at v q .share
+      named : (p q : ℕ) → p < 64 → q < 64 → 1 ≤ at v p .number → getD (b .numbers) p 0 ≡ getD (b .numbers) q 0
+          → (at v q ≡ freePlace) ⊎ ((1 ≤ at v q .number) × (1 ≤ at v q .share)) → 1 ≤ at v q .share
       named p q h l n e (inl f) = absurd (omega (arith, n, number-at b ids lens p h, number-at b ids lens q l, ap (λ (x : Place). x .number) f))
       named p q h l n e (inr f) = f .1
 
-      go : (p : ℕ) → p < 64 → (at v p ≡ freePlace) ⊎ ((1 ≤ at v p .number) × (1 ≤ at v p .share)) → (getD (b .numbers) p 0 ≡ 0) ⊎ ((q : ℕ) → q < 64 → getD (b .numbers) p 0 ≡ getD (b .numbers) q 0 → p ≡ q)
+      go : (p : ℕ) → p < 64 → (at v p ≡ freePlace) ⊎ ((1 ≤ at v p .number) × (1 ≤ at v p .share))
+          → (getD (b .numbers) p 0 ≡ 0) ⊎ ((q : ℕ) → q < 64 → getD (b .numbers) p 0 ≡ getD (b .numbers) q 0 → p ≡ q)
       go p h (inl f) = inl (sym (number-at b ids lens p h) ∙ ap (λ (x : Place). x .number) f)
-      go p h (inr f) = inr (λ q l e. tidy .shape .names p q (f .1) (named p q h l (f .0) e (tidy .shape .placeOk q .named)) (number-at b ids lens p h ∙ e ∙ sym (number-at b ids lens q l)))
+      go p h (inr f) =
+          inr (λ q l e. tidy .shape .names p q (f .1) (named p q h l (f .0) e (tidy .shape .placeOk q .named))
+          (number-at b ids lens p h ∙ e ∙ sym (number-at b ids lens q l)))
 
   pub rules-of : Rules b lens
   unfolding view spent sizeInRange clockInRange sharesFit heldWhileWaiting noneHeld
   rules-of = record {
-    size = and-both (leb 64 (b .largest)) (leb (b .largest) 2048) (leb-yes 64 (b .largest) (tidy .shape .least)) (leb-yes (b .largest) 2048 (tidy .shape .most));
+    size =
+        and-both (leb 64 (b .largest)) (leb (b .largest) 2048) (leb-yes 64 (b .largest) (tidy .shape .least)) (leb-yes (b .largest) 2048 (tidy .shape .most));
     clock = leb-yes (b .clock) (2 ^ 62) (omega (arith, tidy .time));
     apart = apart;
     places = place-rules;
     lanes = λ p h. lengths-to b ids lens p (passes p h .lengths);
     shares = ap (λ (n : ℕ). leb n 65536) (sym (spent-is b ids lens z)) ∙ leb-yes (spent v) 65536 (tidy .shape .spent);
-    held = ap (λ (t : Bool). not t || allBelow 17 (λ k. eqb (getD (b .held) k 0) 0)) (ap (λ (n : ℕ). eqb n 0) active-field ∙ sym (quiet-is b ids lens ordered)) ∙ d-held v .no (λ q k _. tidy .calm q k);
+    held =
+        ap (λ (t : Bool). not t || allBelow 17 (λ k. eqb (getD (b .held) k 0) 0)) (ap (λ (n : ℕ). eqb n 0) active-field ∙ sym (quiet-is b ids lens ordered))
+        ∙ d-held v .no (λ q k _. tidy .calm q k);
     slot = slot-rule;
     orders = λ k h. omega (arith, walks k h, follow-length (b .next) 64 (getD (b .heads) k 0));
     listed = all-listed;

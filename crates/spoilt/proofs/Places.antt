@@ -71,13 +71,16 @@ module _ (L : ℕ) (ids lens : List ℕ) where
   all-lengths : (c : ℕ) (e : ℕ → ℕ) → ((j : ℕ) → j < c → good (e j) ≡ true) → lengthsIn L (tab c (λ j. recordAt ids lens (e j))) ≡ true
   unfolding tab lengthsIn
   all-lengths zero e h = refl
-  all-lengths (suc c) e h = and-both (good (e 0)) (lengthsIn L (tab c (λ j. recordAt ids lens (e (suc j))))) (h 0 (omega arith)) (all-lengths c (λ j. e (suc j)) (λ j l. h (suc j) (omega arith)))
+  all-lengths (suc c) e h =
+      and-both (good (e 0)) (lengthsIn L (tab c (λ j. recordAt ids lens (e (suc j))))) (h 0 (omega arith))
+      (all-lengths c (λ j. e (suc j)) (λ j l. h (suc j) (omega arith)))
 
   each-length : (c : ℕ) (e : ℕ → ℕ) → lengthsIn L (tab c (λ j. recordAt ids lens (e j))) ≡ true → (j : ℕ) → j < c → good (e j) ≡ true
   unfolding tab lengthsIn
   each-length zero e h j l = absurd (omega arith)
   each-length (suc c) e h zero l = and-left (good (e 0)) (lengthsIn L (tab c (λ j. recordAt ids lens (e (suc j))))) h
-  each-length (suc c) e h (suc j) l = each-length c (λ i. e (suc i)) (and-right (good (e 0)) (lengthsIn L (tab c (λ j. recordAt ids lens (e (suc j))))) h) j (omega arith)
+  each-length (suc c) e h (suc j) l =
+      each-length c (λ i. e (suc i)) (and-right (good (e 0)) (lengthsIn L (tab c (λ j. recordAt ids lens (e (suc j))))) h) j (omega arith)
 
 -- ---- a place
 
@@ -123,7 +126,8 @@ module _ (b : Board) (ids lens : List ℕ) where
     pub queued-at : p < 64 → isQueued (at (view b ids lens) p .stand) ≡ inOrder p (getD (b .counts) p 0) (b .slot)
     queued-at h = ap (λ (y : Place). isQueued (y .stand)) (inner p h) ∙ queued-is
 
-    pub stand-is : placeOf b ids lens p .stand ≡ cond (eqb (getD (b .counts) p 0) 0) out (cond (eqb (b .slot) (p + 1)) (serving (b .left .0)) (queued (getD (b .ready) p 0)))
+    pub stand-is : placeOf b ids lens p .stand
+        ≡ cond (eqb (getD (b .counts) p 0) 0) out (cond (eqb (b .slot) (p + 1)) (serving (b .left .0)) (queued (getD (b .ready) p 0)))
     unfolding placeOf bareOf
     stand-is = stand-by p n (b .slot) (b .left .0) (getD (b .ready) p 0)
 
@@ -149,7 +153,8 @@ module _ (b : Board) (ids lens : List ℕ) where
     unfolding placeOf bareOf ringInRange
     ring-is = rw lane-long
 
-    pub deficit-is : Spoilt.deficitInRange (b .largest) (placeOf b ids lens p) ≡ deficitInRange (b .largest) (inOrder p (getD (b .counts) p 0) (b .slot)) (placeNow b p)
+    pub deficit-is : Spoilt.deficitInRange (b .largest) (placeOf b ids lens p)
+        ≡ deficitInRange (b .largest) (inOrder p (getD (b .counts) p 0) (b .slot)) (placeNow b p)
     unfolding placeOf bareOf deficitInRange chargeOf largestCharge
     deficit-is = rw queued-is
 
@@ -163,10 +168,16 @@ module _ (b : Board) (ids lens : List ℕ) where
     unfolding entry bareOf
     record-is j = refl
 
-    pub lengths-from : laneInRange lens (b .largest) p (getD (b .starts) p 0) (getD (b .counts) p 0) ≡ true → lengthsIn (b .largest) (placeOf b ids lens p .lane) ≡ true
+    pub lengths-from : laneInRange lens (b .largest) p (getD (b .starts) p 0) (getD (b .counts) p 0) ≡ true
+        → lengthsIn (b .largest) (placeOf b ids lens p .lane) ≡ true
     unfolding placeOf laneOf laneInRange lengthInRange
-    lengths-from h = all-lengths (b .largest) ids lens n (λ j. entry p (bareOf b p) j) (λ j l. rw (record-is j) (all-at (λ i. lengthInRange (b .largest) (getD lens (laneEntry p (getD (b .starts) p 0) i) 0)) n j h l))
+    lengths-from h =
+        all-lengths (b .largest) ids lens n (λ j. entry p (bareOf b p) j)
+        (λ j l. rw (record-is j) (all-at (λ i. lengthInRange (b .largest) (getD lens (laneEntry p (getD (b .starts) p 0) i) 0)) n j h l))
 
-    pub lengths-to : lengthsIn (b .largest) (placeOf b ids lens p .lane) ≡ true → laneInRange lens (b .largest) p (getD (b .starts) p 0) (getD (b .counts) p 0) ≡ true
+    pub lengths-to : lengthsIn (b .largest) (placeOf b ids lens p .lane) ≡ true
+        → laneInRange lens (b .largest) p (getD (b .starts) p 0) (getD (b .counts) p 0) ≡ true
     unfolding placeOf laneOf laneInRange lengthInRange
-    lengths-to h = all-intro (λ j. lengthInRange (b .largest) (getD lens (laneEntry p (getD (b .starts) p 0) j) 0)) n (λ j l. rw (← record-is j) (each-length (b .largest) ids lens n (λ i. entry p (bareOf b p) i) h j l))
+    lengths-to h =
+        all-intro (λ j. lengthInRange (b .largest) (getD lens (laneEntry p (getD (b .starts) p 0) j) 0)) n
+        (λ j l. rw (← record-is j) (each-length (b .largest) ids lens n (λ i. entry p (bareOf b p) i) h j l))

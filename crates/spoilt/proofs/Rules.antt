@@ -37,7 +37,8 @@ placeRulesAt b p = placeRules (b .largest) (b .slot) p (placeNow b p)
 pub record SlotRule (b : Board) (lens : List ℕ) : Type 0 where
   pub closed : b .slot ≡ 0 → b .left .0 ≡ 0
   pub place : (p : ℕ) → b .slot ≡ suc p → p < 64
-  pub serves : (p : ℕ) → b .slot ≡ suc p → slotOpen (b .largest) (b .clock) (b .left .0) (getD (b .counts) p 0) (getD lens (laneEntry p (getD (b .starts) p 0) 0) 0) ≡ true
+  pub serves : (p : ℕ) → b .slot ≡ suc p
+      → slotOpen (b .largest) (b .clock) (b .left .0) (getD (b .counts) p 0) (getD lens (laneEntry p (getD (b .starts) p 0) 0) 0) ≡ true
 
 pub d-slot : (b : Board) (lens : List ℕ) → Decides (slotInRange lens (b .largest) (b .clock) (b .slot) (b .left .0) (b .starts) (b .counts)) (SlotRule b lens)
 unfolding slotInRange
@@ -47,7 +48,9 @@ d-slot b lens = go (b .slot) refl
     rest p = slotOpen (b .largest) (b .clock) (b .left .0) (getD (b .counts) p 0) (getD lens (laneEntry p (getD (b .starts) p 0) 0) 0)
 
     go : (s : ℕ) → b .slot ≡ s → Decides (cond (eqb s 0) (eqb (b .left .0) 0) (leb s 64 && rest (s - 1))) (SlotRule b lens)
-    go zero e = d-iff (d-eqb (b .left .0) 0) (λ w. record { closed = λ z. w; place = λ p f. absurd (omega (arith, e)); serves = λ p f. absurd (omega (arith, e)) }) (λ w. w .closed e)
+    go zero e =
+        d-iff (d-eqb (b .left .0) 0) (λ w. record { closed = λ z. w; place = λ p f. absurd (omega (arith, e)); serves = λ p f. absurd (omega (arith, e)) })
+        (λ w. w .closed e)
     go (suc q) e = rw (ne-eqb (suc q) 0 (λ z. omega arith), less q)
         (d-iff (d-and (d-leb (suc q) 64) (d-true (rest q)))
         (λ w. record { closed = λ z. absurd (omega (arith, e)); place = λ p f. omega (arith, e, w .0); serves = λ p f. rw (← same p f) (w .1) })
@@ -65,7 +68,9 @@ pub record Serves (largest clock left count len : ℕ) : Type 0 where
 
 pub d-serves : (largest clock left count len : ℕ) → Decides (slotOpen largest clock left count len) (Serves largest clock left count len)
 unfolding slotOpen
-d-serves largest clock left count len = d-iff (d-and (d-true (not (eqb count 0))) (d-and (d-leb (chargeOf len) left) (d-and (d-leb (suc left) (3 * chargeOf largest)) (d-leb (suc clock) (2 ^ 62)))))
+d-serves largest clock left count len =
+    d-iff (d-and (d-true (not (eqb count 0)))
+    (d-and (d-leb (chargeOf len) left) (d-and (d-leb (suc left) (3 * chargeOf largest)) (d-leb (suc clock) (2 ^ 62)))))
     (λ w. record { waits = not-true (eqb count 0) (w .0); fits = w .1 .0; under = w .1 .1 .0; early = w .1 .1 .1 })
     (λ w. (ap not (w .waits), (w .fits, (w .under, w .early))))
 
@@ -96,7 +101,8 @@ d-rules b ids lens = d-iff
     (d-and (d-true (sharesFit (b .shares) (b .held)))
     (d-and (d-true (heldWhileWaiting (b .active) (b .held)))
     (d-and (d-slot b lens)
-    (d-and (d-and (d-true (clockInRange (b .clock))) (d-and (d-all 17 _ (λ k. lengthOf b k ≤ 64) (λ k. d-leb (lengthOf b k) 64)) (d-eqb (below (lengthOf b) 17) (blocksInOrder (b .slot) (b .counts)))))
+    (d-and (d-and (d-true (clockInRange (b .clock)))
+    (d-and (d-all 17 _ (λ k. lengthOf b k ≤ 64) (λ k. d-leb (lengthOf b k) 64)) (d-eqb (below (lengthOf b) 17) (blocksInOrder (b .slot) (b .counts)))))
     (d-and (d-eqb (b .active) (setBelow 17 (classActive (b .slot) (b .shares) (b .heads))))
     (d-and (d-eqb (b .pending) (setBelow 17 (classPending (b .clock) (b .ready) (b .heads))))
     (d-true true))))))))))))
@@ -117,7 +123,16 @@ d-rules b ids lens = d-iff
         pending = w .1 .1 .1 .1 .1 .1 .1 .1 .1 .1 .0;
       },
     ))
-    (λ w. let r = w .1 in (w .0, (r .size, (r .apart, (r .places, (r .lanes, (r .shares, (r .held, (r .slot, ((r .clock, (r .orders, r .listed)), (r .active, (r .pending, refl))))))))))))
+    (λ w. let r = w .1 in (
+      w .0,
+      (
+        r .size,
+        (
+          r .apart,
+          (r .places, (r .lanes, (r .shares, (r .held, (r .slot, ((r .clock, (r .orders, r .listed)), (r .active, (r .pending, refl)))))))),
+        ),
+      ),
+    ))
 
 -- ---- what the rules say of a place that an order lists
 
@@ -134,7 +149,8 @@ belong-at b k (p ∷ ps) q h c = go (ℕ-discrete q p) (belong-at b k ps q (and-
 pub belong-all : (b : Board) (k : ℕ) (qs : List ℕ) → ((q : ℕ) → 1 ≤ count q qs → belongs b k q ≡ true) → allBelong b k qs ≡ true
 unfolding allBelong count
 belong-all b k [] h = refl
-belong-all b k (p ∷ ps) h = and-both (belongs b k p) (allBelong b k ps) (h p (omega (arith, ap oneIf (eqb-yes p p refl)))) (belong-all b k ps (λ q c. h q (omega arith)))
+belong-all b k (p ∷ ps) h =
+    and-both (belongs b k p) (allBelong b k ps) (h p (omega (arith, ap oneIf (eqb-yes p p refl)))) (belong-all b k ps (λ q c. h q (omega arith)))
 
 pub record Belongs (b : Board) (k p : ℕ) : Type 0 where
   pub inside : p < 64
@@ -145,7 +161,8 @@ pub record Belongs (b : Board) (k p : ℕ) : Type 0 where
 
 pub d-belongs : (b : Board) (k p : ℕ) → Decides (belongs b k p) (Belongs b k p)
 unfolding belongs
-d-belongs b k p = d-iff (d-and (d-leb (suc p) 64) (d-and (d-true (inOrder p (getD (b .counts) p 0) (b .slot))) (d-and (d-true (ofClass k (getD (b .shares) p 0)))
+d-belongs b k p =
+    d-iff (d-and (d-leb (suc p) 64) (d-and (d-true (inOrder p (getD (b .counts) p 0) (b .slot))) (d-and (d-true (ofClass k (getD (b .shares) p 0)))
     (d-and (d-eqb (getD (b .ready) p 0 / 2 ^ k * 2 ^ k) (getD (b .ready) p 0)) (d-leb (getD (b .ready) p 0) (nextStart k (b .clock)))))))
     (λ w. record { inside = w .0; listed = w .1 .0; class = w .1 .1 .0; times = w .1 .1 .1 .0; soon = w .1 .1 .1 .1 })
     (λ w. (w .inside, (w .listed, (w .class, (w .times, w .soon)))))

@@ -49,10 +49,18 @@ in-class s k low high = go (ℕ-discrete k (classOf s))
 
     apart : (k ≤ classOf s) ⊎ (classOf s < k) → k ≢ classOf s → leb 65536 (s * 2 ^ k) && ltb (s * 2 ^ k) 131072 ≡ false
     apart (inl l) ne = rw (lt-leb 65536 (s * 2 ^ k) (omega (arith, up k (classOf s) (omega arith), class-hi s high)))
-    apart (inr l) ne = let no : leb (suc (s * 2 ^ k)) 131072 ≡ false = lt-leb (suc (s * 2 ^ k)) 131072 (omega (arith, up (classOf s) k l, class-lo s low)) in rw no (and-never (leb 65536 (s * 2 ^ k)))
+    apart (inr l) ne =
+        let no : leb (suc (s * 2 ^ k)) 131072 ≡ false = lt-leb (suc (s * 2 ^ k)) 131072 (omega (arith, up (classOf s) k l, class-lo s low)) in
+        rw no (and-never (leb 65536 (s * 2 ^ k)))
 
     go : Dec (k ≡ classOf s) → leb 65536 (s * 2 ^ k) && ltb (s * 2 ^ k) 131072 ≡ eqb k (classOf s)
-    go (yes e) = rw (e, eqb-yes (classOf s) (classOf s) refl, le-leb 65536 (s * 2 ^ classOf s) (class-lo s low), le-leb (suc (s * 2 ^ classOf s)) 131072 (class-hi s high))
+    go (yes e) =
+        rw (
+          e,
+          eqb-yes (classOf s) (classOf s) refl,
+          le-leb 65536 (s * 2 ^ classOf s) (class-lo s low),
+          le-leb (suc (s * 2 ^ classOf s)) 131072 (class-hi s high),
+        )
     go (no e) = apart (split k (classOf s)) e ∙ sym (eqb-no k (classOf s) e)
 
 -- ---- what holds of the orders and the slot, from the test's rules and from the rules' clauses alike
@@ -70,7 +78,8 @@ unfolding anyWaits
 any-active k [] e = absurd (false≢true e)
 any-active k (x ∷ xs) e = go (isActive k x) refl e (any-active k xs)
   where
-    go : (t : Bool) → isActive k x ≡ t → t || anyWaits k xs ≡ true → (anyWaits k xs ≡ true → (p : ℕ) × (p < length xs) × (isActive k (pl xs p) ≡ true)) → (p : ℕ) × (p < suc (length xs)) × (isActive k (pl (x ∷ xs) p) ≡ true)
+    go : (t : Bool) → isActive k x ≡ t → t || anyWaits k xs ≡ true → (anyWaits k xs ≡ true → (p : ℕ) × (p < length xs) × (isActive k (pl xs p) ≡ true))
+        → (p : ℕ) × (p < suc (length xs)) × (isActive k (pl (x ∷ xs) p) ≡ true)
     go true f h r = (0, omega arith, f)
     go false f h r = let w = r h in (suc (w .0), omega (arith, w .1), w .2)
 
@@ -98,7 +107,8 @@ module _ (b : struct.Board) (ids lens : List ℕ) (w : Ordered b ids lens) where
   -- a block that is in an order waits
   queued-waits : (p : ℕ) → p < 64 → isQueued (at v p .stand) ≡ true → waits (at v p) ≡ true
   unfolding inOrder
-  queued-waits p h e = ap waits (inner b ids lens p h) ∙ waits-is b ids lens p ∙ and-left (not (eqb (getD (b .counts) p 0) 0)) _ (sym (queued-at b ids lens p h) ∙ e)
+  queued-waits p h e =
+      ap waits (inner b ids lens p h) ∙ waits-is b ids lens p ∙ and-left (not (eqb (getD (b .counts) p 0) 0)) _ (sym (queued-at b ids lens p h) ∙ e)
 
   waits-count : (p : ℕ) → p < 64 → waits (at v p) ≡ true → eqb (getD (b .counts) p 0) 0 ≡ false
   waits-count p h e = not-true _ (sym (ap waits (inner b ids lens p h) ∙ waits-is b ids lens p) ∙ e)
@@ -134,27 +144,41 @@ module _ (b : struct.Board) (ids lens : List ℕ) (w : Ordered b ids lens) where
       listed-head p c = rw (ne-eqb h 0 (λ z. some-first p (v .orders k) c (head-is k ∙ z)))
 
       place : (p : ℕ) → p < 64 → isActive k (at v p) ≡ true → (isQueued (at v p .stand) ≡ true) ⊎ (b .slot ≡ p + 1) → not (eqb h 0) || slotIn ≡ true
-      place p l e (inl q) = listed-head p (omega (arith, w .listed k hk p l, ap oneIf (ap₂ (λ (s t : Bool). s && t) q (and-right (waits (at v p)) (eqb k (blockClass (at v p))) e))))
-      place p l e (inr s) = by-slot (not (eqb h 0)) (rw (s, ne-eqb (p + 1) 0 (λ z. omega arith), le-leb (p + 1) 64 (omega arith), back p) (class-at k p l (waits-count p l (and-left (waits (at v p)) _ e)) ∙ and-right (waits (at v p)) (eqb k (blockClass (at v p))) e))
+      place p l e (inl q) =
+          listed-head p (omega (
+            arith,
+            w .listed k hk p l,
+            ap oneIf (ap₂ (λ (s t : Bool). s && t) q (and-right (waits (at v p)) (eqb k (blockClass (at v p))) e)),
+          ))
+      place p l e (inr s) =
+          by-slot (not (eqb h 0))
+          (rw (s, ne-eqb (p + 1) 0 (λ z. omega arith), le-leb (p + 1) 64 (omega arith), back p)
+          (class-at k p l (waits-count p l (and-left (waits (at v p)) _ e)) ∙ and-right (waits (at v p)) (eqb k (blockClass (at v p))) e))
         where
           back : (q : ℕ) → q + 1 - 1 ≡ q
           back q = omega arith
 
       to : active v k ≡ true → not (eqb h 0) || slotIn ≡ true
-      to e = let f = any-active k (v .places) e in let l : f .0 < 64 = omega (arith, f .1, all-64 b ids lens) in place (f .0) l (f .2) (waits-where (f .0) l (and-left (waits (at v (f .0))) _ (f .2)))
+      to e =
+          let f = any-active k (v .places) e in let l : f .0 < 64 = omega (arith, f .1, all-64 b ids lens) in
+          place (f .0) l (f .2) (waits-where (f .0) l (and-left (waits (at v (f .0))) _ (f .2)))
 
       first : (q : ℕ) → 1 ≤ count q (v .orders k) → active v k ≡ true
       first q c =
           let l : q < 64 = w .inside k hk q c in
           let e : inClass k (at v q) ≡ true = oneIf-true (inClass k (at v q)) (omega (arith, w .listed k hk q l)) in
-          active-here k q (v .places) (omega (arith, all-64 b ids lens)) (and-both (waits (at v q)) (eqb k (blockClass (at v q))) (queued-waits q l (and-left (isQueued (at v q .stand)) _ e)) (and-right (isQueued (at v q .stand)) (eqb k (blockClass (at v q))) e))
+          active-here k q (v .places) (omega (arith, all-64 b ids lens))
+          (and-both (waits (at v q)) (eqb k (blockClass (at v q))) (queued-waits q l (and-left (isQueued (at v q .stand)) _ e))
+          (and-right (isQueued (at v q .stand)) (eqb k (blockClass (at v q))) e))
 
       by-mark : (s : ℕ) → b .slot ≡ s → not (eqb s 0) && (leb s 64 && ofClass k (getD (b .shares) (s - 1) 0)) ≡ true → active v k ≡ true
       by-mark zero e f = absurd (false≢true f)
       by-mark (suc p) e f =
           let l = w .slot p e in
-          let c : ofClass k (getD (b .shares) p 0) ≡ true = rw (less p) at (and-right (leb (suc p) 64) (ofClass k (getD (b .shares) (suc p - 1) 0)) (and-right (not (eqb (suc p) 0)) _ f)) in
-          active-here k p (v .places) (omega (arith, l .0, all-64 b ids lens)) (and-both (waits (at v p)) (eqb k (blockClass (at v p))) (count-waits p (l .0) (l .1)) (sym (class-at k p (l .0) (l .1)) ∙ c))
+          let c : ofClass k (getD (b .shares) p 0) ≡ true =
+          rw (less p) at (and-right (leb (suc p) 64) (ofClass k (getD (b .shares) (suc p - 1) 0)) (and-right (not (eqb (suc p) 0)) _ f)) in
+          active-here k p (v .places) (omega (arith, l .0, all-64 b ids lens))
+          (and-both (waits (at v p)) (eqb k (blockClass (at v p))) (count-waits p (l .0) (l .1)) (sym (class-at k p (l .0) (l .1)) ∙ c))
 
       from : (t : Bool) → eqb h 0 ≡ t → not t || slotIn ≡ true → active v k ≡ true
       from true f e = by-mark (b .slot) refl e
@@ -198,7 +222,9 @@ module _ (b : struct.Board) (ids lens : List ℕ) (w : Ordered b ids lens) where
 
   -- NONE WAITS
   waiting-active : (p : ℕ) → p < 64 → waits (at v p) ≡ true → active v (blockClass (at v p)) ≡ true
-  waiting-active p h e = active-here (blockClass (at v p)) p (v .places) (omega (arith, all-64 b ids lens)) (and-both (waits (at v p)) _ e (eqb-yes (blockClass (at v p)) (blockClass (at v p)) refl))
+  waiting-active p h e =
+      active-here (blockClass (at v p)) p (v .places) (omega (arith, all-64 b ids lens))
+      (and-both (waits (at v p)) _ e (eqb-yes (blockClass (at v p)) (blockClass (at v p)) refl))
 
   no-slot : isNone (v .slot) ≡ true → b .slot ≡ 0
   unfolding view
@@ -254,10 +280,14 @@ module _ (b : struct.Board) (ids lens : List ℕ) (w : Ordered b ids lens) where
     zero-order : (m : Option ℕ) → LeastIs (v .places) m → isNone m ≡ true
     unfolding LeastIs
     zero-order none l = refl
-    zero-order (some r) l = let h : l .1 .0 < 64 = omega (arith, queued-in (v .places) (l .1 .0) (l .1 .1), all-64 b ids lens) in absurd (none-waits (l .1 .0) h (queued-waits (l .1 .0) h (l .1 .1)))
+    zero-order (some r) l =
+        let h : l .1 .0 < 64 = omega (arith, queued-in (v .places) (l .1 .0) (l .1 .1), all-64 b ids lens) in
+        absurd (none-waits (l .1 .0) h (queued-waits (l .1 .0) h (l .1 .1)))
 
   pub quiet-is : quiet v ≡ eqb (setBelow 17 (active v)) 0
   unfolding quiet
   quiet-is = both-ways (quiet v) (eqb (setBelow 17 (active v)) 0)
-      (λ e. eqb-yes (setBelow 17 (active v)) 0 (quiet-zero (and-left (isNone (v .slot)) _ e) (and-right (isNone (v .slot)) (isNone (leastReady (v .places))) e)))
-      (λ e. let z = eqb-true (setBelow 17 (active v)) 0 e in and-both (isNone (v .slot)) (isNone (leastReady (v .places))) (zero-slot z) (zero-order z (leastReady (v .places)) (least-is (v .places))))
+      (λ e. eqb-yes (setBelow 17 (active v)) 0
+      (quiet-zero (and-left (isNone (v .slot)) _ e) (and-right (isNone (v .slot)) (isNone (leastReady (v .places))) e)))
+      (λ e. let z = eqb-true (setBelow 17 (active v)) 0 e in
+      and-both (isNone (v .slot)) (isNone (leastReady (v .places))) (zero-slot z) (zero-order z (leastReady (v .places)) (least-is (v .places))))

@@ -41,7 +41,8 @@ use Rattle.spoilt.proofs.Rules.{Rules, belong-at, Belongs, d-belongs, S
 -- ---- along a list of places
 
 -- ready times that never fall, by the array and by the places
-fall-is : (l : List Place) (times : List ℕ) (qs : List ℕ) → ((q : ℕ) → 1 ≤ count q qs → ready l q ≡ getD times q 0) → (q : ℕ) → ready l q ≡ getD times q 0 → neverFalling l (q ∷ qs) ≡ risesFrom times (getD times q 0) qs
+fall-is : (l : List Place) (times : List ℕ) (qs : List ℕ) → ((q : ℕ) → 1 ≤ count q qs → ready l q ≡ getD times q 0) → (q : ℕ) → ready l q ≡ getD times q 0
+    → neverFalling l (q ∷ qs) ≡ risesFrom times (getD times q 0) qs
 unfolding neverFalling risesFrom count
 fall-is l times [] e q f = refl
 fall-is l times (p ∷ ps) e q f = ap₂ (λ (s t : Bool). s && t) (ap₂ leb f here) (fall-is l times ps (λ r c. e r (omega arith)) p here)
@@ -49,16 +50,20 @@ fall-is l times (p ∷ ps) e q f = ap₂ (λ (s t : Bool). s && t) (ap₂ leb f 
     here : ready l p ≡ getD times p 0
     here = e p (omega (arith, ap oneIf (eqb-yes p p refl)))
 
-pub falls-as : (l : List Place) (times : List ℕ) (qs : List ℕ) → ((q : ℕ) → 1 ≤ count q qs → ready l q ≡ getD times q 0) → neverFalling l qs ≡ risesFrom times 0 qs
+pub falls-as : (l : List Place) (times : List ℕ) (qs : List ℕ) → ((q : ℕ) → 1 ≤ count q qs → ready l q ≡ getD times q 0)
+    → neverFalling l qs ≡ risesFrom times 0 qs
 unfolding neverFalling risesFrom count
 falls-as l times [] e = refl
-falls-as l times (q ∷ qs) e = fall-is l times qs (λ r c. e r (omega arith)) q (e q (omega (arith, ap oneIf (eqb-yes q q refl)))) ∙ ap (λ (t : Bool). t && risesFrom times (getD times q 0) qs) (sym (le-leb 0 (getD times q 0) (omega arith)))
+falls-as l times (q ∷ qs) e =
+    fall-is l times qs (λ r c. e r (omega arith)) q (e q (omega (arith, ap oneIf (eqb-yes q q refl))))
+    ∙ ap (λ (t : Bool). t && risesFrom times (getD times q 0) qs) (sym (le-leb 0 (getD times q 0) (omega arith)))
 
 -- and each is at most the later ones
 rises-least : (times : List ℕ) (least : ℕ) (qs : List ℕ) → risesFrom times least qs ≡ true → (q : ℕ) → 1 ≤ count q qs → least ≤ getD times q 0
 unfolding risesFrom count
 rises-least times least [] h q c = absurd (omega arith)
-rises-least times least (p ∷ ps) h q c = go (rises-least times (getD times p 0) ps (and-right (leb least (getD times p 0)) (risesFrom times (getD times p 0) ps) h) q) (ℕ-discrete q p)
+rises-least times least (p ∷ ps) h q c =
+    go (rises-least times (getD times p 0) ps (and-right (leb least (getD times p 0)) (risesFrom times (getD times p 0) ps) h) q) (ℕ-discrete q p)
   where
     low : least ≤ getD times p 0
     low = true-le least (getD times p 0) (and-left (leb least (getD times p 0)) _ h)
@@ -67,10 +72,14 @@ rises-least times least (p ∷ ps) h q c = go (rises-least times (getD times p 0
     go r (yes e) = rw e low
     go r (no e) = omega (arith, low, r (omega (arith, ap oneIf (eqb-no q p e))))
 
-rises-rising : (l : List Place) (times : List ℕ) (least : ℕ) (qs : List ℕ) → ((q : ℕ) → 1 ≤ count q qs → ready l q ≡ getD times q 0) → risesFrom times least qs ≡ true → Rising l qs
+rises-rising : (l : List Place) (times : List ℕ) (least : ℕ) (qs : List ℕ) → ((q : ℕ) → 1 ≤ count q qs → ready l q ≡ getD times q 0)
+    → risesFrom times least qs ≡ true → Rising l qs
 unfolding Rising risesFrom count
 rises-rising l times least [] e h = tt
-rises-rising l times least (p ∷ ps) e h = (λ q c. omega (arith, e p (omega (arith, ap oneIf (eqb-yes p p refl))), e q (omega arith), rises-least times (getD times p 0) ps rest q c), rises-rising l times (getD times p 0) ps (λ q c. e q (omega arith)) rest)
+rises-rising l times least (p ∷ ps) e h = (
+  λ q c. omega (arith, e p (omega (arith, ap oneIf (eqb-yes p p refl))), e q (omega arith), rises-least times (getD times p 0) ps rest q c),
+  rises-rising l times (getD times p 0) ps (λ q c. e q (omega arith)) rest,
+)
   where
     rest : risesFrom times (getD times p 0) ps ≡ true
     rest = and-right (leb least (getD times p 0)) (risesFrom times (getD times p 0) ps) h
@@ -132,7 +141,8 @@ module _ (b : struct.Board) (ids lens : List ℕ) (r : Rules b lens) where
   class-of k h q c =
       let m = member k h q c in
       and-both (isQueued (at v q .stand)) (eqb k (blockClass (at v q))) (queued-at b ids lens q (m .inside) ∙ m .listed)
-      (ap (λ (s : ℕ). eqb k (classOf s)) (share-at b ids lens q (m .inside)) ∙ sym (in-class (getD (b .shares) q 0) k (open-at q (m .inside) (in-order-count q (m .listed))) (shares-in q (m .inside))) ∙ m .class)
+      (ap (λ (s : ℕ). eqb k (classOf s)) (share-at b ids lens q (m .inside))
+      ∙ sym (in-class (getD (b .shares) q 0) k (open-at q (m .inside) (in-order-count q (m .listed))) (shares-in q (m .inside))) ∙ m .class)
 
   none-outside : (k : ℕ) → k < 17 → (q : ℕ) → 64 ≤ q → count q (orderOf b k) ≡ 0
   none-outside k h q l = go (split 1 (count q (orderOf b k)))
@@ -144,10 +154,13 @@ module _ (b : struct.Board) (ids lens : List ℕ) (r : Rules b lens) where
   pub lists-all : (k : ℕ) → k < 17 → (q : ℕ) → q < 64 → count q (orderOf b k) ≡ oneIf (inClass k (at v q))
   unfolding blocksInOrder
   lists-all = all-listed (v .places) (orderOf b) none-outside (λ k h q. ends-once (b .next) 64 (getD (b .heads) k 0) (walk! k h .ends!) q) class-of
-      (below-ext (λ k. length (orderOf b k)) (lengthOf b) 17 (λ k h. sym (walk! k h .long)) ∙ r .listed ∙ below-ext _ _ 64 (λ p h. ap oneIf (sym (queued-at b ids lens p h))))
+      (below-ext (λ k. length (orderOf b k)) (lengthOf b) 17 (λ k h. sym (walk! k h .long)) ∙ r .listed
+      ∙ below-ext _ _ 64 (λ p h. ap oneIf (sym (queued-at b ids lens p h))))
 
-  pub slot-serves : (p : ℕ) → b .slot ≡ suc p → Serves (b .largest) (b .clock) (b .left .0) (getD (b .counts) p 0) (getD lens (laneEntry p (getD (b .starts) p 0) 0) 0)
-  slot-serves p e = d-serves (b .largest) (b .clock) (b .left .0) (getD (b .counts) p 0) (getD lens (laneEntry p (getD (b .starts) p 0) 0) 0) .yes (r .slot .serves p e)
+  pub slot-serves : (p : ℕ) → b .slot ≡ suc p
+      → Serves (b .largest) (b .clock) (b .left .0) (getD (b .counts) p 0) (getD lens (laneEntry p (getD (b .starts) p 0) 0) 0)
+  slot-serves p e =
+      d-serves (b .largest) (b .clock) (b .left .0) (getD (b .counts) p 0) (getD lens (laneEntry p (getD (b .starts) p 0) 0) 0) .yes (r .slot .serves p e)
 
   pub slot-at : (p : ℕ) → b .slot ≡ suc p → (p < 64) × (eqb (getD (b .counts) p 0) 0 ≡ false)
   slot-at p e = (r .slot .place p e, slot-serves p e .waits)
@@ -172,7 +185,8 @@ module _ (b : struct.Board) (ids lens : List ℕ) (r : Rules b lens) where
   ready-field : (p : ℕ) → p < 64 → getD (b .ready) p 0 ≡ readyNum (placeOf b ids lens p .stand)
   ready-field p h = go (inOrder p (getD (b .counts) p 0) (b .slot)) refl ∙ sym (ready-is b ids lens p)
     where
-      go : (t : Bool) → inOrder p (getD (b .counts) p 0) (b .slot) ≡ t → getD (b .ready) p 0 ≡ cond (inOrder p (getD (b .counts) p 0) (b .slot)) (getD (b .ready) p 0) 0
+      go : (t : Bool) → inOrder p (getD (b .counts) p 0) (b .slot) ≡ t
+          → getD (b .ready) p 0 ≡ cond (inOrder p (getD (b .counts) p 0) (b .slot)) (getD (b .ready) p 0) 0
       go true e = rw e
       go false e = rw e (unused p h e .0)
 
@@ -209,7 +223,8 @@ module _ (b : struct.Board) (ids lens : List ℕ) (r : Rules b lens) where
   link-slot (suc p) = refl
 
   module _ (z : Sized b) where
-    field : (f : Place → ℕ) (xs : List ℕ) → length xs ≡ 64 → ((i : ℕ) → i < 64 → getD xs i 0 ≡ f (placeOf b ids lens i)) → map f (tab 64 (placeOf b ids lens)) ≡ xs
+    field : (f : Place → ℕ) (xs : List ℕ) → length xs ≡ 64 → ((i : ℕ) → i < 64 → getD xs i 0 ≡ f (placeOf b ids lens i))
+        → map f (tab 64 (placeOf b ids lens)) ≡ xs
     field f xs e h = map-tab f 64 (placeOf b ids lens) ∙ sym (tab-of 0 xs 64 (λ i. f (placeOf b ids lens i)) e h)
 
     pub active-field : setBelow 17 (active v) ≡ b .active

@@ -59,15 +59,18 @@ module _ (k start slot tail : ℕ) (shares counts ready next : List ℕ) (met h 
       unfolding walk
       walk-refused f = rw (down met l, ne-eqb h 0 ne, le-leb h 64 g, f)
 
-      pub walk-on : good ≡ true → from (64 - met) ≡ walk k start slot tail shares counts ready next (64 - (met + 1)) (met + 1) (getD next (h - 1) 0) (getD ready (h - 1) 0) h
+      pub walk-on : good ≡ true
+          → from (64 - met) ≡ walk k start slot tail shares counts ready next (64 - (met + 1)) (met + 1) (getD next (h - 1) 0) (getD ready (h - 1) 0) h
       unfolding walk
       walk-on f = rw (down met l, ne-eqb h 0 ne, le-leb h 64 g, f)
 
 -- the length that the walk of class k gives, from its next start
-pub length-as : (clock slot : ℕ) (heads tails shares counts ready next : List ℕ) (k start r : ℕ) → start ≡ nextStart k clock → r ≡ walk k start slot (getD tails k 0) shares counts ready next 64 0 (getD heads k 0) 0 0
+pub length-as : (clock slot : ℕ) (heads tails shares counts ready next : List ℕ) (k start r : ℕ) → start ≡ nextStart k clock
+    → r ≡ walk k start slot (getD tails k 0) shares counts ready next 64 0 (getD heads k 0) 0 0
     → r ≡ orderLength clock slot heads tails shares counts ready next k
 unfolding orderLength
-length-as clock slot heads tails shares counts ready next k start r e f = f ∙ ap (λ (s : ℕ). walk k s slot (getD tails k 0) shares counts ready next 64 0 (getD heads k 0) 0 0) e
+length-as clock slot heads tails shares counts ready next k start r e f =
+    f ∙ ap (λ (s : ℕ). walk k s slot (getD tails k 0) shares counts ready next 64 0 (getD heads k 0) 0 0) e
 
 -- a set, begun and one class on
 pub set-none : (t : ℕ → Bool) → setBelow 0 t ≡ 0

@@ -96,9 +96,11 @@ module _ (m : Board.Board) (f : Fit m) (ids lens : List ℕ) (n id len : ℕ) wh
       λ j. taken (record { place = p; entry = entry-is p j; before = count-is m p j })
 
 module _ (m : Board.Board) (f : Fit m) where
-  written-record-needs : (ids lens : List ℕ) → length ids ≡ 2048 → length lens ≡ 2048 → RecordNeeds (seenOf (encode m)) (encode m .tails) (encode m .clock) ids lens
+  written-record-needs : (ids lens : List ℕ) → length ids ≡ 2048 → length lens ≡ 2048
+      → RecordNeeds (seenOf (encode m)) (encode m .tails) (encode m .clock) ids lens
   unfolding encode
-  written-record-needs ids lens a d = record { low = bought m f; high = within m f; time = omega (arith, f .tidy .time); last = linked m f; ids-all = a; lens-all = d }
+  written-record-needs ids lens a d =
+      record { low = bought m f; high = within m f; time = omega (arith, f .tidy .time); last = linked m f; ids-all = a; lens-all = d }
 
 -- ---- On a value that is known to be good
 module _ (b : struct.Board) (ids lens : List ℕ) (k : Known b ids lens) where
@@ -109,11 +111,16 @@ module _ (b : struct.Board) (ids lens : List ℕ) (k : Known b ids lens) where
   f = fit-view b ids lens (k .sound)
 
   pub record-needs : RecordNeeds (seenOf b) (b .tails) (b .clock) ids lens
-  record-needs = subst (λ (c : struct.Board). RecordNeeds (seenOf c) (c .tails) (c .clock) ids lens) (k .sound .spells) (written-record-needs m f ids lens (k .ids-all) (k .lens-all))
+  record-needs =
+      subst (λ (c : struct.Board). RecordNeeds (seenOf c) (c .tails) (c .clock) ids lens) (k .sound .spells)
+      (written-record-needs m f ids lens (k .ids-all) (k .lens-all))
 
   pub record-known : (n id len : ℕ) (x : Recording) → x ≡ recordedIn (seenOf b) (b .largest) (b .clock) n id len (takingOf b) ids lens
       → returned (replied (x .code) (withTaking b (x .taking))) (x .ids) (x .lens) ≡ ruled b ids lens (record! n (record { number = id; bytes = len }))
-  record-known n id len x e = rw e (by-spelling b ids lens k (record! n (record { number = id; bytes = len })) (λ c. let x = recordedIn (seenOf c) (c .largest) (c .clock) n id len (takingOf c) ids lens in returned (replied (x .code) (withTaking c (x .taking))) (x .ids) (x .lens)) (record-is m f ids lens n id len))
+  record-known n id len x e =
+      rw e (by-spelling b ids lens k (record! n (record { number = id; bytes = len }))
+      (λ c. let x = recordedIn (seenOf c) (c .largest) (c .clock) n id len (takingOf c) ids lens in
+      returned (replied (x .code) (withTaking c (x .taking))) (x .ids) (x .lens)) (record-is m f ids lens n id len))
 
   -- and what it tells is what the rules tell
   pub record-told : (n id len : ℕ) (x : Recording)

@@ -28,7 +28,8 @@ use Rattle.rules.proofs.Tidy.{Tidy}
 use Rattle.board.specs.Reading.{lastLink, behind, encode}
 use Rattle.board.proofs.Lists.{getD-tab, tab-ext}
 use Rattle.board.proofs.Reading.{once, small, class}
-use Rattle.board.proofs.Moves.{nexts, heads, tails, nexts-join, heads-join, tails-join, due-ext, due-away, due-snoc, isActive, active-here, active-set, left-away, left-same}
+use Rattle.board.proofs.Moves.{nexts, heads, tails, nexts-join, heads-join, tails-join, due-ext, due-away, due-snoc, isActive, active-here, active-set}
+use Rattle.board.proofs.Moves.{left-away, left-same}
 use Rattle.board.proofs.Same.{same, kept}
 use Rattle.board.specs.Memory.{ordersNow, Taking, taking, takingOf, withTaking}
 use Rattle.taking.specs.Taking.{joinedOrders, takenAt}
@@ -36,12 +37,15 @@ use Rattle.board.proofs.Fields.{count-is, share-is}
 
 -- the engine's step, with what it reads named
 taken-eq : (shares : List ℕ) (clock p : ℕ) (t : Taking) (c s : ℕ) → getD (t .counts) p 0 ≡ c → getD shares p 0 ≡ s
-    → takenAt shares clock p t ≡ taking (set (t .counts) p (suc c)) (cond (eqb c 0) (joinedOrders (t .orders) p (classOf s) (nextStart (classOf s) clock)) (t .orders))
+    → takenAt shares clock p t
+    ≡ taking (set (t .counts) p (suc c)) (cond (eqb c 0) (joinedOrders (t .orders) p (classOf s) (nextStart (classOf s) clock)) (t .orders))
 unfolding takenAt
 taken-eq shares clock p t c s e f = rw (e, f, add-one c)
 
 joined-eq : (next heads tails ready : List ℕ) (active p k time t : ℕ) → getD tails k 0 ≡ t
-    → joinedOrders (ordersNow next heads tails ready active) p k time ≡ ordersNow (set (cond (eqb t 0) next (set next (t - 1) (suc p))) p 0) (cond (eqb t 0) (set heads k (suc p)) heads) (set tails k (suc p)) (set ready p time) (withBit active k)
+    → joinedOrders (ordersNow next heads tails ready active) p k time
+    ≡ ordersNow (set (cond (eqb t 0) next (set next (t - 1) (suc p))) p 0) (cond (eqb t 0) (set heads k (suc p)) heads) (set tails k (suc p)) (set ready p time)
+    (withBit active k)
 unfolding joinedOrders
 joined-eq next heads tails ready active p k time t e = rw (e, add-one p)
 
@@ -60,7 +64,8 @@ module _ (m : Board.Board) (g : Tidy m) (p : ℕ) (x : Record) (p64 : p < 64) (b
     take-more : withTaking (encode m) (takenAt (encode m .shares) (encode m .clock) p (takingOf (encode m))) ≡ encode (goOn m p (more (at m p) x))
     unfolding encode
     take-more =
-        ap (withTaking (encode m)) (taken-eq (encode m .shares) (m .clock) p (takingOf (encode m)) (length (at m p .lane)) (at m p .share) (count-is m p) (share-is m p) ∙ stays)
+        ap (withTaking (encode m))
+        (taken-eq (encode m .shares) (m .clock) p (takingOf (encode m)) (length (at m p .lane)) (at m p .share) (count-is m p) (share-is m p) ∙ stays)
         ∙ same (record {
           numbers = kept (λ w. w .number) l p y refl;
           shares = kept (λ w. w .share) l p y refl;
@@ -75,7 +80,9 @@ module _ (m : Board.Board) (g : Tidy m) (p : ℕ) (x : Record) (p64 : p < 64) (b
           largest = refl;
           clock = refl;
           active = set-ext _ _ 17 (λ j h. sym (active-set j p l y (waiting j)));
-          pending = set-ext _ _ 17 (λ j h. sym (due-ext l (set l p y) (m .clock) (m .orders j) (λ q c. ap (dueBy (m .clock)) (set-field (λ (w : Place). w .stand) l p y inL refl q))));
+          pending =
+              set-ext _ _ 17 (λ j h.
+              sym (due-ext l (set l p y) (m .clock) (m .orders j) (λ q c. ap (dueBy (m .clock)) (set-field (λ (w : Place). w .stand) l p y inL refl q))));
           slot = refl;
           left = sym (left-same l p y (m .slot) inL refl);
         })
@@ -87,9 +94,14 @@ module _ (m : Board.Board) (g : Tidy m) (p : ℕ) (x : Record) (p64 : p < 64) (b
         longer = omega (arith, length-append (at m p .lane) (x ∷ []))
 
         waiting : (j : ℕ) → isActive j y ≡ isActive j (at m p)
-        waiting j = ap (λ (t : Bool). t && eqb j k) (leb-yes 1 (length (at m p .lane ++ (x ∷ []))) (omega (arith, longer)) ∙ sym (leb-yes 1 (length (at m p .lane)) some!))
+        waiting j =
+            ap (λ (t : Bool). t && eqb j k)
+            (leb-yes 1 (length (at m p .lane ++ (x ∷ []))) (omega (arith, longer)) ∙ sym (leb-yes 1 (length (at m p .lane)) some!))
 
-        stays : taking (set (encode m .counts) p (suc (length (at m p .lane)))) (cond (eqb (length (at m p .lane)) 0) (joinedOrders (takingOf (encode m) .orders) p (classOf (at m p .share)) (nextStart (classOf (at m p .share)) (m .clock))) (takingOf (encode m) .orders))
+        stays : taking (set (encode m .counts) p (suc (length (at m p .lane))))
+            (cond (eqb (length (at m p .lane)) 0)
+            (joinedOrders (takingOf (encode m) .orders) p (classOf (at m p .share)) (nextStart (classOf (at m p .share)) (m .clock)))
+            (takingOf (encode m) .orders))
             ≡ taking (set (encode m .counts) p (suc (length (at m p .lane)))) (takingOf (encode m) .orders)
         stays = rw (ne-eqb (length (at m p .lane)) 0 (λ z. omega arith))
 
@@ -104,10 +116,12 @@ module _ (m : Board.Board) (g : Tidy m) (p : ℕ) (x : Record) (p64 : p < 64) (b
     gone : (j : ℕ) → count p (m .orders j) ≡ 0
     gone j = listed-out (m .places) (m .orders) (g .shape .listed) j p (ap isQueued was)
 
-    take-joins : withTaking (encode m) (takenAt (encode m .shares) (encode m .clock) p (takingOf (encode m))) ≡ encode (joining m p (joins (m .clock) (at m p) x))
+    take-joins : withTaking (encode m) (takenAt (encode m .shares) (encode m .clock) p (takingOf (encode m)))
+        ≡ encode (joining m p (joins (m .clock) (at m p) x))
     unfolding encode
     take-joins =
-        ap (withTaking (encode m)) (taken-eq (encode m .shares) (m .clock) p (takingOf (encode m)) (length (at m p .lane)) (at m p .share) (count-is m p) (share-is m p) ∙ goes)
+        ap (withTaking (encode m))
+        (taken-eq (encode m .shares) (m .clock) p (takingOf (encode m)) (length (at m p .lane)) (at m p .share) (count-is m p) (share-is m p) ∙ goes)
         ∙ same (record {
           numbers = kept (λ w. w .number) l p y refl;
           shares = kept (λ w. w .share) l p y refl;
@@ -115,7 +129,10 @@ module _ (m : Board.Board) (g : Tidy m) (p : ℕ) (x : Record) (p64 : p < 64) (b
           starts = kept (λ w. w .start) l p y refl;
           counts = ap (set (map (λ (w : Place). length (w .lane)) l) p) (ap suc none!) ∙ sym (map-set (λ (w : Place). length (w .lane)) l p y);
           ready = sym (map-set (λ (w : Place). readyNum (w .stand)) l p y);
-          next = nexts-join o kj p k p64 k17 refl (gone k) (class m g k) (once m g k) (small m g k) (eqb (lastLink (o k)) 0) refl ∙ tab-ext 64 _ _ (λ j h. ap (λ (n : ℕ). behind j (upd o k (o k ++ (p ∷ [])) (classOf n))) (sym (set-field (λ (w : Place). w .share) l p y inL refl j)));
+          next =
+              nexts-join o kj p k p64 k17 refl (gone k) (class m g k) (once m g k) (small m g k) (eqb (lastLink (o k)) 0) refl
+              ∙ tab-ext 64 _ _ (λ j h. ap (λ (n : ℕ). behind j (upd o k (o k ++ (p ∷ [])) (classOf n)))
+              (sym (set-field (λ (w : Place). w .share) l p y inL refl j)));
           heads = heads-join o kj p k p64 k17 refl (gone k) (class m g k) (once m g k) (small m g k) (eqb (lastLink (o k)) 0) refl;
           tails = tails-join o kj p k p64 k17 refl (gone k) (class m g k) (once m g k) (small m g k);
           held = refl;
@@ -136,14 +153,21 @@ module _ (m : Board.Board) (g : Tidy m) (p : ℕ) (x : Record) (p64 : p < 64) (b
         y : Place
         y = joins (m .clock) (at m p) x
 
-        goes : taking (set (encode m .counts) p (suc (length (at m p .lane)))) (cond (eqb (length (at m p .lane)) 0) (joinedOrders (takingOf (encode m) .orders) p (classOf (at m p .share)) (nextStart (classOf (at m p .share)) (m .clock))) (takingOf (encode m) .orders))
+        goes : taking (set (encode m .counts) p (suc (length (at m p .lane))))
+            (cond (eqb (length (at m p .lane)) 0)
+            (joinedOrders (takingOf (encode m) .orders) p (classOf (at m p .share)) (nextStart (classOf (at m p .share)) (m .clock)))
+            (takingOf (encode m) .orders))
             ≡ taking (set (encode m .counts) p (suc (length (at m p .lane)))) (ordersNow
             (set (cond (eqb (lastLink (o k)) 0) (nexts o kj) (set (nexts o kj) (lastLink (o k) - 1) (suc p))) p 0)
             (cond (eqb (lastLink (o k)) 0) (set (heads o kj) k (suc p)) (heads o kj))
             (set (tails o kj) k (suc p))
             (set (encode m .ready) p (nextStart k (m .clock)))
             (withBit (encode m .active) k))
-        goes = rw (eq-eqb (length (at m p .lane)) 0 none!) (ap (taking (set (encode m .counts) p (suc (length (at m p .lane))))) (joined-eq (nexts o kj) (heads o kj) (tails o kj) (encode m .ready) (encode m .active) p k (nextStart k (m .clock)) (lastLink (o k)) (getD-tab 17 (λ j. lastLink (o j)) k 0 k17)))
+        goes =
+            rw (eq-eqb (length (at m p .lane)) 0 none!)
+            (ap (taking (set (encode m .counts) p (suc (length (at m p .lane)))))
+            (joined-eq (nexts o kj) (heads o kj) (tails o kj) (encode m .ready) (encode m .active) p k (nextStart k (m .clock)) (lastLink (o k))
+            (getD-tab 17 (λ j. lastLink (o j)) k 0 k17)))
 
         here : pl (set l p y) p ≡ y
         here = getD-set-same l p y freePlace inL
@@ -156,7 +180,8 @@ module _ (m : Board.Board) (g : Tidy m) (p : ℕ) (x : Record) (p64 : p < 64) (b
 
         due : (j : ℕ) → Dec (j ≡ k) → anyDue (set l p y) (m .clock) (upd o k (o k ++ (p ∷ [])) j) ≡ anyDue l (m .clock) (o j)
         due j (yes e) = ap (anyDue (set l p y) (m .clock)) (ap (upd o k (o k ++ (p ∷ []))) e ∙ upd-same o k (o k ++ (p ∷ [])))
-            ∙ due-snoc (set l p y) (m .clock) p (o k) (ap (λ (w : Place). dueBy (m .clock) (w .stand)) here ∙ leb-no (nextStart k (m .clock)) (m .clock) (next-gt k (m .clock)))
+            ∙ due-snoc (set l p y) (m .clock) p (o k)
+            (ap (λ (w : Place). dueBy (m .clock) (w .stand)) here ∙ leb-no (nextStart k (m .clock)) (m .clock) (next-gt k (m .clock)))
             ∙ due-away l (m .clock) p y (o k) (gone k) ∙ ap (λ (i : ℕ). anyDue l (m .clock) (o i)) (sym e)
         due j (no e) = ap (anyDue (set l p y) (m .clock)) (upd-other o k (o k ++ (p ∷ [])) j e) ∙ due-away l (m .clock) p y (o j) (gone j)
 
@@ -165,6 +190,8 @@ module _ (m : Board.Board) (g : Tidy m) (p : ℕ) (x : Record) (p64 : p < 64) (b
   unfolding takenIn
   take-is = go (leb (length (at m p .lane)) 0) refl
     where
-      go : (t : Bool) → leb (length (at m p .lane)) 0 ≡ t → withTaking (encode m) (takenAt (encode m .shares) (encode m .clock) p (takingOf (encode m))) ≡ encode (cond t (joining m p (joins (m .clock) (at m p) x)) (goOn m p (more (at m p) x)))
+      go : (t : Bool) → leb (length (at m p .lane)) 0 ≡ t
+          → withTaking (encode m) (takenAt (encode m .shares) (encode m .clock) p (takingOf (encode m)))
+          ≡ encode (cond t (joining m p (joins (m .clock) (at m p) x)) (goOn m p (more (at m p) x)))
       go true e = take-joins (omega (arith, true-le (length (at m p .lane)) 0 e))
       go false e = take-more (false-lt (length (at m p .lane)) 0 e)

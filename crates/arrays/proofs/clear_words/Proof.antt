@@ -26,16 +26,24 @@ add-i : tie.Need-add-i Inv-loop μ-loop
 add-i c = search needs
 
 loop-less : tie.Need-loop-less Inv-loop μ-loop
-loop-less c = omega (arith, c .before .loop .inv .as-long)
+loop-less c =
+    let at-loop = c .before in
+    omega (arith, at-loop .loop .inv .as-long)
 
 loop-again : tie.Need-loop-again Inv-loop μ-loop
-loop-again c = cleared-more _ _ _ (c .before .loop .inv) (omega arith)
+loop-again c =
+    let at-loop = c .before in
+    cleared-more _ _ _ (at-loop .loop .inv) (omega arith)
 
 same-length : tie.Need-same-length Inv-loop μ-loop
-same-length c = c .before .loop .inv .as-long
+same-length c =
+    let at-loop = c .before in
+    at-loop .loop .inv .as-long
 
 returns : tie.Need-returns Inv-loop μ-loop
-returns c = cleared-all _ _ _ (c .before .loop .inv) (omega arith)
+returns c =
+    let at-loop = c .before in
+    cleared-all _ _ _ (at-loop .loop .inv) (omega arith)
 
 pub clear-words-spec : {M : Type 1} → statement M
 clear-words-spec =

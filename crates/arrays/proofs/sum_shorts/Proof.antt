@@ -23,10 +23,14 @@ shared-slice-read-sum : tie.Need-shared-slice-read-sum Inv-loop μ-loop
 shared-slice-read-sum c = search needs
 
 cast-sum : tie.Need-cast-sum Inv-loop μ-loop
-cast-sum c = omega (arith, c .shared-slice-known .given (c .before .before .loop .i))
+cast-sum c =
+    let at-loop = c .before .before in
+    omega (arith, c .shared-slice-known .given (at-loop .loop .i))
 
 add-sum : tie.Need-add-sum Inv-loop μ-loop
-add-sum c = omega (arith, c .shared-slice-known .given (c .before .before .loop .i), c .before .before .loop .inv .fits)
+add-sum c =
+    let at-loop = c .before .before in
+    omega (arith, c .shared-slice-known .given (at-loop .loop .i), at-loop .loop .inv .fits)
 
 add-i : tie.Need-add-i Inv-loop μ-loop
 add-i c = search needs
@@ -35,10 +39,14 @@ loop-less : tie.Need-loop-less Inv-loop μ-loop
 loop-less c = search needs
 
 loop-again : tie.Need-loop-again Inv-loop μ-loop
-loop-again c = summed-more _ _ _ _ (c .before .before .loop .inv) (omega arith) (omega (arith, c .shared-slice-known .given (c .before .before .loop .i)))
+loop-again c =
+    let at-loop = c .before .before in
+    summed-more _ _ _ _ (at-loop .loop .inv) (omega arith) (omega (arith, c .shared-slice-known .given (at-loop .loop .i)))
 
 returns : tie.Need-returns Inv-loop μ-loop
-returns c = summed-all _ _ _ _ (c .before .loop .inv) (omega arith)
+returns c =
+    let at-loop = c .before in
+    summed-all _ _ _ _ (at-loop .loop .inv) (omega arith)
 
 pub sum-shorts-spec : {M : Type 1} → statement M
 sum-shorts-spec =

@@ -26,7 +26,12 @@ has-bit-requires c κs = search needs
 
 returns : tie.Need-returns Inv-loop μ-loop
 unfolding lowestBit
-returns c = sym (least-found (inSet (c .before .before .before .before .args .set)) 32 (c .before .before .before .loop .k) (omega arith) (c .before .before .before .loop .inv .1) (sym (c .before .has-bit .ensures) ∙ c .if1 .taken))
+returns c =
+    let at-has-bit = c .before in
+    let at-loop = at-has-bit .before .before in
+    let at-start = at-loop .before in
+    sym (least-found (inSet (at-start .args .set)) 32 (at-loop .loop .k) (omega arith) (at-loop .loop .inv .1)
+    (sym (at-has-bit .has-bit .ensures) ∙ c .if1 .taken))
 
 add-k : tie.Need-add-k Inv-loop μ-loop
 add-k c = omega arith
@@ -35,13 +40,21 @@ loop-less : tie.Need-loop-less Inv-loop μ-loop
 loop-less c = omega arith
 
 loop-again : tie.Need-loop-again Inv-loop μ-loop
-loop-again c = (omega arith, below-next (λ j. inSet (c .before .before .before .before .args .set) j ≡ false) (c .before .before .before .loop .k) (c .before .before .before .loop .inv .1) (sym (c .before .has-bit .ensures) ∙ c .if1 .left))
+loop-again c =
+    let at-has-bit = c .before in
+    let at-loop = at-has-bit .before .before in
+    let at-start = at-loop .before in (
+      omega arith,
+      below-next (λ j. inSet (at-start .args .set) j ≡ false) (at-loop .loop .k) (at-loop .loop .inv .1)
+          (sym (at-has-bit .has-bit .ensures) ∙ c .if1 .left),
+    )
 
 returns-2 : tie.Need-returns-2 Inv-loop μ-loop
 unfolding lowestBit
 returns-2 c =
+    let at-start = c .before .before in
     let e : c .before .loop .k ≡ 32 = omega arith in
-    e ∙ sym (least-none (inSet (c .before .before .args .set)) 32 (λ j h. c .before .loop .inv .1 j (omega arith)))
+    e ∙ sym (least-none (inSet (at-start .args .set)) 32 (λ j h. c .before .loop .inv .1 j (omega arith)))
 
 pub lowest-spec : {M : Type 1} → statement M
 lowest-spec =

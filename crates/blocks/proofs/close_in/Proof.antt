@@ -18,48 +18,89 @@ enum-told c = search needs
 
 returns : tie.Need-returns
 unfolding closedIn
-returns c = rw (← c .before .before .find .ensures, c .enum-told .given .1)
+returns c =
+    let at-find = c .before .before in
+    rw (← at-find .find .ensures, c .enum-told .given .1)
 
 mul-if1 : tie.Need-mul-if1
 mul-if1 c = let h = found-at _ _ _ (sym (c .before .before .before .find .ensures) ∙ c .before .i .given .1) .inside in search needs
 
 element-copy-out-if1 : tie.Need-element-copy-out-if1
-element-copy-out-if1 c = found-at _ _ _ (sym (c .before .before .before .find .ensures) ∙ c .before .i .given .1) .inside
+element-copy-out-if1 c =
+    let at-i = c .before in
+    let at-find = at-i .before .before in
+    found-at _ _ _ (sym (at-find .find .ensures) ∙ at-i .i .given .1) .inside
 
 returns-2 : tie.Need-returns-2
 unfolding closedIn
-returns-2 c = rw (← c .before .before .before .before .before .find .ensures, c .before .before .before .i .given .1, lt-ltb _ _ (c .if1 .taken))
+returns-2 c =
+    let at-i = c .before .before .before in
+    let at-find = at-i .before .before in
+    rw (← at-find .find .ensures, at-i .i .given .1, lt-ltb _ _ (c .if1 .taken))
 
 mul-hold-in : tie.Need-mul-hold-in
-mul-hold-in c = let h = found-at _ _ _ (sym (c .before .before .before .before .before .find .ensures) ∙ c .before .before .before .i .given .1) .inside in search needs
+mul-hold-in c =
+    let h = found-at _ _ _ (sym (c .before .before .before .before .before .find .ensures) ∙ c .before .before .before .i .given .1) .inside in search needs
 
 element-copy-out-hold-in : tie.Need-element-copy-out-hold-in
-element-copy-out-hold-in c = found-at _ _ _ (sym (c .before .before .before .before .before .find .ensures) ∙ c .before .before .before .i .given .1) .inside
+element-copy-out-hold-in c =
+    let at-i = c .before .before .before in
+    let at-find = at-i .before .before in
+    found-at _ _ _ (sym (at-find .find .ensures) ∙ at-i .i .given .1) .inside
 
 hold-in-requires : tie.Need-hold-in-requires
-hold-in-requires c κs = (found-bought (now (c .before .before .before .before .before .before .before .before .before .args .numbers)) (now (c .before .before .before .before .before .before .before .before .before .args .shares)) (c .before .before .before .before .before .before .before .before .before .args .block) _ (sym (c .before .before .before .before .before .before .before .find .ensures) ∙ c .before .before .before .before .before .i .given .1) (c .before .before .before .before .before .before .before .before .before .pre .low), (c .before .before .before .before .before .before .before .before .before .pre .high _, c .before .before .before .before .before .before .before .before .before .pre .most))
+hold-in-requires c κs =
+    let at-i = c .before .before .before .before .before in
+    let at-find = at-i .before .before in
+    let at-start = at-find .before .before in (
+      found-bought (now (at-start .args .numbers)) (now (at-start .args .shares)) (at-start .args .block) _ (sym (at-find .find .ensures) ∙ at-i .i .given .1)
+          (at-start .pre .low),
+      (at-start .pre .high _, at-start .pre .most),
+    )
 
 mul-numbers : tie.Need-mul-numbers
-mul-numbers c = let h = found-at _ _ _ (sym (c .before .before .before .before .before .before .before .before .find .ensures) ∙ c .before .before .before .before .before .before .i .given .1) .inside in search needs
+mul-numbers c =
+    let h = found-at _ _ _
+    (sym (c .before .before .before .before .before .before .before .before .find .ensures)
+    ∙ c .before .before .before .before .before .before .i .given .1) .inside in search needs
 
 element-write-numbers : tie.Need-element-write-numbers
-element-write-numbers c = found-at _ _ _ (sym (c .before .before .before .before .before .before .before .before .find .ensures) ∙ c .before .before .before .before .before .before .i .given .1) .inside
+element-write-numbers c =
+    let at-i = c .before .before .before .before .before .before in
+    let at-find = at-i .before .before in
+    found-at _ _ _ (sym (at-find .find .ensures) ∙ at-i .i .given .1) .inside
 
 mul-shares : tie.Need-mul-shares
-mul-shares c = let h = found-at _ _ _ (sym (c .before .before .before .before .before .before .before .before .find .ensures) ∙ c .before .before .before .before .before .before .i .given .1) .inside in search needs
+mul-shares c =
+    let h = found-at _ _ _
+    (sym (c .before .before .before .before .before .before .before .before .find .ensures)
+    ∙ c .before .before .before .before .before .before .i .given .1) .inside in search needs
 
 element-write-shares : tie.Need-element-write-shares
-element-write-shares c = found-at _ _ _ (sym (c .before .before .before .before .before .before .before .before .find .ensures) ∙ c .before .before .before .before .before .before .i .given .1) .inside
+element-write-shares c =
+    let at-i = c .before .before .before .before .before .before in
+    let at-find = at-i .before .before in
+    found-at _ _ _ (sym (at-find .find .ensures) ∙ at-i .i .given .1) .inside
 
 mul-starts : tie.Need-mul-starts
-mul-starts c = let h = found-at _ _ _ (sym (c .before .before .before .before .before .before .before .before .find .ensures) ∙ c .before .before .before .before .before .before .i .given .1) .inside in search needs
+mul-starts c =
+    let h = found-at _ _ _
+    (sym (c .before .before .before .before .before .before .before .before .find .ensures)
+    ∙ c .before .before .before .before .before .before .i .given .1) .inside in search needs
 
 element-write-starts : tie.Need-element-write-starts
-element-write-starts c = found-at _ _ _ (sym (c .before .before .before .before .before .before .before .before .find .ensures) ∙ c .before .before .before .before .before .before .i .given .1) .inside
+element-write-starts c =
+    let at-i = c .before .before .before .before .before .before in
+    let at-find = at-i .before .before in
+    found-at _ _ _ (sym (at-find .find .ensures) ∙ at-i .i .given .1) .inside
 
 returns-3 : tie.Need-returns-3
 unfolding closedIn
-returns-3 c = rw (← c .before .before .before .before .before .before .before .before .find .ensures, c .before .before .before .before .before .before .i .given .1, le-ltb _ _ (c .before .before .before .if1 .left), c .hold-in .ensures)
+returns-3 c =
+    let at-if1 = c .before .before .before in
+    let at-i = at-if1 .before .before .before in
+    let at-find = at-i .before .before in
+    rw (← at-find .find .ensures, at-i .i .given .1, le-ltb _ _ (at-if1 .if1 .left), c .hold-in .ensures)
 
 pub close-in-spec : {M : Type 1} → statement M
 close-in-spec =

@@ -24,17 +24,26 @@ element-copy-out-sum : tie.Need-element-copy-out-sum
 element-copy-out-sum c = let h : c .class-of .result ≤ 16 = rw (c .class-of .ensures) (class-le _) in omega arith
 
 add-sum : tie.Need-add-sum
-add-sum c = let h : c .before .class-of .result ≤ 16 = rw (c .before .class-of .ensures) (class-le _) in omega (arith, c .before .before .before .pre .1 .1 (c .before .class-of .result))
+add-sum c =
+    let at-class-of = c .before in
+    let at-start = at-class-of .before .before in
+    let h : c .before .class-of .result ≤ 16 =
+    rw (at-class-of .class-of .ensures) (class-le _) in omega (arith, at-start .pre .1 .1 (at-class-of .class-of .result))
 
 mul-held : tie.Need-mul-held
 mul-held c = search needs
 
 element-write-held : tie.Need-element-write-held
-element-write-held c = let h : c .before .class-of .result ≤ 16 = rw (c .before .class-of .ensures) (class-le _) in omega arith
+element-write-held c =
+    let at-class-of = c .before in
+    let h : c .before .class-of .result ≤ 16 = rw (at-class-of .class-of .ensures) (class-le _) in omega arith
 
 returns-2 : tie.Need-returns-2
 unfolding heldWith
-returns-2 c = rw (ne-eqb _ _ (c .before .before .if1 .left), c .before .class-of .ensures)
+returns-2 c =
+    let at-class-of = c .before in
+    let at-if1 = at-class-of .before in
+    rw (ne-eqb _ _ (at-if1 .if1 .left), at-class-of .class-of .ensures)
 
 pub hold-in-spec : {M : Type 1} → statement M
 hold-in-spec =

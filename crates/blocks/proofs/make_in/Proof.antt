@@ -19,7 +19,10 @@ same-length-2 : tie.Need-same-length-2
 same-length-2 c = search needs
 
 returns : tie.Need-returns
-returns c = rw (c .blank .ensures, c .before .before .before .before .before .before .before .clear-words .ensures, c .before .before .before .clear-shorts .ensures)
+returns c =
+    let at-clear-shorts = c .before .before .before in
+    let at-clear-words = at-clear-shorts .before .before .before .before in
+    rw (c .blank .ensures, at-clear-words .clear-words .ensures, at-clear-shorts .clear-shorts .ensures)
 
 pub make-in-spec : {M : Type 1} → statement M
 make-in-spec = tie.close (tie.spec clear-words-requires clear-shorts-requires blank-requires same-length same-length-2 returns)

@@ -11,7 +11,9 @@ outside-requires c κs = search needs
 
 returns : tie.Need-returns
 unfolding openedIn
-returns c starts = rw (sym (c .before .outside .ensures) ∙ c .if1 .taken)
+returns c starts =
+    let at-outside = c .before in
+    rw (sym (at-outside .outside .ensures) ∙ c .if1 .taken)
 
 find-requires : tie.Need-find-requires
 find-requires c κs = search needs
@@ -24,14 +26,30 @@ enum-told-2 c = search needs
 
 returns-2 : tie.Need-returns-2
 unfolding openedIn
-returns-2 c starts = rw (sym (c .before .before .before .before .before .outside .ensures) ∙ c .before .before .before .before .if1 .left, ← c .before .before .find .ensures, c .enum-told2 .given .1)
+returns-2 c starts =
+    let at-find = c .before .before in
+    let at-if1 = at-find .before .before in
+    let at-outside = at-if1 .before in
+    rw (sym (at-outside .outside .ensures) ∙ at-if1 .if1 .left, ← at-find .find .ensures, c .enum-told2 .given .1)
 
 lowest-free-requires : tie.Need-lowest-free-requires
 lowest-free-requires c κs = search needs
 
 returns-3 : tie.Need-returns-3
 unfolding openedIn
-returns-3 c starts = rw (sym (c .before .before .before .before .before .before .before .before .outside .ensures) ∙ c .before .before .before .before .before .before .before .if1 .left, ← c .before .before .before .before .before .find .ensures, c .before .before .before .enum-told .given .1, ← c .before .lowest-free .ensures, eq-eqb _ _ (c .if2 .taken))
+returns-3 c starts =
+    let at-lowest-free = c .before in
+    let at-enum-told = at-lowest-free .before .before in
+    let at-find = at-enum-told .before .before in
+    let at-if1 = at-find .before .before in
+    let at-outside = at-if1 .before in
+    rw (
+      sym (at-outside .outside .ensures) ∙ at-if1 .if1 .left,
+      ← at-find .find .ensures,
+      at-enum-told .enum-told .given .1,
+      ← at-lowest-free .lowest-free .ensures,
+      eq-eqb _ _ (c .if2 .taken),
+    )
 
 sum-requires : tie.Need-sum-requires
 sum-requires c κs = search needs
@@ -50,23 +68,69 @@ add-if3-2 c = search needs
 
 returns-4 : tie.Need-returns-4
 unfolding openedIn
-returns-4 c starts = rw (sym (c .before .before .before .before .before .before .before .before .before .before .before .before .before .before .outside .ensures) ∙ c .before .before .before .before .before .before .before .before .before .before .before .before .before .if1 .left, ← c .before .before .before .before .before .before .before .before .before .before .before .find .ensures, c .before .before .before .before .before .before .before .before .before .enum-told .given .1, ← c .before .before .before .before .before .before .before .lowest-free .ensures, ne-eqb _ _ (c .before .before .before .before .before .before .if2 .left), ← c .before .before .before .sum .ensures .0, ← c .before .sum2 .ensures .0, lt-ltb _ _ (c .if3 .taken))
+returns-4 c starts =
+    let at-sum2 = c .before in
+    let at-sum = at-sum2 .before .before in
+    let at-if2 = at-sum .before .before .before in
+    let at-lowest-free = at-if2 .before in
+    let at-enum-told = at-lowest-free .before .before in
+    let at-find = at-enum-told .before .before in
+    let at-if1 = at-find .before .before in
+    let at-outside = at-if1 .before in
+    rw (
+      sym (at-outside .outside .ensures) ∙ at-if1 .if1 .left,
+      ← at-find .find .ensures,
+      at-enum-told .enum-told .given .1,
+      ← at-lowest-free .lowest-free .ensures,
+      ne-eqb _ _ (at-if2 .if2 .left),
+      ← at-sum .sum .ensures .0,
+      ← at-sum2 .sum2 .ensures .0,
+      lt-ltb _ _ (c .if3 .taken),
+    )
 
 mul-numbers : tie.Need-mul-numbers
-mul-numbers c = let h = free-in _ _ (c .before .before .before .before .before .before .before .lowest-free .ensures) (c .before .before .before .before .before .before .if2 .left) in search needs
+mul-numbers c =
+    let h = free-in _ _ (c .before .before .before .before .before .before .before .lowest-free .ensures)
+    (c .before .before .before .before .before .before .if2 .left) in search needs
 
 element-write-numbers : tie.Need-element-write-numbers
-element-write-numbers c = free-in _ _ (c .before .before .before .before .before .before .before .lowest-free .ensures) (c .before .before .before .before .before .before .if2 .left)
+element-write-numbers c =
+    let at-if2 = c .before .before .before .before .before .before in
+    let at-lowest-free = at-if2 .before in
+    free-in _ _ (at-lowest-free .lowest-free .ensures) (at-if2 .if2 .left)
 
 mul-shares : tie.Need-mul-shares
-mul-shares c = let h = free-in _ _ (c .before .before .before .before .before .before .before .lowest-free .ensures) (c .before .before .before .before .before .before .if2 .left) in search needs
+mul-shares c =
+    let h = free-in _ _ (c .before .before .before .before .before .before .before .lowest-free .ensures)
+    (c .before .before .before .before .before .before .if2 .left) in search needs
 
 element-write-shares : tie.Need-element-write-shares
-element-write-shares c = free-in _ _ (c .before .before .before .before .before .before .before .lowest-free .ensures) (c .before .before .before .before .before .before .if2 .left)
+element-write-shares c =
+    let at-if2 = c .before .before .before .before .before .before in
+    let at-lowest-free = at-if2 .before in
+    free-in _ _ (at-lowest-free .lowest-free .ensures) (at-if2 .if2 .left)
 
 returns-5 : tie.Need-returns-5
 unfolding openedIn
-returns-5 c starts = rw (sym (c .before .before .before .before .before .before .before .before .before .before .before .before .before .before .outside .ensures) ∙ c .before .before .before .before .before .before .before .before .before .before .before .before .before .if1 .left, ← c .before .before .before .before .before .before .before .before .before .before .before .find .ensures, c .before .before .before .before .before .before .before .before .before .enum-told .given .1, ← c .before .before .before .before .before .before .before .lowest-free .ensures, ne-eqb _ _ (c .before .before .before .before .before .before .if2 .left), ← c .before .before .before .sum .ensures .0, ← c .before .sum2 .ensures .0, le-ltb _ _ (c .if3 .left))
+returns-5 c starts =
+    let at-sum2 = c .before in
+    let at-sum = at-sum2 .before .before in
+    let at-if2 = at-sum .before .before .before in
+    let at-lowest-free = at-if2 .before in
+    let at-enum-told = at-lowest-free .before .before in
+    let at-find = at-enum-told .before .before in
+    let at-if1 = at-find .before .before in
+    let at-outside = at-if1 .before in
+    rw (
+      sym (at-outside .outside .ensures) ∙ at-if1 .if1 .left,
+      ← at-find .find .ensures,
+      at-enum-told .enum-told .given .1,
+      ← at-lowest-free .lowest-free .ensures,
+      ne-eqb _ _ (at-if2 .if2 .left),
+      ← at-sum .sum .ensures .0,
+      ← at-sum2 .sum2 .ensures .0,
+      le-ltb _ _ (c .if3 .left),
+    )
 
 pub open-in-spec : {M : Type 1} → statement M
 open-in-spec =

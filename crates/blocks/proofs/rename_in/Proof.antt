@@ -21,7 +21,10 @@ enum-told c = search needs
 
 returns-2 : tie.Need-returns-2
 unfolding renamedIn
-returns-2 c = rw (ne-eqb _ _ (c .before .before .before .before .if1 .left), ← c .before .before .find .ensures, c .enum-told .given .1)
+returns-2 c =
+    let at-find = c .before .before in
+    let at-if1 = at-find .before .before in
+    rw (ne-eqb _ _ (at-if1 .if1 .left), ← at-find .find .ensures, c .enum-told .given .1)
 
 find-requires-2 : tie.Need-find-requires-2
 find-requires-2 c κs = search needs
@@ -34,17 +37,33 @@ enum-told-3 c = search needs
 
 returns-3 : tie.Need-returns-3
 unfolding renamedIn
-returns-3 c = rw (ne-eqb _ _ (c .before .before .before .before .before .before .before .before .before .if1 .left), ← c .before .before .before .before .before .before .before .find .ensures, c .before .before .before .before .before .i .given .1, ← c .before .before .find2 .ensures, c .enum-told3 .given .1)
+returns-3 c =
+    let at-find2 = c .before .before in
+    let at-i = at-find2 .before .before .before in
+    let at-find = at-i .before .before in
+    let at-if1 = at-find .before .before in
+    rw (ne-eqb _ _ (at-if1 .if1 .left), ← at-find .find .ensures, at-i .i .given .1, ← at-find2 .find2 .ensures, c .enum-told3 .given .1)
 
 mul-numbers : tie.Need-mul-numbers
-mul-numbers c = let h = found-at _ _ _ (sym (c .before .before .before .before .before .before .before .find .ensures) ∙ c .before .before .before .before .before .i .given .1) .inside in search needs
+mul-numbers c =
+    let h = found-at _ _ _
+    (sym (c .before .before .before .before .before .before .before .find .ensures) ∙ c .before .before .before .before .before .i .given .1) .inside in
+    search needs
 
 element-write-numbers : tie.Need-element-write-numbers
-element-write-numbers c = found-at _ _ _ (sym (c .before .before .before .before .before .before .before .find .ensures) ∙ c .before .before .before .before .before .i .given .1) .inside
+element-write-numbers c =
+    let at-i = c .before .before .before .before .before in
+    let at-find = at-i .before .before in
+    found-at _ _ _ (sym (at-find .find .ensures) ∙ at-i .i .given .1) .inside
 
 returns-4 : tie.Need-returns-4
 unfolding renamedIn
-returns-4 c = rw (ne-eqb _ _ (c .before .before .before .before .before .before .before .before .before .if1 .left), ← c .before .before .before .before .before .before .before .find .ensures, c .before .before .before .before .before .i .given .1, ← c .before .before .find2 .ensures, c .enum-told2 .given .1)
+returns-4 c =
+    let at-find2 = c .before .before in
+    let at-i = at-find2 .before .before .before in
+    let at-find = at-i .before .before in
+    let at-if1 = at-find .before .before in
+    rw (ne-eqb _ _ (at-if1 .if1 .left), ← at-find .find .ensures, at-i .i .given .1, ← at-find2 .find2 .ensures, c .enum-told2 .given .1)
 
 pub rename-in-spec : {M : Type 1} → statement M
 rename-in-spec =

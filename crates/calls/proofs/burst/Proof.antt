@@ -11,16 +11,25 @@ early-requires : tie.Need-early-requires
 early-requires c κs = search needs
 
 returns : tie.Need-returns
-returns c = early-burst _ _ _ (c .before .early .result) (c .before .early .ensures .0) _ _ (c .if1 .taken)
+returns c =
+    let at-early = c .before in
+    early-burst _ _ _ (at-early .early .result) (at-early .early .ensures .0) _ _ (c .if1 .taken)
 
 burst-board-requires : tie.Need-burst-board-requires
-burst-board-requires c κs = c .before .before .early .ensures .1 (c .before .if1 .left)
+burst-board-requires c κs =
+    let at-if1 = c .before in
+    let at-early = at-if1 .before in
+    at-early .early .ensures .1 (at-if1 .if1 .left)
 
 same-length : tie.Need-same-length
 same-length c = search needs
 
 returns-2 : tie.Need-returns-2
-returns-2 c = burst-known _ _ _ (c .before .before .before .before .before .early .ensures .1 (c .before .before .before .before .if1 .left)) _ _ _ (c .before .before .burst-board .ensures)
+returns-2 c =
+    let at-burst-board = c .before .before in
+    let at-if1 = at-burst-board .before .before in
+    let at-early = at-if1 .before in
+    burst-known _ _ _ (at-early .early .ensures .1 (at-if1 .if1 .left)) _ _ _ (at-burst-board .burst-board .ensures)
 
 pub burst-spec : {M : Type 1} → statement M
 burst-spec = tie.close (tie.spec early-requires returns burst-board-requires same-length returns-2)

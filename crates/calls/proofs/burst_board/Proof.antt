@@ -69,11 +69,14 @@ loop-holds c =
     rw (c .numbers-of .ensures) (omega arith, (refl, (omega arith, (start .pre, burst-start _ _ _ _ _))))
 
 sub-t26 : tie.Need-sub-t26 Inv-loop μ-loop
-sub-t26 c = c .before .before .before .loop .inv .1 .1 .0
+sub-t26 c =
+    let at-loop = c .before .before .before in
+    at-loop .loop .inv .1 .1 .0
 
 sub-serve-within : tie.Need-sub-serve-within Inv-loop μ-loop
 sub-serve-within c =
-    let r = c .before .before .before .loop in
+    let at-loop = c .before .before .before in
+    let r = at-loop .loop in
     omega (arith, r .inv .0, r .inv .1 .0)
 
 serve-within-requires : tie.Need-serve-within-requires Inv-loop μ-loop

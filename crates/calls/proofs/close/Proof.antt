@@ -12,13 +12,20 @@ early-requires : tie.Need-early-requires
 early-requires c κs = search needs
 
 returns : tie.Need-returns
-returns c = early-reply _ _ _ (c .before .early .result) (c .before .early .ensures .0) _ (c .if1 .taken)
+returns c =
+    let at-early = c .before in
+    early-reply _ _ _ (at-early .early .result) (at-early .early .ensures .0) _ (c .if1 .taken)
 
 close-block-requires : tie.Need-close-block-requires
-close-block-requires c κs = c .before .early .ensures .1 (c .if1 .left)
+close-block-requires c κs =
+    let at-early = c .before in
+    at-early .early .ensures .1 (c .if1 .left)
 
 returns-2 : tie.Need-returns-2
-returns-2 c = c .close-block .ensures ∙ called-known _ _ _ (c .before .before .early .ensures .1 (c .before .if1 .left)) _
+returns-2 c =
+    let at-if1 = c .before in
+    let at-early = at-if1 .before in
+    c .close-block .ensures ∙ called-known _ _ _ (at-early .early .ensures .1 (at-if1 .if1 .left)) _
 
 pub close-spec : {M : Type 1} → statement M
 close-spec = tie.close (tie.spec early-requires returns close-block-requires returns-2)

@@ -18,10 +18,15 @@ same-length-2 : tie.Need-same-length-2
 same-length-2 c = search needs
 
 returns : tie.Need-returns
-returns c = early-reply _ _ _ (c .before .early .result) (c .before .early .ensures .0) _ (c .if1 .taken)
+returns c =
+    let at-early = c .before in
+    early-reply _ _ _ (at-early .early .result) (at-early .early .ensures .0) _ (c .if1 .taken)
 
 take-record-requires : tie.Need-take-record-requires
-take-record-requires c κs = c .before .before .before .early .ensures .1 (c .before .before .if1 .left)
+take-record-requires c κs =
+    let at-if1 = c .before .before in
+    let at-early = at-if1 .before in
+    at-early .early .ensures .1 (at-if1 .if1 .left)
 
 same-length-3 : tie.Need-same-length-3
 same-length-3 c = search needs
@@ -30,7 +35,11 @@ same-length-4 : tie.Need-same-length-4
 same-length-4 c = search needs
 
 returns-2 : tie.Need-returns-2
-returns-2 c = c .before .before .before .before .take-record .ensures ∙ called-known _ _ _ (c .before .before .before .before .before .before .before .before .early .ensures .1 (c .before .before .before .before .before .before .before .if1 .left)) _
+returns-2 c =
+    let at-take-record = c .before .before .before .before in
+    let at-if1 = at-take-record .before .before .before in
+    let at-early = at-if1 .before in
+    at-take-record .take-record .ensures ∙ called-known _ _ _ (at-early .early .ensures .1 (at-if1 .if1 .left)) _
 
 pub record-spec : {M : Type 1} → statement M
 record-spec =

@@ -11,13 +11,20 @@ early-requires : tie.Need-early-requires
 early-requires c κs = search needs
 
 returns : tie.Need-returns
-returns c = early-serve _ _ _ (c .before .early .result) (c .before .early .ensures .0) (c .if1 .taken)
+returns c =
+    let at-early = c .before in
+    early-serve _ _ _ (at-early .early .result) (at-early .early .ensures .0) (c .if1 .taken)
 
 serve-board-requires : tie.Need-serve-board-requires
-serve-board-requires c κs = c .before .early .ensures .1 (c .if1 .left)
+serve-board-requires c κs =
+    let at-early = c .before in
+    at-early .early .ensures .1 (c .if1 .left)
 
 returns-2 : tie.Need-returns-2
-returns-2 c = serve-known _ _ _ (c .before .before .early .ensures .1 (c .before .if1 .left)) _ (c .serve-board .ensures)
+returns-2 c =
+    let at-if1 = c .before in
+    let at-early = at-if1 .before in
+    serve-known _ _ _ (at-early .early .ensures .1 (at-if1 .if1 .left)) _ (c .serve-board .ensures)
 
 pub serve-spec : {M : Type 1} → statement M
 serve-spec = tie.close (tie.spec early-requires returns serve-board-requires returns-2)

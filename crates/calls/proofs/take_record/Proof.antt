@@ -1,10 +1,11 @@
+-- `calls::take_record` meets its contract, by the law of a record on a board that is known to be good. Assumes nothing.
 use Rattle.taking.proofs.Answers.{record-needs, record-known}
 use borrow.Author.Needs.{needs}
 use Rattle.calls.proofs.take_record.Statement.{statement}
 use Rattle.calls.proofs.take_record.Tie as tie
 
 record-in-requires : tie.Need-record-in-requires
-record-in-requires c κs = record-needs _ _ _ (c .before .before .before .before .before .before .before .before .before .before .before .before .before .before .before .before .before .before .before .before .pre)
+record-in-requires c κs = search record-needs
 
 same-length : tie.Need-same-length
 same-length c = search needs
@@ -13,7 +14,7 @@ same-length-2 : tie.Need-same-length-2
 same-length-2 c = search needs
 
 returns : tie.Need-returns
-returns c = record-known _ _ _ (c .before .before .before .before .before .before .before .before .before .before .before .before .before .before .before .before .before .before .before .before .before .before .before .before .before .pre) _ _ _ _ (c .before .before .before .before .record-in .ensures)
+returns c = record-known _ _ _ (search needs) _ _ _ _ (c .before .before .before .before .record-in .ensures)
 
 pub take-record-spec : {M : Type 1} → statement M
 take-record-spec = tie.close (tie.spec record-in-requires same-length same-length-2 returns)

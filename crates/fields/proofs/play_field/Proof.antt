@@ -62,7 +62,10 @@ same-length-2 : tie.Need-same-length-2
 same-length-2 c = search needs
 
 returns : tie.Need-returns
-returns c = serve-plays _ (c .before .before .before .before .before .before .before .before .before .before .before .before .before .before .before .before .before .before .pre .0) _ _ _ _ (search needs) _ _ (c .play-serve .ensures)
+returns c =
+    serve-plays _
+    (c .before .before .before .before .before .before .before .before .before .before .before .before .before .before .before .before .before .before .pre .0)
+    _ _ _ _ (search needs) _ _ (c .play-serve .ensures)
 
 enum-told-2 : tie.Need-enum-told-2
 enum-told-2 c = search needs
@@ -94,7 +97,9 @@ returns-6 : tie.Need-returns-6
 returns-6 c = passed-plays _ (search needs) _ _ _ _ (search needs) refl refl
 
 returns-7 : tie.Need-returns-7
-returns-7 c = absurd (true≢false (subst (λ (e : Event). isL e ≡ false) (c .enum-told3 .given .1) (c .before .before .before .before .pre .1 .1)))
+returns-7 c =
+    let at-start = c .before .before .before .before in
+    absurd (true≢false (subst (λ (e : Event). isL e ≡ false) (c .enum-told3 .given .1) (at-start .pre .1 .1)))
 
 pub play-field-spec : {M : Type 1} → statement M
 play-field-spec =

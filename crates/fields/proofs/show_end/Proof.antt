@@ -22,13 +22,19 @@ put-long-requires : tie.Need-put-long-requires
 put-long-requires c κs = search needs
 
 returns : tie.Need-returns
-returns c = rw (c .before .before .enum-told .given .1) (c .put-end .ensures)
+returns c =
+    let at-enum-told = c .before .before in
+    rw (at-enum-told .enum-told .given .1) (c .put-end .ensures)
 
 returns-2 : tie.Need-returns-2
-returns-2 c = rw (c .before .before .before .end .given .1) (c .put-broken .ensures)
+returns-2 c =
+    let at-end = c .before .before .before in
+    rw (at-end .end .given .1) (c .put-broken .ensures)
 
 returns-3 : tie.Need-returns-3
-returns-3 c = rw (c .before .before .enum-told2 .given .1) (c .put-long .ensures)
+returns-3 c =
+    let at-enum-told2 = c .before .before in
+    rw (at-enum-told2 .enum-told2 .given .1) (c .put-long .ensures)
 
 pub show-end-spec : {M : Type 1} → statement M
 show-end-spec =

@@ -9,31 +9,53 @@ put-refused-requires : tie.Need-put-refused-requires
 put-refused-requires c κs = search needs
 
 returns : tie.Need-returns
-returns c = rw (ne-eqb _ _ (c .before .before .if1 .taken)) (c .put-refused .ensures)
+returns c =
+    let at-if1 = c .before .before in
+    rw (ne-eqb _ _ (at-if1 .if1 .taken)) (c .put-refused .ensures)
 
 mul-put-out : tie.Need-mul-put-out
-mul-put-out c = omega (arith, c .before .before .before .before .pre .1 .1 (c .before .if1 .left) .0)
+mul-put-out c =
+    let at-if1 = c .before in
+    let at-start = at-if1 .before .before .before in
+    omega (arith, at-start .pre .1 .1 (at-if1 .if1 .left) .0)
 
 element-copy-out-put-out : tie.Need-element-copy-out-put-out
-element-copy-out-put-out c = omega (arith, c .before .before .before .before .pre .1 .1 (c .before .if1 .left) .0)
+element-copy-out-put-out c =
+    let at-if1 = c .before in
+    let at-start = at-if1 .before .before .before in
+    omega (arith, at-start .pre .1 .1 (at-if1 .if1 .left) .0)
 
 mul-put-out-2 : tie.Need-mul-put-out-2
-mul-put-out-2 c = omega (arith, c .before .before .before .before .before .pre .1 .1 (c .before .before .if1 .left) .1)
+mul-put-out-2 c =
+    let at-if1 = c .before .before in
+    let at-start = at-if1 .before .before .before in
+    omega (arith, at-start .pre .1 .1 (at-if1 .if1 .left) .1)
 
 shared-slice-read-put-out : tie.Need-shared-slice-read-put-out
-shared-slice-read-put-out c = omega (arith, c .before .before .before .before .before .before .pre .1 .1 (c .before .before .before .if1 .left) .1, c .before .before .before .before .before .before .pre .0)
+shared-slice-read-put-out c =
+    let at-if1 = c .before .before .before in
+    let at-start = at-if1 .before .before .before in
+    omega (arith, at-start .pre .1 .1 (at-if1 .if1 .left) .1, at-start .pre .0)
 
 mul-put-out-3 : tie.Need-mul-put-out-3
-mul-put-out-3 c = omega (arith, c .before .before .before .before .before .before .pre .1 .1 (c .before .before .before .if1 .left) .1)
+mul-put-out-3 c =
+    let at-if1 = c .before .before .before in
+    let at-start = at-if1 .before .before .before in
+    omega (arith, at-start .pre .1 .1 (at-if1 .if1 .left) .1)
 
 shared-slice-read-put-out-2 : tie.Need-shared-slice-read-put-out-2
-shared-slice-read-put-out-2 c = omega (arith, c .before .before .before .before .before .before .before .pre .1 .1 (c .before .before .before .before .if1 .left) .1, c .before .before .before .before .before .before .before .pre .1 .0)
+shared-slice-read-put-out-2 c =
+    let at-if1 = c .before .before .before .before in
+    let at-start = at-if1 .before .before .before in
+    omega (arith, at-start .pre .1 .1 (at-if1 .if1 .left) .1, at-start .pre .1 .0)
 
 put-out-requires : tie.Need-put-out-requires
 put-out-requires c κs = search needs
 
 returns-2 : tie.Need-returns-2
-returns-2 c = rw (eq-eqb _ _ (c .before .before .before .before .before .if1 .left)) (c .put-out .ensures)
+returns-2 c =
+    let at-if1 = c .before .before .before .before .before in
+    rw (eq-eqb _ _ (at-if1 .if1 .left)) (c .put-out .ensures)
 
 pub show-serve-spec : {M : Type 1} → statement M
 show-serve-spec =

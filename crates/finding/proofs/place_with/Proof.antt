@@ -29,7 +29,11 @@ element-copy-out-if1 c = search needs
 
 returns : tie.Need-returns Inv-loop μ-loop
 unfolding placeWith
-returns c = sym (least-found (λ j. eqb (getD (now (c .before .before .before .before .args .numbers)) j 0) (c .before .before .before .before .args .number)) 64 (c .before .before .before .loop .i) (omega arith) (c .before .before .before .loop .inv .1) (eq-eqb _ _ (c .if1 .taken)))
+returns c =
+    let at-loop = c .before .before .before in
+    let at-start = at-loop .before in
+    sym (least-found (λ j. eqb (getD (now (at-start .args .numbers)) j 0) (at-start .args .number)) 64 (at-loop .loop .i) (omega arith) (at-loop .loop .inv .1)
+    (eq-eqb _ _ (c .if1 .taken)))
 
 add-i : tie.Need-add-i Inv-loop μ-loop
 add-i c = search needs
@@ -38,11 +42,21 @@ loop-less : tie.Need-loop-less Inv-loop μ-loop
 loop-less c = search needs
 
 loop-again : tie.Need-loop-again Inv-loop μ-loop
-loop-again c = (omega arith, below-next (λ j. eqb (getD (now (c .before .before .before .before .args .numbers)) j 0) (c .before .before .before .before .args .number) ≡ false) (c .before .before .before .loop .i) (c .before .before .before .loop .inv .1) (ne-eqb _ _ (c .if1 .left)))
+loop-again c =
+    let at-loop = c .before .before .before in
+    let at-start = at-loop .before in (
+      omega arith,
+      below-next (λ j. eqb (getD (now (at-start .args .numbers)) j 0) (at-start .args .number) ≡ false) (at-loop .loop .i) (at-loop .loop .inv .1)
+          (ne-eqb _ _ (c .if1 .left)),
+    )
 
 returns-2 : tie.Need-returns-2 Inv-loop μ-loop
 unfolding placeWith
-returns-2 c = let e : c .before .loop .i ≡ 64 = omega arith in e ∙ sym (least-none (λ j. eqb (getD (now (c .before .before .args .numbers)) j 0) (c .before .before .args .number)) 64 (λ j h. c .before .loop .inv .1 j (omega arith)))
+returns-2 c =
+    let at-start = c .before .before in
+    let e : c .before .loop .i ≡ 64 =
+    omega arith in e ∙ sym (least-none (λ j. eqb (getD (now (at-start .args .numbers)) j 0) (at-start .args .number)) 64
+    (λ j h. c .before .loop .inv .1 j (omega arith)))
 
 pub place-with-spec : {M : Type 1} → statement M
 place-with-spec =

@@ -19,7 +19,14 @@ ring-entry-requires : tie.Need-ring-entry-requires
 ring-entry-requires c κs = omega (arith, c .depth .ensures, depth-positive)
 
 returns : tie.Need-returns
-returns c = (rw (← c .before .before .first-entry .ensures, ← c .before .depth .ensures) (c .ring-entry .ensures), rw (c .ring-entry .ensures, c .before .before .first-entry .ensures, c .before .depth .ensures) (lane-inside (c .before .before .before .args .place) (c .before .before .before .args .start) (c .before .before .before .args .j) (c .before .before .before .pre)))
+returns c =
+    let at-depth = c .before in
+    let at-first-entry = at-depth .before in
+    let at-start = at-first-entry .before in (
+      rw (← at-first-entry .first-entry .ensures, ← at-depth .depth .ensures) (c .ring-entry .ensures),
+      rw (c .ring-entry .ensures, at-first-entry .first-entry .ensures, at-depth .depth .ensures)
+          (lane-inside (at-start .args .place) (at-start .args .start) (at-start .args .j) (at-start .pre)),
+    )
 
 pub entry-spec : {M : Type 1} → statement M
 entry-spec = tie.close (tie.spec first-entry-requires depth-requires ring-entry-requires returns)

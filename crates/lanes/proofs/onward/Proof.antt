@@ -15,7 +15,9 @@ ring-on-requires : tie.Need-ring-on-requires
 ring-on-requires c κs = omega (arith, c .depth .ensures, depth-positive)
 
 returns : tie.Need-returns
-returns c = rw (← c .before .depth .ensures) (c .ring-on .ensures)
+returns c =
+    let at-depth = c .before in
+    rw (← at-depth .depth .ensures) (c .ring-on .ensures)
 
 pub onward-spec : {M : Type 1} → statement M
 onward-spec = tie.close (tie.spec depth-requires ring-on-requires returns)

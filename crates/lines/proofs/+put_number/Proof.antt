@@ -1,4 +1,5 @@
--- `lines::put_number` meets its contract. A number of several digits is the one without its last digit, and that digit; the number falls at each call. Assumes nothing.
+-- `lines::put_number` meets its contract. A number of several digits is the one without its last digit, and that digit; the number falls at
+-- each call. Assumes nothing.
 use mathlib.Core.Path.{ap}
 use mathlib.Core.List.{_∷_, []}
 use Prim.Native.Nat.{ℕ, _/_, _<_}
@@ -49,7 +50,10 @@ put-number-put-byte-requires : (t : ℕ) → put-number-lts.Need-put-byte-requir
   put-number-below t,
   put-number.Post,
 ) (put-number-at t) put-number.Post
-put-number-put-byte-requires t c κs = omega (arith, ap length (decimal-one (c .before .before .before .args .n) (omega (arith, c .before .if1 .taken))), c .before .before .before .pre .1)
+put-number-put-byte-requires t c κs =
+    let at-if1 = c .before in
+    let at-start = at-if1 .before .before in
+    omega (arith, ap length (decimal-one (at-start .args .n) (omega (arith, at-if1 .if1 .taken))), at-start .pre .1)
 
 put-number-same-length : (t : ℕ) → put-number-lts.Need-same-length (
   put-byte-reads.Asked,
@@ -65,7 +69,11 @@ put-number-returns : (t : ℕ) → put-number-lts.Need-returns (
   put-number-below t,
   put-number.Post,
 ) (put-number-at t) put-number.Post
-put-number-returns t c = rw (decimal-one (c .before .before .before .before .before .before .args .n) (omega (arith, c .before .before .before .before .if1 .taken))) (c .before .before .put-byte .ensures)
+put-number-returns t c =
+    let at-put-byte = c .before .before in
+    let at-if1 = at-put-byte .before .before in
+    let at-start = at-if1 .before .before in
+    rw (decimal-one (at-start .args .n) (omega (arith, at-if1 .if1 .taken))) (at-put-byte .put-byte .ensures)
 
 put-number-put-number-requires : (t : ℕ) → put-number-lts.Need-put-number-requires (
   put-byte-reads.Asked,
@@ -73,7 +81,12 @@ put-number-put-number-requires : (t : ℕ) → put-number-lts.Need-put-number-re
   put-number-below t,
   put-number.Post,
 ) (put-number-at t) put-number.Post
-put-number-put-number-requires t c κs = (omega (arith, c .before .before .before .pre .0, c .before .if1 .left), omega (arith, decimal-more-length (c .before .before .before .args .n) (omega (arith, c .before .if1 .left)), c .before .before .before .pre .1))
+put-number-put-number-requires t c κs =
+    let at-if1 = c .before in
+    let at-start = at-if1 .before .before in (
+      omega (arith, at-start .pre .0, at-if1 .if1 .left),
+      omega (arith, decimal-more-length (at-start .args .n) (omega (arith, at-if1 .if1 .left)), at-start .pre .1),
+    )
 
 put-number-add-put-byte-2 : (t : ℕ) → put-number-lts.Need-add-put-byte-2 (
   put-byte-reads.Asked,
@@ -97,7 +110,17 @@ put-number-put-byte-requires-2 : (t : ℕ) → put-number-lts.Need-put-byte-requ
   put-number-below t,
   put-number.Post,
 ) (put-number-at t) put-number.Post
-put-number-put-byte-requires-2 t c κs = omega (arith, decimal-more-length (c .before .before .before .before .before .before .before .args .n) (omega (arith, c .before .before .before .before .before .if1 .left)), c .before .before .before .before .before .before .before .pre .1, c .before .before .before .put-number .ensures .ends, c .before .before .before .put-number .kept .0)
+put-number-put-byte-requires-2 t c κs =
+    let at-put-number = c .before .before .before in
+    let at-if1 = at-put-number .before .before in
+    let at-start = at-if1 .before .before in
+    omega (
+      arith,
+      decimal-more-length (at-start .args .n) (omega (arith, at-if1 .if1 .left)),
+      at-start .pre .1,
+      at-put-number .put-number .ensures .ends,
+      at-put-number .put-number .kept .0,
+    )
 
 put-number-same-length-2 : (t : ℕ) → put-number-lts.Need-same-length-2 (
   put-byte-reads.Asked,
@@ -113,7 +136,13 @@ put-number-returns-2 : (t : ℕ) → put-number-lts.Need-returns-2 (
   put-number-below t,
   put-number.Post,
 ) (put-number-at t) put-number.Post
-put-number-returns-2 t c = rw (decimal-more (c .before .before .before .before .before .before .before .before .before .before .args .n) (omega (arith, c .before .before .before .before .before .before .before .before .if1 .left))) (then (decimal (c .before .before .before .before .before .before .before .before .before .before .args .n / 10)) (_ ∷ []) (c .before .before .before .before .before .before .put-number .ensures) (c .before .before .put-byte2 .ensures))
+put-number-returns-2 t c =
+    let at-put-byte2 = c .before .before in
+    let at-put-number = at-put-byte2 .before .before .before .before in
+    let at-if1 = at-put-number .before .before in
+    let at-start = at-if1 .before .before in
+    rw (decimal-more (at-start .args .n) (omega (arith, at-if1 .if1 .left)))
+    (then (decimal (at-start .args .n / 10)) (_ ∷ []) (at-put-number .put-number .ensures) (at-put-byte2 .put-byte2 .ensures))
 
 pub +put-number-spec : {M : Type 1} → statement M
 +put-number-spec = close μ-put-number λ t. put-number-lts.spec (

@@ -17,11 +17,15 @@ slice-aggregate-put-line-2 c = search needs
 
 returns : tie.Need-returns
 unfolding brokenLine
-returns c = (c .put-line .ensures, omega (arith, c .put-line .ensures .counts, broken-fits (c .before .before .before .before .args .offset) (c .before .before .before .before .fits .offset .fits)))
+returns c =
+    let at-start = c .before .before .before .before in
+    (c .put-line .ensures, omega (arith, c .put-line .ensures .counts, broken-fits (at-start .args .offset) (at-start .fits .offset .fits)))
 
 put-line-requires : tie.Need-put-line-requires
 unfolding brokenLine
-put-line-requires c κs = let n : length (now (c .before .before .before .args .line)) ≡ 64 = search needs in omega (arith, broken-fits (c .before .before .before .args .offset) (c .before .before .before .fits .offset .fits))
+put-line-requires c κs =
+    let n : length (now (c .before .before .before .args .line)) ≡ 64 = search needs in
+    omega (arith, broken-fits (c .before .before .before .args .offset) (c .before .before .before .fits .offset .fits))
 
 pub put-broken-spec : {M : Type 1} → statement M
 put-broken-spec =

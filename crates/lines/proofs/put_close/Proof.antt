@@ -17,11 +17,25 @@ slice-aggregate-put-line-2 c = search needs
 
 returns : tie.Need-returns
 unfolding closeLine
-returns c = (c .put-line .ensures, omega (arith, c .put-line .ensures .counts, close-fits (c .before .before .before .before .args .block) (c .before .before .before .before .args .code) (c .before .before .before .before .fits .block .fits) (c .before .before .before .before .fits .code .fits)))
+returns c =
+    let at-start = c .before .before .before .before in (
+      c .put-line .ensures,
+      omega (
+        arith,
+        c .put-line .ensures .counts,
+        close-fits (at-start .args .block) (at-start .args .code) (at-start .fits .block .fits) (at-start .fits .code .fits),
+      ),
+    )
 
 put-line-requires : tie.Need-put-line-requires
 unfolding closeLine
-put-line-requires c κs = let n : length (now (c .before .before .before .args .line)) ≡ 64 = search needs in omega (arith, close-fits (c .before .before .before .args .block) (c .before .before .before .args .code) (c .before .before .before .fits .block .fits) (c .before .before .before .fits .code .fits))
+put-line-requires c κs =
+    let n : length (now (c .before .before .before .args .line)) ≡ 64 = search needs in
+    omega (
+      arith,
+      close-fits (c .before .before .before .args .block) (c .before .before .before .args .code) (c .before .before .before .fits .block .fits)
+          (c .before .before .before .fits .code .fits),
+    )
 
 pub put-close-spec : {M : Type 1} → statement M
 put-close-spec =

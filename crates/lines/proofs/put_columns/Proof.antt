@@ -17,10 +17,22 @@ abbrev μ-loop : tie.MeasureT-loop
 μ-loop line₀ at numbers next₀ i₀ line next i = length numbers - i
 
 loop-holds : tie.Need-loop-holds Inv-loop μ-loop
-loop-holds c = (omega arith, (refl, columns-none _ (now (c .before .before .args .numbers)) (c .before .before .args .at)))
+loop-holds c =
+    let at-start = c .before .before in
+    (omega arith, (refl, columns-none _ (now (at-start .args .numbers)) (at-start .args .at)))
 
 put-byte-requires : tie.Need-put-byte-requires Inv-loop μ-loop
-put-byte-requires c κs = omega (arith, columns-room (now (c .before .before .before .before .before .args .numbers)) (c .before .before .loop .i) (c .before .loop-test .taken), c .before .before .loop .inv .1 .0, c .before .before .loop .inv .1 .1 .ends, c .before .before .before .before .before .pre)
+put-byte-requires c κs =
+    let at-loop-test = c .before in
+    let at-loop = at-loop-test .before in
+    let at-start = at-loop .before .before .before in
+    omega (
+      arith,
+      columns-room (now (at-start .args .numbers)) (at-loop .loop .i) (at-loop-test .loop-test .taken),
+      at-loop .loop .inv .1 .0,
+      at-loop .loop .inv .1 .1 .ends,
+      at-start .pre,
+    )
 
 mul-put-number : tie.Need-mul-put-number Inv-loop μ-loop
 mul-put-number c = search needs
@@ -29,7 +41,20 @@ shared-slice-read-put-number : tie.Need-shared-slice-read-put-number Inv-loop μ
 shared-slice-read-put-number c = search needs
 
 put-number-requires : tie.Need-put-number-requires Inv-loop μ-loop
-put-number-requires c κs = omega (arith, columns-room (now (c .before .before .before .before .before .before .before .before .before .before .args .numbers)) (c .before .before .before .before .before .before .before .loop .i) (c .before .before .before .before .before .before .loop-test .taken), c .before .before .before .before .before .before .before .loop .inv .1 .0, c .before .before .before .before .before .before .before .loop .inv .1 .1 .ends, c .before .before .before .before .put-byte .ensures .ends, c .before .before .before .before .put-byte .kept .0, c .before .before .before .before .before .before .before .before .before .before .pre)
+put-number-requires c κs =
+    let at-put-byte = c .before .before .before .before in
+    let at-loop-test = at-put-byte .before .before in
+    let at-loop = at-loop-test .before in
+    let at-start = at-loop .before .before .before in
+    omega (
+      arith,
+      columns-room (now (at-start .args .numbers)) (at-loop .loop .i) (at-loop-test .loop-test .taken),
+      at-loop .loop .inv .1 .0,
+      at-loop .loop .inv .1 .1 .ends,
+      at-put-byte .put-byte .ensures .ends,
+      at-put-byte .put-byte .kept .0,
+      at-start .pre,
+    )
 
 add-i : tie.Need-add-i Inv-loop μ-loop
 add-i c = search needs
@@ -38,13 +63,29 @@ loop-less : tie.Need-loop-less Inv-loop μ-loop
 loop-less c = search needs
 
 loop-again : tie.Need-loop-again Inv-loop μ-loop
-loop-again c = (omega arith, (c .before .before .put-number .kept .0 ∙ c .before .before .before .before .before .before .before .put-byte .kept .0 ∙ c .before .before .before .before .before .before .before .before .before .before .loop .inv .1 .0, columns-on (now (c .before .before .before .before .before .before .before .before .before .before .before .before .before .args .numbers)) (c .before .before .before .before .before .before .before .before .before .before .loop .i) (c .before .before .before .before .before .before .before .before .before .loop-test .taken) (c .before .before .before .before .before .before .before .before .before .before .loop .inv .1 .1) (c .before .before .before .before .before .before .before .put-byte .ensures) (c .before .before .put-number .ensures)))
+loop-again c =
+    let at-put-number = c .before .before in
+    let at-put-byte = at-put-number .before .before .before .before .before in
+    let at-loop-test = at-put-byte .before .before in
+    let at-loop = at-loop-test .before in
+    let at-start = at-loop .before .before .before in (
+      omega arith,
+      (
+        at-put-number .put-number .kept .0 ∙ at-put-byte .put-byte .kept .0 ∙ at-loop .loop .inv .1 .0,
+        columns-on (now (at-start .args .numbers)) (at-loop .loop .i) (at-loop-test .loop-test .taken) (at-loop .loop .inv .1 .1)
+            (at-put-byte .put-byte .ensures)
+            (at-put-number .put-number .ensures),
+      ),
+    )
 
 same-length : tie.Need-same-length Inv-loop μ-loop
 same-length c = search needs
 
 returns : tie.Need-returns Inv-loop μ-loop
-returns c = columns-all (now (c .before .before .before .before .args .numbers)) (c .before .loop .i) (omega arith) (c .before .loop .inv .1 .1)
+returns c =
+    let at-loop = c .before in
+    let at-start = at-loop .before .before .before in
+    columns-all (now (at-start .args .numbers)) (at-loop .loop .i) (omega arith) (at-loop .loop .inv .1 .1)
 
 pub put-columns-spec : {M : Type 1} → statement M
 put-columns-spec =

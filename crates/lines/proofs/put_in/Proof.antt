@@ -17,11 +17,25 @@ slice-aggregate-put-line-2 c = search needs
 
 returns : tie.Need-returns
 unfolding inLine
-returns c = (c .put-line .ensures, omega (arith, c .put-line .ensures .counts, in-fits (c .before .before .before .before .args .number) (c .before .before .before .before .args .code) (c .before .before .before .before .fits .number .fits) (c .before .before .before .before .fits .code .fits)))
+returns c =
+    let at-start = c .before .before .before .before in (
+      c .put-line .ensures,
+      omega (
+        arith,
+        c .put-line .ensures .counts,
+        in-fits (at-start .args .number) (at-start .args .code) (at-start .fits .number .fits) (at-start .fits .code .fits),
+      ),
+    )
 
 put-line-requires : tie.Need-put-line-requires
 unfolding inLine
-put-line-requires c κs = let n : length (now (c .before .before .before .args .line)) ≡ 64 = search needs in omega (arith, in-fits (c .before .before .before .args .number) (c .before .before .before .args .code) (c .before .before .before .fits .number .fits) (c .before .before .before .fits .code .fits))
+put-line-requires c κs =
+    let n : length (now (c .before .before .before .args .line)) ≡ 64 = search needs in
+    omega (
+      arith,
+      in-fits (c .before .before .before .args .number) (c .before .before .before .args .code) (c .before .before .before .fits .number .fits)
+          (c .before .before .before .fits .code .fits),
+    )
 
 pub put-in-spec : {M : Type 1} → statement M
 put-in-spec =

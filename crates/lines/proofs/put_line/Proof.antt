@@ -7,19 +7,48 @@ use Rattle.lines.proofs.put_line.Statement.{statement}
 use Rattle.lines.proofs.put_line.Tie as tie
 
 put-text-requires : tie.Need-put-text-requires
-put-text-requires c κs = omega (arith, line-length (now (c .before .before .before .before .args .word)) (now (c .before .before .before .before .args .numbers)), c .before .before .before .before .pre)
+put-text-requires c κs =
+    let at-start = c .before .before .before .before in
+    omega (arith, line-length (now (at-start .args .word)) (now (at-start .args .numbers)), at-start .pre)
 
 put-columns-requires : tie.Need-put-columns-requires
-put-columns-requires c κs = omega (arith, line-length (now (c .before .before .before .before .before .before .before .before .args .word)) (now (c .before .before .before .before .before .before .before .before .args .numbers)), c .before .before .before .put-text .ensures .ends, c .before .before .before .put-text .kept .0, c .before .before .before .before .before .before .before .before .pre)
+put-columns-requires c κs =
+    let at-put-text = c .before .before .before in
+    let at-start = at-put-text .before .before .before .before .before in
+    omega (
+      arith,
+      line-length (now (at-start .args .word)) (now (at-start .args .numbers)),
+      at-put-text .put-text .ensures .ends,
+      at-put-text .put-text .kept .0,
+      at-start .pre,
+    )
 
 put-byte-requires : tie.Need-put-byte-requires
-put-byte-requires c κs = omega (arith, line-length (now (c .before .before .before .before .before .before .before .before .before .before .before .before .args .word)) (now (c .before .before .before .before .before .before .before .before .before .before .before .before .args .numbers)), c .before .before .before .before .before .before .before .put-text .ensures .ends, c .before .before .before .before .before .before .before .put-text .kept .0, c .before .before .before .put-columns .ensures .ends, c .before .before .before .put-columns .kept .0, c .before .before .before .before .before .before .before .before .before .before .before .before .pre)
+put-byte-requires c κs =
+    let at-put-columns = c .before .before .before in
+    let at-put-text = at-put-columns .before .before .before .before in
+    let at-start = at-put-text .before .before .before .before .before in
+    omega (
+      arith,
+      line-length (now (at-start .args .word)) (now (at-start .args .numbers)),
+      at-put-text .put-text .ensures .ends,
+      at-put-text .put-text .kept .0,
+      at-put-columns .put-columns .ensures .ends,
+      at-put-columns .put-columns .kept .0,
+      at-start .pre,
+    )
 
 same-length : tie.Need-same-length
 same-length c = search needs
 
 returns : tie.Need-returns
-returns c = line-all (now (c .before .before .before .before .before .before .before .before .before .before .before .before .before .before .before .args .word)) (now (c .before .before .before .before .before .before .before .before .before .before .before .before .before .before .before .args .numbers)) (c .before .before .before .before .before .before .before .before .before .before .before .before .before .before .before .pre) (c .before .before .before .before .before .before .before .before .before .before .put-text .ensures) (c .before .before .before .before .before .before .put-columns .ensures) (c .before .before .put-byte .ensures)
+returns c =
+    let at-put-byte = c .before .before in
+    let at-put-columns = at-put-byte .before .before .before .before in
+    let at-put-text = at-put-columns .before .before .before .before in
+    let at-start = at-put-text .before .before .before .before .before in
+    line-all (now (at-start .args .word)) (now (at-start .args .numbers)) (at-start .pre) (at-put-text .put-text .ensures)
+    (at-put-columns .put-columns .ensures) (at-put-byte .put-byte .ensures)
 
 pub put-line-spec : {M : Type 1} → statement M
 put-line-spec =

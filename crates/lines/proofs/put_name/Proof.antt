@@ -17,11 +17,26 @@ slice-aggregate-put-line-2 c = search needs
 
 returns : tie.Need-returns
 unfolding nameLine
-returns c = (c .put-line .ensures, omega (arith, c .put-line .ensures .counts, name-fits (c .before .before .before .before .args .old) (c .before .before .before .before .args .new) (c .before .before .before .before .args .code) (c .before .before .before .before .fits .old .fits) (c .before .before .before .before .fits .new .fits) (c .before .before .before .before .fits .code .fits)))
+returns c =
+    let at-start = c .before .before .before .before in (
+      c .put-line .ensures,
+      omega (
+        arith,
+        c .put-line .ensures .counts,
+        name-fits (at-start .args .old) (at-start .args .new) (at-start .args .code) (at-start .fits .old .fits) (at-start .fits .new .fits)
+            (at-start .fits .code .fits),
+      ),
+    )
 
 put-line-requires : tie.Need-put-line-requires
 unfolding nameLine
-put-line-requires c κs = let n : length (now (c .before .before .before .args .line)) ≡ 64 = search needs in omega (arith, name-fits (c .before .before .before .args .old) (c .before .before .before .args .new) (c .before .before .before .args .code) (c .before .before .before .fits .old .fits) (c .before .before .before .fits .new .fits) (c .before .before .before .fits .code .fits))
+put-line-requires c κs =
+    let n : length (now (c .before .before .before .args .line)) ≡ 64 = search needs in
+    omega (
+      arith,
+      name-fits (c .before .before .before .args .old) (c .before .before .before .args .new) (c .before .before .before .args .code)
+          (c .before .before .before .fits .old .fits) (c .before .before .before .fits .new .fits) (c .before .before .before .fits .code .fits),
+    )
 
 pub put-name-spec : {M : Type 1} → statement M
 put-name-spec =

@@ -17,11 +17,25 @@ slice-aggregate-put-line-2 c = search needs
 
 returns : tie.Need-returns
 unfolding openLine
-returns c = (c .put-line .ensures, omega (arith, c .put-line .ensures .counts, open-fits (c .before .before .before .before .args .block) (c .before .before .before .before .args .code) (c .before .before .before .before .fits .block .fits) (c .before .before .before .before .fits .code .fits)))
+returns c =
+    let at-start = c .before .before .before .before in (
+      c .put-line .ensures,
+      omega (
+        arith,
+        c .put-line .ensures .counts,
+        open-fits (at-start .args .block) (at-start .args .code) (at-start .fits .block .fits) (at-start .fits .code .fits),
+      ),
+    )
 
 put-line-requires : tie.Need-put-line-requires
 unfolding openLine
-put-line-requires c κs = let n : length (now (c .before .before .before .args .line)) ≡ 64 = search needs in omega (arith, open-fits (c .before .before .before .args .block) (c .before .before .before .args .code) (c .before .before .before .fits .block .fits) (c .before .before .before .fits .code .fits))
+put-line-requires c κs =
+    let n : length (now (c .before .before .before .args .line)) ≡ 64 = search needs in
+    omega (
+      arith,
+      open-fits (c .before .before .before .args .block) (c .before .before .before .args .code) (c .before .before .before .fits .block .fits)
+          (c .before .before .before .fits .code .fits),
+    )
 
 pub put-open-spec : {M : Type 1} → statement M
 put-open-spec =

@@ -17,11 +17,15 @@ slice-aggregate-put-line-2 c = search needs
 
 returns : tie.Need-returns
 unfolding refusedLine
-returns c = (c .put-line .ensures, omega (arith, c .put-line .ensures .counts, refused-fits (c .before .before .before .before .args .code) (c .before .before .before .before .fits .code .fits)))
+returns c =
+    let at-start = c .before .before .before .before in
+    (c .put-line .ensures, omega (arith, c .put-line .ensures .counts, refused-fits (at-start .args .code) (at-start .fits .code .fits)))
 
 put-line-requires : tie.Need-put-line-requires
 unfolding refusedLine
-put-line-requires c κs = let n : length (now (c .before .before .before .args .line)) ≡ 64 = search needs in omega (arith, refused-fits (c .before .before .before .args .code) (c .before .before .before .fits .code .fits))
+put-line-requires c κs =
+    let n : length (now (c .before .before .before .args .line)) ≡ 64 = search needs in
+    omega (arith, refused-fits (c .before .before .before .args .code) (c .before .before .before .fits .code .fits))
 
 pub put-refused-spec : {M : Type 1} → statement M
 put-refused-spec =

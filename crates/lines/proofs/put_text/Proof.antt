@@ -35,7 +35,17 @@ loop-less : tie.Need-loop-less Inv-loop μ-loop
 loop-less c = search needs
 
 loop-again : tie.Need-loop-again Inv-loop μ-loop
-loop-again c = (omega arith, (rw length-set (c .before .before .loop .inv .1 .0), text-more _ (c .before .before .loop .line) (now (c .before .before .before .args .text)) (c .before .before .before .args .at) (c .before .before .loop .i) (c .before .loop-test .taken) (c .before .before .loop .inv .1 .1)))
+loop-again c =
+    let at-loop-test = c .before in
+    let at-loop = at-loop-test .before in
+    let at-start = at-loop .before in (
+      omega arith,
+      (
+        rw length-set (at-loop .loop .inv .1 .0),
+        text-more _ (at-loop .loop .line) (now (at-start .args .text)) (at-start .args .at) (at-loop .loop .i) (at-loop-test .loop-test .taken)
+            (at-loop .loop .inv .1 .1),
+      ),
+    )
 
 add-result : tie.Need-add-result Inv-loop μ-loop
 add-result c = search needs
@@ -44,7 +54,10 @@ same-length : tie.Need-same-length Inv-loop μ-loop
 same-length c = search needs
 
 returns : tie.Need-returns Inv-loop μ-loop
-returns c = text-all _ (c .before .loop .line) (now (c .before .before .args .text)) (c .before .before .args .at) (c .before .loop .i) (omega arith) (c .before .loop .inv .1 .1)
+returns c =
+    let at-loop = c .before in
+    let at-start = at-loop .before in
+    text-all _ (at-loop .loop .line) (now (at-start .args .text)) (at-start .args .at) (at-loop .loop .i) (omega arith) (at-loop .loop .inv .1 .1)
 
 pub put-text-spec : {M : Type 1} → statement M
 put-text-spec =

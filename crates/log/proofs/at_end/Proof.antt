@@ -9,11 +9,15 @@ past-l-requires c κs = search needs
 
 returns : tie.Need-returns
 unfolding atEnd
-returns c = rw (← c .before .past-l .ensures, c .if1 .taken)
+returns c =
+    let at-past-l = c .before in
+    rw (← at-past-l .past-l .ensures, c .if1 .taken)
 
 returns-2 : tie.Need-returns-2
 unfolding atEnd
-returns-2 c = rw (← c .before .past-l .ensures, c .if1 .left)
+returns-2 c =
+    let at-past-l = c .before in
+    rw (← at-past-l .past-l .ensures, c .if1 .left)
 
 pub at-end-spec : {M : Type 1} → statement M
 at-end-spec = tie.close (tie.spec past-l-requires returns returns-2)

@@ -19,31 +19,87 @@ enum-told : tie.Need-enum-told
 enum-told c = search needs
 
 returns : tie.Need-returns
-returns c = field-cut (now (c .before .before .before .before .args .log)) (c .before .before .before .before .args .at) (c .before .before .before .before .args .stage) (sym (c .before .before .frame-at .ensures) ∙ c .enum-told .given .1)
+returns c =
+    let at-frame-at = c .before .before in
+    let at-start = at-frame-at .before .before in
+    field-cut (now (at-start .args .log)) (at-start .args .at) (at-start .args .stage) (sym (at-frame-at .frame-at .ensures) ∙ c .enum-told .given .1)
 
 right-length-requires : tie.Need-right-length-requires
 right-length-requires c κs = search needs
 
 returns-2 : tie.Need-returns-2
-returns-2 c = field-wrong (now (c .before .before .before .before .before .before .before .args .log)) (c .before .before .before .before .before .before .before .args .at) (c .before .before .before .tag .given .0 .0) (c .before .before .before .tag .given .0 .1 .0) (c .before .before .before .before .before .before .before .args .stage) (sym (c .before .before .before .before .before .frame-at .ensures) ∙ c .before .before .before .tag .given .1) (sym (c .before .right-length .ensures) ∙ not-true _ (c .if1 .taken))
+returns-2 c =
+    let at-right-length = c .before in
+    let at-tag = at-right-length .before .before in
+    let at-frame-at = at-tag .before .before in
+    let at-start = at-frame-at .before .before in
+    field-wrong (now (at-start .args .log)) (at-start .args .at) (at-tag .tag .given .0 .0) (at-tag .tag .given .0 .1 .0) (at-start .args .stage)
+    (sym (at-frame-at .frame-at .ensures) ∙ at-tag .tag .given .1) (sym (at-right-length .right-length .ensures) ∙ not-true _ (c .if1 .taken))
 
 add-value : tie.Need-add-value
-add-value c = omega (arith, frame-fits (now (c .before .before .before .before .before .before .before .args .log)) (c .before .before .before .before .before .before .before .args .at) (c .before .before .before .tag .given .0 .0) (c .before .before .before .tag .given .0 .1 .0) (sym (c .before .before .before .before .before .frame-at .ensures) ∙ c .before .before .before .tag .given .1))
+add-value c =
+    let at-tag = c .before .before .before in
+    let at-frame-at = at-tag .before .before in
+    let at-start = at-frame-at .before .before in
+    omega (
+      arith,
+      frame-fits (now (at-start .args .log)) (at-start .args .at) (at-tag .tag .given .0 .0) (at-tag .tag .given .0 .1 .0)
+          (sym (at-frame-at .frame-at .ensures) ∙ at-tag .tag .given .1),
+    )
 
 add-next : tie.Need-add-next
-add-next c = omega (arith, frame-fits (now (c .before .before .before .before .before .before .before .args .log)) (c .before .before .before .before .before .before .before .args .at) (c .before .before .before .tag .given .0 .0) (c .before .before .before .tag .given .0 .1 .0) (sym (c .before .before .before .before .before .frame-at .ensures) ∙ c .before .before .before .tag .given .1))
+add-next c =
+    let at-tag = c .before .before .before in
+    let at-frame-at = at-tag .before .before in
+    let at-start = at-frame-at .before .before in
+    omega (
+      arith,
+      frame-fits (now (at-start .args .log)) (at-start .args .at) (at-tag .tag .given .0 .0) (at-tag .tag .given .0 .1 .0)
+          (sym (at-frame-at .frame-at .ensures) ∙ at-tag .tag .given .1),
+    )
 
 event-at-requires : tie.Need-event-at-requires
-event-at-requires c κs = omega (arith, frame-fits (now (c .before .before .before .before .before .before .before .args .log)) (c .before .before .before .before .before .before .before .args .at) (c .before .before .before .tag .given .0 .0) (c .before .before .before .tag .given .0 .1 .0) (sym (c .before .before .before .before .before .frame-at .ensures) ∙ c .before .before .before .tag .given .1), right-room (c .before .before .before .tag .given .0 .0) (c .before .before .before .tag .given .0 .1 .0) (sym (c .before .right-length .ensures) ∙ not-false _ (c .if1 .left)))
+event-at-requires c κs =
+    let at-right-length = c .before in
+    let at-tag = at-right-length .before .before in
+    let at-frame-at = at-tag .before .before in
+    let at-start = at-frame-at .before .before in
+    omega (
+      arith,
+      frame-fits (now (at-start .args .log)) (at-start .args .at) (at-tag .tag .given .0 .0) (at-tag .tag .given .0 .1 .0)
+          (sym (at-frame-at .frame-at .ensures) ∙ at-tag .tag .given .1),
+      right-room (at-tag .tag .given .0 .0) (at-tag .tag .given .0 .1 .0) (sym (at-right-length .right-length .ensures) ∙ not-false _ (c .if1 .left)),
+    )
 
 in-turn-requires : tie.Need-in-turn-requires
 in-turn-requires c κs = search needs
 
 returns-3 : tie.Need-returns-3
-returns-3 c = rw (c .before .before .event-at .ensures) (field-whole (now (c .before .before .before .before .before .before .before .before .before .before .args .log)) (c .before .before .before .before .before .before .before .before .before .before .args .at) (c .before .before .before .before .before .before .tag .given .0 .0) (c .before .before .before .before .before .before .tag .given .0 .1 .0) (c .before .before .before .before .before .before .before .before .before .before .args .stage) (sym (c .before .before .before .before .before .before .before .before .frame-at .ensures) ∙ c .before .before .before .before .before .before .tag .given .1) (sym (c .before .before .before .before .right-length .ensures) ∙ not-false _ (c .before .before .before .if1 .left)) (ap (λ e. inTurn e (c .before .before .before .before .before .before .before .before .before .before .args .stage)) (sym (c .before .before .event-at .ensures)) ∙ sym (c .before .in-turn .ensures) ∙ c .if2 .taken))
+returns-3 c =
+    let at-in-turn = c .before in
+    let at-event-at = at-in-turn .before in
+    let at-if1 = at-event-at .before in
+    let at-right-length = at-if1 .before in
+    let at-tag = at-right-length .before .before in
+    let at-frame-at = at-tag .before .before in
+    let at-start = at-frame-at .before .before in
+    rw (at-event-at .event-at .ensures)
+    (field-whole (now (at-start .args .log)) (at-start .args .at) (at-tag .tag .given .0 .0) (at-tag .tag .given .0 .1 .0) (at-start .args .stage)
+    (sym (at-frame-at .frame-at .ensures) ∙ at-tag .tag .given .1) (sym (at-right-length .right-length .ensures) ∙ not-false _ (at-if1 .if1 .left))
+    (ap (λ e. inTurn e (at-start .args .stage)) (sym (at-event-at .event-at .ensures)) ∙ sym (at-in-turn .in-turn .ensures) ∙ c .if2 .taken))
 
 returns-4 : tie.Need-returns-4
-returns-4 c = field-early (now (c .before .before .before .before .before .before .before .before .before .before .args .log)) (c .before .before .before .before .before .before .before .before .before .before .args .at) (c .before .before .before .before .before .before .tag .given .0 .0) (c .before .before .before .before .before .before .tag .given .0 .1 .0) (c .before .before .before .before .before .before .before .before .before .before .args .stage) (sym (c .before .before .before .before .before .before .before .before .frame-at .ensures) ∙ c .before .before .before .before .before .before .tag .given .1) (sym (c .before .before .before .before .right-length .ensures) ∙ not-false _ (c .before .before .before .if1 .left)) (ap (λ e. inTurn e (c .before .before .before .before .before .before .before .before .before .before .args .stage)) (sym (c .before .before .event-at .ensures)) ∙ sym (c .before .in-turn .ensures) ∙ c .if2 .left)
+returns-4 c =
+    let at-in-turn = c .before in
+    let at-event-at = at-in-turn .before in
+    let at-if1 = at-event-at .before in
+    let at-right-length = at-if1 .before in
+    let at-tag = at-right-length .before .before in
+    let at-frame-at = at-tag .before .before in
+    let at-start = at-frame-at .before .before in
+    field-early (now (at-start .args .log)) (at-start .args .at) (at-tag .tag .given .0 .0) (at-tag .tag .given .0 .1 .0) (at-start .args .stage)
+    (sym (at-frame-at .frame-at .ensures) ∙ at-tag .tag .given .1) (sym (at-right-length .right-length .ensures) ∙ not-false _ (at-if1 .if1 .left))
+    (ap (λ e. inTurn e (at-start .args .stage)) (sym (at-event-at .event-at .ensures)) ∙ sym (at-in-turn .in-turn .ensures) ∙ c .if2 .left)
 
 pub field-at-spec : {M : Type 1} → statement M
 field-at-spec =

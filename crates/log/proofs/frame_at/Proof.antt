@@ -12,7 +12,9 @@ bytes-left-requires c κs = search needs
 
 returns : tie.Need-returns
 unfolding frameAt isFramed
-returns c = rw (← c .before .bytes-left .ensures, lt-leb _ _ (c .if1 .taken))
+returns c =
+    let at-bytes-left = c .before in
+    rw (← at-bytes-left .bytes-left .ensures, lt-leb _ _ (c .if1 .taken))
 
 add-number16 : tie.Need-add-number16
 add-number16 c = search needs
@@ -25,14 +27,33 @@ cast-n c = search needs
 
 returns-2 : tie.Need-returns-2
 unfolding frameAt isFramed
-returns-2 c = rw (← c .before .before .before .bytes-left .ensures, le-leb _ _ (c .before .before .if1 .left), ← c .before .number16 .ensures, lt-leb (c .before .number16 .result) (c .before .before .before .bytes-left .result - 3) (omega (arith, c .if2 .taken)))
+returns-2 c =
+    let at-number16 = c .before in
+    let at-if1 = at-number16 .before in
+    let at-bytes-left = at-if1 .before in
+    rw (
+      ← at-bytes-left .bytes-left .ensures,
+      le-leb _ _ (at-if1 .if1 .left),
+      ← at-number16 .number16 .ensures,
+      lt-leb (at-number16 .number16 .result) (at-bytes-left .bytes-left .result - 3) (omega (arith, c .if2 .taken)),
+    )
 
 shared-slice-read-t9 : tie.Need-shared-slice-read-t9
 shared-slice-read-t9 c = search needs
 
 returns-3 : tie.Need-returns-3
 unfolding frameAt isFramed
-returns-3 c = rw (← c .before .before .before .before .bytes-left .ensures, le-leb _ _ (c .before .before .before .if1 .left), ← c .before .before .number16 .ensures, le-leb (c .before .before .number16 .result) (c .before .before .before .before .bytes-left .result - 3) (omega (arith, c .before .if2 .left)))
+returns-3 c =
+    let at-if2 = c .before in
+    let at-number16 = at-if2 .before in
+    let at-if1 = at-number16 .before in
+    let at-bytes-left = at-if1 .before in
+    rw (
+      ← at-bytes-left .bytes-left .ensures,
+      le-leb _ _ (at-if1 .if1 .left),
+      ← at-number16 .number16 .ensures,
+      le-leb (at-number16 .number16 .result) (at-bytes-left .bytes-left .result - 3) (omega (arith, at-if2 .if2 .left)),
+    )
 
 pub frame-at-spec : {M : Type 1} → statement M
 frame-at-spec =

@@ -31,10 +31,22 @@ wide-requires : tie.Need-wide-requires Inv-loop μ-loop
 wide-requires c κs = search needs
 
 mul-sum : tie.Need-mul-sum Inv-loop μ-loop
-mul-sum c = shift-fits (now (c .before .before .before .before .before .args .log)) (c .before .before .before .before .before .args .at) (c .before .before .before .before .before .args .n - c .before .before .before .loop .left) (c .before .before .before .loop .sum) (λ (j : ℕ). c .before .before .before .before .shared-slice-known .given j .fits) (omega (arith, c .before .before .loop-test .taken, c .before .before .before .loop .inv .0, c .before .before .before .before .before .pre)) (c .before .before .before .loop .inv .1)
+mul-sum c =
+    let at-loop-test = c .before .before in
+    let at-loop = at-loop-test .before in
+    let at-start = at-loop .before .before in
+    shift-fits (now (at-start .args .log)) (at-start .args .at) (at-start .args .n - c .before .before .before .loop .left) (at-loop .loop .sum)
+    (λ (j : ℕ). c .before .before .before .before .shared-slice-known .given j .fits)
+    (omega (arith, at-loop-test .loop-test .taken, at-loop .loop .inv .0, at-start .pre)) (at-loop .loop .inv .1)
 
 add-sum : tie.Need-add-sum Inv-loop μ-loop
-add-sum c = turn-fits (now (c .before .before .before .before .before .args .log)) (c .before .before .before .before .before .args .at) (c .before .before .before .before .before .args .n - c .before .before .before .loop .left) (c .before .before .before .loop .sum) (c .wide .result) (λ (j : ℕ). c .before .before .before .before .shared-slice-known .given j .fits) (omega (arith, c .before .before .loop-test .taken, c .before .before .before .loop .inv .0, c .before .before .before .before .before .pre)) (c .before .before .before .loop .inv .1) (c .wide .ensures .1)
+add-sum c =
+    let at-loop-test = c .before .before in
+    let at-loop = at-loop-test .before in
+    let at-start = at-loop .before .before in
+    turn-fits (now (at-start .args .log)) (at-start .args .at) (at-start .args .n - c .before .before .before .loop .left) (at-loop .loop .sum)
+    (c .wide .result) (λ (j : ℕ). c .before .before .before .before .shared-slice-known .given j .fits)
+    (omega (arith, at-loop-test .loop-test .taken, at-loop .loop .inv .0, at-start .pre)) (at-loop .loop .inv .1) (c .wide .ensures .1)
 
 sub-left : tie.Need-sub-left Inv-loop μ-loop
 sub-left c = search needs
@@ -43,10 +55,28 @@ loop-less : tie.Need-loop-less Inv-loop μ-loop
 loop-less c = search needs
 
 loop-again : tie.Need-loop-again Inv-loop μ-loop
-loop-again c = let q : c .before .before .before .before .before .args .n - (c .before .before .before .loop .left - 1) ≡ c .before .before .before .before .before .args .n - c .before .before .before .loop .left + 1 = omega (arith, c .before .before .loop-test .taken, c .before .before .before .loop .inv .0) in (omega arith, rw (q, number-more (now (c .before .before .before .before .before .args .log)) (c .before .before .before .before .before .args .at) (c .before .before .before .before .before .args .n - c .before .before .before .loop .left), ← c .before .before .before .loop .inv .1, c .wide .ensures .0))
+loop-again c =
+    let at-loop-test = c .before .before in
+    let at-loop = at-loop-test .before in
+    let at-start = at-loop .before .before in
+    let q : c .before .before .before .before .before .args .n - (at-loop .loop .left - 1)
+    ≡ c .before .before .before .before .before .args .n - c .before .before .before .loop .left + 1 =
+    omega (arith, at-loop-test .loop-test .taken, at-loop .loop .inv .0) in (
+      omega arith,
+      rw (
+        q,
+        number-more (now (at-start .args .log)) (at-start .args .at) (at-start .args .n - c .before .before .before .loop .left),
+        ← at-loop .loop .inv .1,
+        c .wide .ensures .0,
+      ),
+    )
 
 returns : tie.Need-returns Inv-loop μ-loop
-returns c = let q : c .before .before .before .args .n - c .before .loop .left ≡ c .before .before .before .args .n = omega arith in c .before .loop .inv .1 ∙ ap (numberAt (now (c .before .before .before .args .log)) (c .before .before .before .args .at)) q
+returns c =
+    let at-loop = c .before in
+    let at-start = at-loop .before .before in
+    let q : c .before .before .before .args .n - c .before .loop .left ≡ c .before .before .before .args .n =
+    omega arith in at-loop .loop .inv .1 ∙ ap (numberAt (now (at-start .args .log)) (at-start .args .at)) q
 
 pub number-spec : {M : Type 1} → statement M
 number-spec =

@@ -11,7 +11,9 @@ number-requires : tie.Need-number-requires
 number-requires c κs = search needs
 
 cast-result : tie.Need-cast-result
-cast-result c = omega (arith, c .number .ensures, number-lt (now (c .before .before .args .log)) (c .before .before .args .at) 2 (λ (j : ℕ). c .before .shared-slice-known .given j .fits))
+cast-result c =
+    let at-start = c .before .before in
+    omega (arith, c .number .ensures, number-lt (now (at-start .args .log)) (at-start .args .at) 2 (λ (j : ℕ). c .before .shared-slice-known .given j .fits))
 
 returns : tie.Need-returns
 returns c = search needs

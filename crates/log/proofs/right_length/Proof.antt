@@ -15,11 +15,18 @@ length-of-requires c κs = search needs
 
 returns-2 : tie.Need-returns-2
 unfolding rightLength
-returns-2 c = rw (lt-leb _ _ (c .before .before .before .if1 .left), le-leb _ _ (c .before .before .if2 .taken), c .before .if3 .taken, c .length-of .ensures)
+returns-2 c =
+    let at-if3 = c .before in
+    let at-if2 = at-if3 .before in
+    let at-if1 = at-if2 .before in
+    rw (lt-leb _ _ (at-if1 .if1 .left), le-leb _ _ (at-if2 .if2 .taken), at-if3 .if3 .taken, c .length-of .ensures)
 
 returns-3 : tie.Need-returns-3
 unfolding rightLength
-returns-3 c = ⊎-elim (λ w. rw (lt-leb _ _ (c .before .if1 .left), le-leb _ _ (w .0 .taken), w .1 .left)) (λ w. rw (lt-leb _ _ (c .before .if1 .left), lt-leb _ _ (w .left))) (c .if2 .came)
+returns-3 c =
+    let at-if1 = c .before in
+    ⊎-elim (λ w. rw (lt-leb _ _ (at-if1 .if1 .left), le-leb _ _ (w .0 .taken), w .1 .left)) (λ w. rw (lt-leb _ _ (at-if1 .if1 .left), lt-leb _ _ (w .left)))
+    (c .if2 .came)
 
 pub right-length-spec : {M : Type 1} → statement M
 right-length-spec = tie.close (tie.spec returns length-of-requires returns-2 returns-3)

@@ -8,10 +8,14 @@ use Rattle.player.proofs.append_front.Statement.{statement}
 use Rattle.player.proofs.append_front.Tie as tie
 
 slice-aggregate-put-text : tie.Need-slice-aggregate-put-text
-slice-aggregate-put-text c = sym (length-take-le _ _ (c .before .before .before .before .pre .0))
+slice-aggregate-put-text c =
+    let at-start = c .before .before .before .before in
+    sym (length-take-le _ _ (at-start .pre .0))
 
 put-text-requires : tie.Need-put-text-requires
-put-text-requires c κs = omega (arith, length-take-le (c .before .before .before .before .args .count) (now (c .before .before .before .before .args .text)) (c .before .before .before .before .pre .0), c .before .before .before .before .pre .1)
+put-text-requires c κs =
+    let at-start = c .before .before .before .before in
+    omega (arith, length-take-le (at-start .args .count) (now (at-start .args .text)) (at-start .pre .0), at-start .pre .1)
 
 same-length : tie.Need-same-length
 same-length c = search needs

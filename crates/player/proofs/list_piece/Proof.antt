@@ -15,7 +15,9 @@ same-length-2 : tie.Need-same-length-2
 same-length-2 c = search needs
 
 returns : tie.Need-returns
-returns c = refused-piece _ _ _ _ _ _ (c .before .unready .ensures .0) (c .if1 .taken)
+returns c =
+    let at-unready = c .before in
+    refused-piece _ _ _ _ _ _ (at-unready .unready .ensures .0) (c .if1 .taken)
 
 past-l-requires : tie.Need-past-l-requires
 past-l-requires c κs = search needs

@@ -65,7 +65,9 @@ same-length-2 c =
     at-loop .loop .inv .good .lens-all ∙ sym (start-of at-loop .pre .good .lens-all)
 
 same-length-3 : tie.Need-same-length-3 Inv-loop μ-loop
-same-length-3 c = c .before .before .loop .inv .same
+same-length-3 c =
+    let at-loop = c .before .before in
+    at-loop .loop .inv .same
 
 returns : tie.Need-returns Inv-loop μ-loop
 returns c =

@@ -9,11 +9,16 @@ open-slot-requires c κs = search needs
 
 send-requires : tie.Need-send-requires
 unfolding opened
-send-requires c κs = rw (← c .before .before .before .before .before .before .before .before .before .open-slot .ensures) at (c .before .before .before .before .before .before .before .before .before .before .before .before .before .before .before .before .before .pre .sends)
+send-requires c κs =
+    let at-open-slot = c .before .before .before .before .before .before .before .before .before in
+    let at-start = at-open-slot .before .before .before .before .before .before .before .before in
+    rw (← at-open-slot .open-slot .ensures) at (at-start .pre .sends)
 
 returns : tie.Need-returns
 unfolding enacted opened
-returns c = rw (← c .before .before .before .before .before .before .before .before .before .before .open-slot .ensures) (c .send .ensures)
+returns c =
+    let at-open-slot = c .before .before .before .before .before .before .before .before .before .before in
+    rw (← at-open-slot .open-slot .ensures) (c .send .ensures)
 
 pub enact-spec : {M : Type 1} → statement M
 enact-spec = tie.close (tie.spec open-slot-requires send-requires returns)

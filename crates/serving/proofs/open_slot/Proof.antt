@@ -15,17 +15,27 @@ element-copy-out-class-of : tie.Need-element-copy-out-class-of
 element-copy-out-class-of c = let h = c .before .pre (c .if1 .left) .inside in search needs
 
 class-of-requires : tie.Need-class-of-requires
-class-of-requires c κs = (c .before .before .pre (c .before .if1 .left) .low, c .before .before .pre (c .before .if1 .left) .high)
+class-of-requires c κs =
+    let at-if1 = c .before in
+    let at-start = at-if1 .before in
+    (at-start .pre (at-if1 .if1 .left) .low, at-start .pre (at-if1 .if1 .left) .high)
 
 cast-k : tie.Need-cast-k
 cast-k c = search needs
 
 begin-requires : tie.Need-begin-requires
-begin-requires c κs = rw (c .before .before .before .before .before .before .class-of .ensures) (c .before .before .before .before .before .before .before .before .before .pre (c .before .before .before .before .before .before .before .before .if1 .left))
+begin-requires c κs =
+    let at-class-of = c .before .before .before .before .before .before in
+    let at-if1 = at-class-of .before .before in
+    let at-start = at-if1 .before in
+    rw (at-class-of .class-of .ensures) (at-start .pre (at-if1 .if1 .left))
 
 returns-2 : tie.Need-returns-2
 unfolding openedSlot
-returns-2 c = rw (eq-eqb _ _ (c .before .before .before .before .before .before .before .before .before .if1 .left), ← c .before .before .before .before .before .before .before .class-of .ensures) (c .begin .ensures)
+returns-2 c =
+    let at-class-of = c .before .before .before .before .before .before .before in
+    let at-if1 = at-class-of .before .before in
+    rw (eq-eqb _ _ (at-if1 .if1 .left), ← at-class-of .class-of .ensures) (c .begin .ensures)
 
 pub open-slot-spec : {M : Type 1} → statement M
 open-slot-spec =

@@ -19,13 +19,20 @@ mul-t28 : tie.Need-mul-t28
 mul-t28 c = omega (arith, c .entry .ensures .1)
 
 shared-slice-read-t31 : tie.Need-shared-slice-read-t31
-shared-slice-read-t31 c = omega (arith, c .before .entry .ensures .1, c .before .before .before .before .pre .table)
+shared-slice-read-t31 c =
+    let at-entry = c .before in
+    let at-start = at-entry .before .before .before in
+    omega (arith, at-entry .entry .ensures .1, at-start .pre .table)
 
 cast-t33 : tie.Need-cast-t33
-cast-t33 c = omega (arith, c .shared-slice-known2 .given (c .before .entry .result))
+cast-t33 c =
+    let at-entry = c .before in
+    omega (arith, c .shared-slice-known2 .given (at-entry .entry .result))
 
 charge-requires : tie.Need-charge-requires
-charge-requires c κs = omega (arith, c .shared-slice-known2 .given (c .before .entry .result))
+charge-requires c κs =
+    let at-entry = c .before in
+    omega (arith, c .shared-slice-known2 .given (at-entry .entry .result))
 
 onward-requires : tie.Need-onward-requires
 onward-requires c κs = search needs
@@ -52,7 +59,11 @@ element-write-counts : tie.Need-element-write-counts
 element-write-counts c = search needs
 
 sub-t33 : tie.Need-sub-t33
-sub-t33 c = rw (c .before .before .before .before .charge .ensures, c .before .before .before .before .before .before .entry .ensures .0) (c .before .before .before .before .before .before .before .before .before .pre .fits)
+sub-t33 c =
+    let at-charge = c .before .before .before .before in
+    let at-entry = at-charge .before .before in
+    let at-start = at-entry .before .before .before in
+    rw (at-charge .charge .ensures, at-entry .entry .ensures .0) (at-start .pre .fits)
 
 mul-class-of : tie.Need-mul-class-of
 mul-class-of c = search needs
@@ -67,25 +78,46 @@ cast-k : tie.Need-cast-k
 cast-k c = search needs
 
 end-empty-requires : tie.Need-end-empty-requires
-end-empty-requires c κs = (omega (arith, c .before .before .before .class-of .ensures, class-le (getD (c .before .before .before .before .before .before .before .before .before .before .before .before .before .before .args .shares .now) (c .before .before .before .before .before .before .before .before .before .before .before .before .before .before .args .place) 0)), c .before .before .before .before .before .before .before .before .before .before .before .before .before .before .pre .time)
+end-empty-requires c κs =
+    let at-class-of = c .before .before .before in
+    let at-start = at-class-of .before .before .before .before .before .before .before .before .before .before .before in
+    (omega (arith, at-class-of .class-of .ensures, class-le (getD (at-start .args .shares .now) (at-start .args .place) 0)), at-start .pre .time)
 
 returns : tie.Need-returns
-returns c = (sent-last _ _ _ _ _ _ _ _ (c .before .before .before .before .before .before .before .before .before .before .before .before .entry .ensures .0) (c .before .before .before .before .before .before .before .before .before .before .charge .ensures) (c .before .before .before .before .before .before .before .before .before .onward .ensures) (c .before .before .before .before .class-of .ensures) (c .before .before .before .if1 .taken) _ (c .end-empty .ensures), lost-last _ _ _ _ _ (c .before .before .before .before .before .before .before .before .before .before .before .before .entry .ensures .0) (c .before .before .before .before .before .before .before .before .before .before .charge .ensures) (c .before .before .before .if1 .taken))
+returns c =
+    let at-if1 = c .before .before .before in
+    let at-class-of = at-if1 .before in
+    let at-onward = at-class-of .before .before .before .before .before in
+    let at-charge = at-onward .before in
+    let at-entry = at-charge .before .before in (
+      sent-last _ _ _ _ _ _ _ _ (at-entry .entry .ensures .0) (at-charge .charge .ensures) (at-onward .onward .ensures) (at-class-of .class-of .ensures)
+          (at-if1 .if1 .taken) _ (c .end-empty .ensures),
+      lost-last _ _ _ _ _ (at-entry .entry .ensures .0) (at-charge .charge .ensures) (at-if1 .if1 .taken),
+    )
 
 entry-requires-2 : tie.Need-entry-requires-2
-entry-requires-2 c κs = c .before .before .before .before .before .before .before .before .before .before .before .before .pre .inside
+entry-requires-2 c κs =
+    let at-start = c .before .before .before .before .before .before .before .before .before .before .before .before in
+    at-start .pre .inside
 
 mul-t28-2 : tie.Need-mul-t28-2
 mul-t28-2 c = omega (arith, c .entry2 .ensures .1)
 
 shared-slice-read-t31-2 : tie.Need-shared-slice-read-t31-2
-shared-slice-read-t31-2 c = omega (arith, c .before .entry2 .ensures .1, c .before .before .before .before .before .before .before .before .before .before .before .before .before .before .pre .table)
+shared-slice-read-t31-2 c =
+    let at-entry2 = c .before in
+    let at-start = at-entry2 .before .before .before .before .before .before .before .before .before .before .before .before .before in
+    omega (arith, at-entry2 .entry2 .ensures .1, at-start .pre .table)
 
 cast-t33-2 : tie.Need-cast-t33-2
-cast-t33-2 c = omega (arith, c .shared-slice-known3 .given (c .before .entry2 .result))
+cast-t33-2 c =
+    let at-entry2 = c .before in
+    omega (arith, c .shared-slice-known3 .given (at-entry2 .entry2 .result))
 
 charge-requires-2 : tie.Need-charge-requires-2
-charge-requires-2 c κs = omega (arith, c .shared-slice-known3 .given (c .before .entry2 .result))
+charge-requires-2 c κs =
+    let at-entry2 = c .before in
+    omega (arith, c .shared-slice-known3 .given (at-entry2 .entry2 .result))
 
 add-t49 : tie.Need-add-t49
 add-t49 c = search needs
@@ -94,13 +126,44 @@ cast-t50 : tie.Need-cast-t50
 cast-t50 c = search needs
 
 returns-2 : tie.Need-returns-2
-returns-2 c = (sent-on _ _ _ _ _ _ _ _ (c .before .before .before .before .before .before .before .before .before .before .before .before .before .before .before .entry .ensures .0) (c .before .before .before .before .before .before .before .before .before .before .before .before .before .charge .ensures) (c .before .before .before .before .before .before .before .before .before .before .before .before .onward .ensures) (c .before .before .before .before .before .before .before .class-of .ensures) _ _ (c .before .before .before .before .before .before .if1 .left) (c .before .before .before .before .before .entry2 .ensures .0) (c .before .before .before .charge2 .ensures) (c .if2 .taken), lost-none _ _ _ (c .before .before .before .before .before .before .if1 .left))
+returns-2 c =
+    let at-charge2 = c .before .before .before in
+    let at-entry2 = at-charge2 .before .before in
+    let at-if1 = at-entry2 .before in
+    let at-class-of = at-if1 .before in
+    let at-onward = at-class-of .before .before .before .before .before in
+    let at-charge = at-onward .before in
+    let at-entry = at-charge .before .before in (
+      sent-on _ _ _ _ _ _ _ _ (at-entry .entry .ensures .0) (at-charge .charge .ensures) (at-onward .onward .ensures) (at-class-of .class-of .ensures) _ _
+          (at-if1 .if1 .left) (at-entry2 .entry2 .ensures .0) (at-charge2 .charge2 .ensures) (c .if2 .taken),
+      lost-none _ _ _ (at-if1 .if1 .left),
+    )
 
 end-waiting-requires : tie.Need-end-waiting-requires
-end-waiting-requires c κs = (c .before .before .before .before .before .before .before .before .before .before .before .before .before .before .before .before .before .before .before .before .before .before .before .before .pre .inside, (omega (arith, c .before .before .before .before .before .before .before .before .before .before .before .before .before .class-of .ensures, class-le (getD (c .before .before .before .before .before .before .before .before .before .before .before .before .before .before .before .before .before .before .before .before .before .before .before .before .args .shares .now) (c .before .before .before .before .before .before .before .before .before .before .before .before .before .before .before .before .before .before .before .before .before .before .before .before .args .place) 0)), (c .before .before .before .before .before .before .before .before .before .before .before .before .before .before .before .before .before .before .before .before .before .before .before .before .pre .time, rw (c .before .before .before .before .before .before .before .before .before .before .before .before .before .class-of .ensures) (c .before .before .before .before .before .before .before .before .before .before .before .before .before .before .before .before .before .before .before .before .before .before .before .before .pre .tail))))
+end-waiting-requires c κs =
+    let at-class-of = c .before .before .before .before .before .before .before .before .before .before .before .before .before in
+    let at-start = at-class-of .before .before .before .before .before .before .before .before .before .before .before in (
+      at-start .pre .inside,
+      (
+        omega (arith, at-class-of .class-of .ensures, class-le (getD (at-start .args .shares .now) (at-start .args .place) 0)),
+        (at-start .pre .time, rw (at-class-of .class-of .ensures) (at-start .pre .tail)),
+      ),
+    )
 
 returns-3 : tie.Need-returns-3
-returns-3 c = (sent-waits _ _ _ _ _ _ _ _ (c .before .before .before .before .before .before .before .before .before .before .before .before .before .before .before .before .before .before .before .before .before .before .entry .ensures .0) (c .before .before .before .before .before .before .before .before .before .before .before .before .before .before .before .before .before .before .before .before .charge .ensures) (c .before .before .before .before .before .before .before .before .before .before .before .before .before .before .before .before .before .before .before .onward .ensures) (c .before .before .before .before .before .before .before .before .before .before .before .before .before .before .class-of .ensures) _ _ (c .before .before .before .before .before .before .before .before .before .before .before .before .before .if1 .left) (c .before .before .before .before .before .before .before .before .before .before .before .before .entry2 .ensures .0) (c .before .before .before .before .before .before .before .before .before .before .charge2 .ensures) (c .before .before .before .before .before .before .before .if2 .left) _ (c .end-waiting .ensures), lost-none _ _ _ (c .before .before .before .before .before .before .before .before .before .before .before .before .before .if1 .left))
+returns-3 c =
+    let at-if2 = c .before .before .before .before .before .before .before in
+    let at-charge2 = at-if2 .before .before .before in
+    let at-entry2 = at-charge2 .before .before in
+    let at-if1 = at-entry2 .before in
+    let at-class-of = at-if1 .before in
+    let at-onward = at-class-of .before .before .before .before .before in
+    let at-charge = at-onward .before in
+    let at-entry = at-charge .before .before in (
+      sent-waits _ _ _ _ _ _ _ _ (at-entry .entry .ensures .0) (at-charge .charge .ensures) (at-onward .onward .ensures) (at-class-of .class-of .ensures) _ _
+          (at-if1 .if1 .left) (at-entry2 .entry2 .ensures .0) (at-charge2 .charge2 .ensures) (at-if2 .if2 .left) _ (c .end-waiting .ensures),
+      lost-none _ _ _ (at-if1 .if1 .left),
+    )
 
 pub send-spec : {M : Type 1} → statement M
 send-spec =

@@ -21,7 +21,11 @@ stay-requires-2 : tie.Need-stay-requires-2
 stay-requires-2 c κs = search needs
 
 returns : tie.Need-returns
-returns c = within-full _ _ _ _ _ _ _ _ (sym (c .before .before .before .before .before .choose .ensures) ∙ c .before .before .before .chosen2 .given .1) _ (c .before .if1 .taken) (c .stay2 .ensures)
+returns c =
+    let at-if1 = c .before in
+    let at-chosen2 = at-if1 .before .before in
+    let at-choose = at-chosen2 .before .before in
+    within-full _ _ _ _ _ _ _ _ (sym (at-choose .choose .ensures) ∙ at-chosen2 .chosen2 .given .1) _ (at-if1 .if1 .taken) (c .stay2 .ensures)
 
 mul-entry : tie.Need-mul-entry
 mul-entry c =
@@ -52,17 +56,22 @@ mul-t31 c = omega (arith, c .entry .ensures .1)
 
 shared-slice-read-t34 : tie.Need-shared-slice-read-t34
 shared-slice-read-t34 c =
+    let at-entry = c .before in
     let at-chosen2 = c .before .before .before .before .before in
     let at-choose = at-chosen2 .before .before in
     let start = at-choose .before .before .before in
     let read = can-read _ _ _ _ _ _ (start .pre .enacts _ _ (sym (at-choose .choose .ensures) ∙ at-chosen2 .chosen2 .given .1)) in
-    omega (arith, c .before .entry .ensures .1, read .1)
+    omega (arith, at-entry .entry .ensures .1, read .1)
 
 cast-t36 : tie.Need-cast-t36
-cast-t36 c = omega (arith, c .shared-slice-known2 .given (c .before .entry .result))
+cast-t36 c =
+    let at-entry = c .before in
+    omega (arith, c .shared-slice-known2 .given (at-entry .entry .result))
 
 charged-requires : tie.Need-charged-requires
-charged-requires c κs = omega (arith, c .shared-slice-known2 .given (c .before .entry .result))
+charged-requires c κs =
+    let at-entry = c .before in
+    omega (arith, c .shared-slice-known2 .given (at-entry .entry .result))
 
 stay-requires-3 : tie.Need-stay-requires-3
 stay-requires-3 c κs = search needs
@@ -88,7 +97,10 @@ enact-requires c κs =
     start .pre .enacts _ _ (sym (at-choose .choose .ensures) ∙ at-chosen2 .chosen2 .given .1)
 
 returns-3 : tie.Need-returns-3
-returns-3 c = within-stop _ _ _ _ _ _ _ _ (sym (c .before .before .before .before .choose .ensures) ∙ c .before .before .chosen .given .1) (c .stay .ensures)
+returns-3 c =
+    let at-chosen = c .before .before in
+    let at-choose = at-chosen .before .before in
+    within-stop _ _ _ _ _ _ _ _ (sym (at-choose .choose .ensures) ∙ at-chosen .chosen .given .1) (c .stay .ensures)
 
 returns-4 : tie.Need-returns-4
 returns-4 c =

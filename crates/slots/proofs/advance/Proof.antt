@@ -28,7 +28,10 @@ shr-if1-2 : tie.Need-shr-if1-2 Inv-loop μ-loop
 shr-if1-2 c = search needs
 
 returns : tie.Need-returns Inv-loop μ-loop
-returns c = sym (c .before .before .loop .inv .1 ∙ turn-stop _ _ _ _ _ (c .before .loop-test .taken) (c .if1 .taken))
+returns c =
+    let at-loop-test = c .before in
+    let at-loop = at-loop-test .before in
+    sym (at-loop .loop .inv .1 ∙ turn-stop _ _ _ _ _ (at-loop-test .loop-test .taken) (c .if1 .taken))
 
 mul-held : tie.Need-mul-held Inv-loop μ-loop
 mul-held c = search needs
@@ -52,10 +55,19 @@ loop-less : tie.Need-loop-less Inv-loop μ-loop
 loop-less c = search needs
 
 loop-again : tie.Need-loop-again Inv-loop μ-loop
-loop-again c = (omega (arith, c .before .before .before .loop-test .taken), c .before .before .before .before .loop .inv .1 ∙ turn-on _ _ _ _ _ (c .before .before .before .loop-test .taken) (c .before .before .if1 .left) ∙ ⊎-elim (λ w. rw (w .2, w .1 .ensures, ne-eqb _ _ (w .0 .taken))) (λ w. rw (w .1, eq-eqb _ _ (w .0 .left))) (c .if2 .came))
+loop-again c =
+    let at-if1 = c .before .before in
+    let at-loop-test = at-if1 .before in
+    let at-loop = at-loop-test .before in (
+      omega (arith, at-loop-test .loop-test .taken),
+      at-loop .loop .inv .1 ∙ turn-on _ _ _ _ _ (at-loop-test .loop-test .taken) (at-if1 .if1 .left)
+          ∙ ⊎-elim (λ w. rw (w .2, w .1 .ensures, ne-eqb _ _ (w .0 .taken))) (λ w. rw (w .1, eq-eqb _ _ (w .0 .left))) (c .if2 .came),
+    )
 
 returns-2 : tie.Need-returns-2 Inv-loop μ-loop
-returns-2 c = let z : 17 - c .before .loop .k ≡ 0 = omega (arith, c .loop-test .left) in sym (c .before .loop .inv .1 ∙ turn-out _ _ _ _ _ _ z)
+returns-2 c =
+    let at-loop = c .before in
+    let z : 17 - c .before .loop .k ≡ 0 = omega (arith, c .loop-test .left) in sym (at-loop .loop .inv .1 ∙ turn-out _ _ _ _ _ _ z)
 
 pub advance-spec : {M : Type 1} → statement M
 advance-spec =

@@ -15,7 +15,9 @@ advance-requires : tie.Need-advance-requires
 advance-requires c κs = search needs
 
 leave-requires : tie.Need-leave-requires
-leave-requires c κs = (c .before .before .before .before .before .before .pre .inside, omega (arith, c .before .before .before .before .before .before .pre .class, class-le (getD (c .before .before .before .before .before .before .args .shares .now) (c .before .before .before .before .before .before .args .place) 0)))
+leave-requires c κs =
+    let at-start = c .before .before .before .before .before .before in
+    (at-start .pre .inside, omega (arith, at-start .pre .class, class-le (getD (at-start .args .shares .now) (at-start .args .place) 0)))
 
 mul-ready : tie.Need-mul-ready
 mul-ready c = search needs
@@ -25,7 +27,12 @@ element-write-ready c = search needs
 
 still-pending-requires : tie.Need-still-pending-requires
 unfolding leftLinks
-still-pending-requires c κs = (omega (arith, c .before .before .before .before .before .before .before .before .before .pre .class, class-le (getD (c .before .before .before .before .before .before .before .before .before .args .shares .now) (c .before .before .before .before .before .before .before .before .before .args .place) 0)), rw (ap (λ (l : Links). l .heads) (c .before .before .leave .ensures)) (set-bound (c .before .before .before .before .before .before .before .before .before .args .heads .now) (c .before .before .before .before .before .before .before .before .before .args .k) _ 64 (c .before .before .before .before .before .before .before .before .before .pre .behind)))
+still-pending-requires c κs =
+    let at-leave = c .before .before in
+    let at-start = at-leave .before .before .before .before .before .before .before in (
+      omega (arith, at-start .pre .class, class-le (getD (at-start .args .shares .now) (at-start .args .place) 0)),
+      rw (ap (λ (l : Links). l .heads) (at-leave .leave .ensures)) (set-bound (at-start .args .heads .now) (at-start .args .k) _ 64 (at-start .pre .behind)),
+    )
 
 mul-credit : tie.Need-mul-credit
 mul-credit c = search needs
@@ -34,7 +41,10 @@ element-copy-out-credit : tie.Need-element-copy-out-credit
 element-copy-out-credit c = search needs
 
 cast-credit : tie.Need-cast-credit
-cast-credit c = let h : c .before .before .before .before .before .before .before .before .before .before .before .args .k < 17 = omega (arith, c .before .before .before .before .before .before .before .before .before .before .before .pre .class, class-le (getD (c .before .before .before .before .before .before .before .before .before .before .before .args .shares .now) (c .before .before .before .before .before .before .before .before .before .before .before .args .place) 0)) in omega arith
+cast-credit c =
+    let at-start = c .before .before .before .before .before .before .before .before .before .before .before in
+    let h : c .before .before .before .before .before .before .before .before .before .before .before .args .k < 17 =
+    omega (arith, at-start .pre .class, class-le (getD (at-start .args .shares .now) (at-start .args .place) 0)) in omega arith
 
 credit-requires : tie.Need-credit-requires
 credit-requires c κs = search needs
@@ -47,11 +57,12 @@ element-copy-out-t34 c = search needs
 
 add-t34 : tie.Need-add-t34
 add-t34 c =
+    let at-credit = c .before .before .before in
     let start = c .before .before .before .before .before .before .before .before .before .before .before .before .before .before .before in
     let most = start .args .largest in
     let share = getD (start .args .shares .now) (start .args .place) 0 in
     let under = credit-under most share (start .pre .high) (most-pos most (start .pre .least)) in
-    omega (arith, under, charge-small most (start .pre .most), c .before .before .before .credit .ensures, start .pre .owed)
+    omega (arith, under, charge-small most (start .pre .most), at-credit .credit .ensures, start .pre .owed)
 
 mul-deficits : tie.Need-mul-deficits
 mul-deficits c = search needs
@@ -62,9 +73,11 @@ element-write-deficits c = search needs
 returns : tie.Need-returns
 unfolding beganAt
 returns c =
+    let at-leave = c .before .before .before .before .before .before .before .before in
+    let at-advance = at-leave .before .before .before .before in
     rw (
-      ← c .before .before .before .before .before .before .before .before .before .before .before .before .advance .ensures,
-      ← c .before .before .before .before .before .before .before .before .leave .ensures,
+      ← at-advance .advance .ensures,
+      ← at-leave .leave .ensures,
       c .before .before .before .before .before .still-pending .ensures,
       c .before .before .before .credit .ensures,
     )

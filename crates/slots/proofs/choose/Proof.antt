@@ -13,27 +13,64 @@ returns c = rw (ne-eqb _ _ (c .if1 .taken))
 
 returns-2 : tie.Need-returns-2
 unfolding choice
-returns-2 c = rw (eq-eqb _ _ (c .before .if1 .left), eq-eqb _ _ (c .if2 .taken))
+returns-2 c =
+    let at-if1 = c .before in
+    rw (eq-eqb _ _ (at-if1 .if1 .left), eq-eqb _ _ (c .if2 .taken))
 
 chosen-class-requires : tie.Need-chosen-class-requires
 chosen-class-requires c κs = search needs
 
 slot-clock-requires : tie.Need-slot-clock-requires
-slot-clock-requires c κs = (rw (c .chosen-class .ensures) (c .before .before .before .pre .class (c .before .before .if1 .left) (c .before .if2 .left)), c .before .before .before .pre .time)
+slot-clock-requires c κs =
+    let at-if2 = c .before in
+    let at-if1 = at-if2 .before in
+    let at-start = at-if1 .before in
+    (rw (c .chosen-class .ensures) (at-start .pre .class (at-if1 .if1 .left) (at-if2 .if2 .left)), at-start .pre .time)
 
 returns-3 : tie.Need-returns-3
 unfolding choice
-returns-3 c = rw (eq-eqb _ _ (c .before .before .before .before .if1 .left), ne-eqb _ _ (c .before .before .before .if2 .left), ← c .before .before .chosen-class .ensures, ← c .before .slot-clock .ensures, le-leb _ _ (c .if3 .taken))
+returns-3 c =
+    let at-slot-clock = c .before in
+    let at-chosen-class = at-slot-clock .before in
+    let at-if2 = at-chosen-class .before in
+    let at-if1 = at-if2 .before in
+    rw (
+      eq-eqb _ _ (at-if1 .if1 .left),
+      ne-eqb _ _ (at-if2 .if2 .left),
+      ← at-chosen-class .chosen-class .ensures,
+      ← at-slot-clock .slot-clock .ensures,
+      le-leb _ _ (c .if3 .taken),
+    )
 
 cast-first-of : tie.Need-cast-first-of
 cast-first-of c = search needs
 
 first-of-requires : tie.Need-first-of-requires
-first-of-requires c κs = (rw (c .before .before .chosen-class .ensures) (c .before .before .before .before .before .pre .class (c .before .before .before .before .if1 .left) (c .before .before .before .if2 .left)), rw (c .before .before .chosen-class .ensures) (c .before .before .before .before .before .pre .first (c .before .before .before .before .if1 .left) (c .before .before .before .if2 .left)))
+first-of-requires c κs =
+    let at-chosen-class = c .before .before in
+    let at-if2 = at-chosen-class .before in
+    let at-if1 = at-if2 .before in
+    let at-start = at-if1 .before in (
+      rw (at-chosen-class .chosen-class .ensures) (at-start .pre .class (at-if1 .if1 .left) (at-if2 .if2 .left)),
+      rw (at-chosen-class .chosen-class .ensures) (at-start .pre .first (at-if1 .if1 .left) (at-if2 .if2 .left)),
+    )
 
 returns-4 : tie.Need-returns-4
 unfolding choice
-returns-4 c = rw (eq-eqb _ _ (c .before .before .before .before .before .if1 .left), ne-eqb _ _ (c .before .before .before .before .if2 .left), ← c .before .before .before .chosen-class .ensures, ← c .before .before .slot-clock .ensures, lt-leb _ _ (c .before .if3 .left), c .first-of .ensures)
+returns-4 c =
+    let at-if3 = c .before in
+    let at-slot-clock = at-if3 .before in
+    let at-chosen-class = at-slot-clock .before in
+    let at-if2 = at-chosen-class .before in
+    let at-if1 = at-if2 .before in
+    rw (
+      eq-eqb _ _ (at-if1 .if1 .left),
+      ne-eqb _ _ (at-if2 .if2 .left),
+      ← at-chosen-class .chosen-class .ensures,
+      ← at-slot-clock .slot-clock .ensures,
+      lt-leb _ _ (at-if3 .if3 .left),
+      c .first-of .ensures,
+    )
 
 pub choose-spec : {M : Type 1} → statement M
 choose-spec =

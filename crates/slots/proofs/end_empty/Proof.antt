@@ -22,7 +22,11 @@ add-t9 c = search needs
 
 returns : tie.Need-returns
 unfolding endedEmpty
-returns c = ⊎-elim (λ w. rw (w .3, w .2 .ensures, ← c .before .before .advance .ensures, ← c .before .still-active .ensures, eq-eqb _ _ (w .0 .taken))) (λ w. rw (w .1, ← c .before .before .advance .ensures, ← c .before .still-active .ensures, ne-eqb _ _ (w .0 .left))) (c .if1 .came)
+returns c =
+    let at-still-active = c .before in
+    let at-advance = at-still-active .before in
+    ⊎-elim (λ w. rw (w .3, w .2 .ensures, ← at-advance .advance .ensures, ← at-still-active .still-active .ensures, eq-eqb _ _ (w .0 .taken)))
+    (λ w. rw (w .1, ← at-advance .advance .ensures, ← at-still-active .still-active .ensures, ne-eqb _ _ (w .0 .left))) (c .if1 .came)
 
 pub end-empty-spec : {M : Type 1} → statement M
 end-empty-spec =

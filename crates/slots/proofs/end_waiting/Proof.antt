@@ -29,7 +29,10 @@ add-t24 c = search needs
 
 returns : tie.Need-returns
 unfolding endedWaiting
-returns c = rw (← c .before .before .before .before .before .before .before .before .next-start .ensures, ← c .before .before .before .join-in .ensures, ← c .advance .ensures)
+returns c =
+    let at-join-in = c .before .before .before in
+    let at-next-start = at-join-in .before .before .before .before .before in
+    rw (← at-next-start .next-start .ensures, ← at-join-in .join-in .ensures, ← c .advance .ensures)
 
 pub end-waiting-spec : {M : Type 1} → statement M
 end-waiting-spec =

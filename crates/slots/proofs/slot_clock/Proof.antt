@@ -9,7 +9,9 @@ next-start-requires c κs = search needs
 
 returns : tie.Need-returns
 unfolding slotClock
-returns c = rw (eq-eqb _ _ (c .before .if1 .taken)) (c .next-start .ensures)
+returns c =
+    let at-if1 = c .before in
+    rw (eq-eqb _ _ (at-if1 .if1 .taken)) (c .next-start .ensures)
 
 returns-2 : tie.Need-returns-2
 unfolding slotClock

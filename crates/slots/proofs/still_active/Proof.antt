@@ -15,7 +15,9 @@ without-bit-requires c κs = search needs
 
 returns : tie.Need-returns
 unfolding stillActive
-returns c = rw (eq-eqb _ _ (c .before .if1 .taken)) (c .without-bit .ensures)
+returns c =
+    let at-if1 = c .before in
+    rw (eq-eqb _ _ (at-if1 .if1 .taken)) (c .without-bit .ensures)
 
 returns-2 : tie.Need-returns-2
 unfolding stillActive

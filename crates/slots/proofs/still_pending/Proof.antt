@@ -15,7 +15,9 @@ without-bit-requires c κs = search needs
 
 returns : tie.Need-returns
 unfolding stillPending
-returns c = rw (eq-eqb _ _ (c .before .if1 .taken)) (c .without-bit .ensures)
+returns c =
+    let at-if1 = c .before in
+    rw (eq-eqb _ _ (at-if1 .if1 .taken)) (c .without-bit .ensures)
 
 cast-at : tie.Need-cast-at
 cast-at c = search needs
@@ -37,11 +39,16 @@ without-bit-requires-2 c κs = search needs
 
 returns-2 : tie.Need-returns-2
 unfolding stillPending
-returns-2 c = rw (ne-eqb _ _ (c .before .before .before .if1 .left), lt-ltb _ _ (c .before .if2 .taken)) (c .without-bit2 .ensures)
+returns-2 c =
+    let at-if2 = c .before in
+    let at-if1 = at-if2 .before .before in
+    rw (ne-eqb _ _ (at-if1 .if1 .left), lt-ltb _ _ (at-if2 .if2 .taken)) (c .without-bit2 .ensures)
 
 returns-3 : tie.Need-returns-3
 unfolding stillPending
-returns-3 c = rw (ne-eqb _ _ (c .before .before .if1 .left), le-ltb _ _ (c .if2 .left))
+returns-3 c =
+    let at-if1 = c .before .before in
+    rw (ne-eqb _ _ (at-if1 .if1 .left), le-ltb _ _ (c .if2 .left))
 
 pub still-pending-spec : {M : Type 1} → statement M
 still-pending-spec =

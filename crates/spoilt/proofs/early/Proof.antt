@@ -18,7 +18,9 @@ returns c = (rw (ne-eqb _ _ (c .if1 .taken)), λ z. absurd (omega arith))
 
 returns-2 : tie.Need-returns-2
 unfolding earlyCode
-returns-2 c = (rw (eq-eqb _ _ (c .before .if1 .left), ne-eqb _ _ (c .if2 .taken)), λ z. absurd (omega arith))
+returns-2 c =
+    let at-if1 = c .before in
+    (rw (eq-eqb _ _ (at-if1 .if1 .left), ne-eqb _ _ (c .if2 .taken)), λ z. absurd (omega arith))
 
 sound-requires : tie.Need-sound-requires
 sound-requires c κs = search needs
@@ -29,14 +31,20 @@ sized c = search needs
 
 returns-3 : tie.Need-returns-3
 returns-3 c =
+    let at-sound = c .before in
+    let at-if2 = at-sound .before in
+    let at-if1 = at-if2 .before in
     let z = sized (c .before .before .before .before .before .before) in
-    let code = early-by _ _ _ z (c .before .before .before .if1 .left) (c .before .before .if2 .left) true (sym (c .before .sound .ensures) ∙ c .if3 .taken) in
+    let code = early-by _ _ _ z (at-if1 .if1 .left) (at-if2 .if2 .left) true (sym (at-sound .sound .ensures) ∙ c .if3 .taken) in
     (code, λ q. known-by _ _ _ (sym code))
 
 returns-4 : tie.Need-returns-4
 returns-4 c =
+    let at-sound = c .before in
+    let at-if2 = at-sound .before in
+    let at-if1 = at-if2 .before in
     let z = sized (c .before .before .before .before .before .before) in
-    (early-by _ _ _ z (c .before .before .before .if1 .left) (c .before .before .if2 .left) false (sym (c .before .sound .ensures) ∙ c .if3 .left), λ z. absurd (omega arith))
+    (early-by _ _ _ z (at-if1 .if1 .left) (at-if2 .if2 .left) false (sym (at-sound .sound .ensures) ∙ c .if3 .left), λ z. absurd (omega arith))
 
 pub early-spec : {M : Type 1} → statement M
 early-spec = tie.close (tie.spec returns returns-2 sound-requires returns-3 returns-4)

@@ -32,14 +32,24 @@ mul-length-in-range : tie.Need-mul-length-in-range Inv-loop μ-loop
 mul-length-in-range c = search needs
 
 shared-slice-read-length-in-range : tie.Need-shared-slice-read-length-in-range Inv-loop μ-loop
-shared-slice-read-length-in-range c = omega (arith, c .before .entry .ensures .1)
+shared-slice-read-length-in-range c =
+    let at-entry = c .before in
+    omega (arith, at-entry .entry .ensures .1)
 
 length-in-range-requires : tie.Need-length-in-range-requires Inv-loop μ-loop
 length-in-range-requires c κs = search needs
 
 returns : tie.Need-returns Inv-loop μ-loop
 unfolding laneInRange
-returns c = sym (all-stop _ (c .before .before .before .before .before .before .before .args .count) (c .before .before .before .before .before .loop .j) (c .before .before .before .before .loop-test .taken) (ap (λ (i : ℕ). lengthInRange (c .before .before .before .before .before .before .before .args .largest) (getD (now (c .before .before .before .before .before .before .before .args .lens)) i 0)) (sym (c .before .before .before .entry .ensures .0)) ∙ sym (c .before .length-in-range .ensures) ∙ not-true _ (c .if1 .taken)))
+returns c =
+    let at-length-in-range = c .before in
+    let at-entry = at-length-in-range .before .before in
+    let at-loop-test = at-entry .before in
+    let at-loop = at-loop-test .before in
+    let at-start = at-loop .before .before in
+    sym (all-stop _ (at-start .args .count) (at-loop .loop .j) (at-loop-test .loop-test .taken)
+    (ap (λ (i : ℕ). lengthInRange (at-start .args .largest) (getD (now (at-start .args .lens)) i 0)) (sym (at-entry .entry .ensures .0))
+    ∙ sym (at-length-in-range .length-in-range .ensures) ∙ not-true _ (c .if1 .taken)))
 
 add-j : tie.Need-add-j Inv-loop μ-loop
 add-j c = search needs
@@ -48,11 +58,24 @@ loop-less : tie.Need-loop-less Inv-loop μ-loop
 loop-less c = search needs
 
 loop-again : tie.Need-loop-again Inv-loop μ-loop
-loop-again c = (omega (arith, c .before .before .before .before .loop-test .taken), all-more _ (c .before .before .before .before .before .loop .j) (c .before .before .before .before .before .loop .inv .1) (ap (λ (i : ℕ). lengthInRange (c .before .before .before .before .before .before .before .args .largest) (getD (now (c .before .before .before .before .before .before .before .args .lens)) i 0)) (sym (c .before .before .before .entry .ensures .0)) ∙ sym (c .before .length-in-range .ensures) ∙ not-false _ (c .if1 .left)))
+loop-again c =
+    let at-length-in-range = c .before in
+    let at-entry = at-length-in-range .before .before in
+    let at-loop-test = at-entry .before in
+    let at-loop = at-loop-test .before in
+    let at-start = at-loop .before .before in (
+      omega (arith, at-loop-test .loop-test .taken),
+      all-more _ (at-loop .loop .j) (at-loop .loop .inv .1)
+          (ap (λ (i : ℕ). lengthInRange (at-start .args .largest) (getD (now (at-start .args .lens)) i 0)) (sym (at-entry .entry .ensures .0))
+          ∙ sym (at-length-in-range .length-in-range .ensures) ∙ not-false _ (c .if1 .left)),
+    )
 
 returns-2 : tie.Need-returns-2 Inv-loop μ-loop
 unfolding laneInRange
-returns-2 c = let e : c .before .loop .j ≡ c .before .before .before .args .count = omega (arith, c .before .loop .inv, c .loop-test .left) in sym (rw e at (c .before .loop .inv .1))
+returns-2 c =
+    let at-loop = c .before in
+    let e : c .before .loop .j ≡ c .before .before .before .args .count =
+    omega (arith, at-loop .loop .inv, c .loop-test .left) in sym (rw e at (at-loop .loop .inv .1))
 
 pub lane-in-range-spec : {M : Type 1} → statement M
 lane-in-range-spec =

@@ -41,7 +41,11 @@ lane-in-range-requires c κs = search needs
 
 returns : tie.Need-returns Inv-loop μ-loop
 unfolding lanesInRange
-returns c = sym (all-stop _ 64 (c .before .before .before .before .before .loop .p) (c .before .before .before .before .loop-test .taken) (sym (c .before .lane-in-range .ensures) ∙ not-true _ (c .if1 .taken)))
+returns c =
+    let at-lane-in-range = c .before in
+    let at-loop-test = at-lane-in-range .before .before .before in
+    let at-loop = at-loop-test .before in
+    sym (all-stop _ 64 (at-loop .loop .p) (at-loop-test .loop-test .taken) (sym (at-lane-in-range .lane-in-range .ensures) ∙ not-true _ (c .if1 .taken)))
 
 add-p : tie.Need-add-p Inv-loop μ-loop
 add-p c = search needs
@@ -50,11 +54,16 @@ loop-less : tie.Need-loop-less Inv-loop μ-loop
 loop-less c = search needs
 
 loop-again : tie.Need-loop-again Inv-loop μ-loop
-loop-again c = (omega arith, all-more _ (c .before .before .before .before .before .loop .p) (c .before .before .before .before .before .loop .inv .1) (sym (c .before .lane-in-range .ensures) ∙ not-false _ (c .if1 .left)))
+loop-again c =
+    let at-lane-in-range = c .before in
+    let at-loop = at-lane-in-range .before .before .before .before in
+    (omega arith, all-more _ (at-loop .loop .p) (at-loop .loop .inv .1) (sym (at-lane-in-range .lane-in-range .ensures) ∙ not-false _ (c .if1 .left)))
 
 returns-2 : tie.Need-returns-2 Inv-loop μ-loop
 unfolding lanesInRange
-returns-2 c = let e : c .before .loop .p ≡ 64 = omega arith in sym (rw e at (c .before .loop .inv .1))
+returns-2 c =
+    let at-loop = c .before in
+    let e : c .before .loop .p ≡ 64 = omega arith in sym (rw e at (at-loop .loop .inv .1))
 
 pub lanes-in-range-spec : {M : Type 1} → statement M
 lanes-in-range-spec =

@@ -8,11 +8,15 @@ use Rattle.spoilt.proofs.length_in_range.Lts as lts
 
 returns : tie.Need-returns
 unfolding lengthInRange
-returns c = rw (lt-leb 1 (c .before .args .len) (let e = c .if1 .taken in omega arith))
+returns c =
+    let at-start = c .before in
+    rw (lt-leb 1 (at-start .args .len) (let e = c .if1 .taken in omega arith))
 
 returns-2 : tie.Need-returns-2
 unfolding lengthInRange
-returns-2 c = rw (le-leb 1 (c .before .args .len) (let e = c .if1 .left in omega arith))
+returns-2 c =
+    let at-start = c .before in
+    rw (le-leb 1 (at-start .args .len) (let e = c .if1 .left in omega arith))
 
 pub length-in-range-spec : {M : Type 1} → statement M
 length-in-range-spec = tie.close (tie.spec returns returns-2)

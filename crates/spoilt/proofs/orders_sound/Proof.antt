@@ -14,19 +14,36 @@ orders-listed-requires : tie.Need-orders-listed-requires
 orders-listed-requires c κs = search needs
 
 returns : tie.Need-returns
-returns c = rw (sym (c .before .orders-listed .ensures) ∙ not-true _ (c .if1 .taken))
+returns c =
+    let at-orders-listed = c .before in
+    rw (sym (at-orders-listed .orders-listed .ensures) ∙ not-true _ (c .if1 .taken))
 
 active-as-ruled-requires : tie.Need-active-as-ruled-requires
 active-as-ruled-requires c κs = search needs
 
 returns-2 : tie.Need-returns-2
-returns-2 c = rw (sym (c .before .before .before .before .before .before .orders-listed .ensures) ∙ not-false _ (c .before .before .before .before .before .if1 .left), sym (c .before .active-as-ruled .ensures) ∙ not-true _ (c .if2 .taken))
+returns-2 c =
+    let at-active-as-ruled = c .before in
+    let at-if1 = at-active-as-ruled .before .before .before .before in
+    let at-orders-listed = at-if1 .before in
+    rw (
+      sym (at-orders-listed .orders-listed .ensures) ∙ not-false _ (at-if1 .if1 .left),
+      sym (at-active-as-ruled .active-as-ruled .ensures) ∙ not-true _ (c .if2 .taken),
+    )
 
 pending-as-ruled-requires : tie.Need-pending-as-ruled-requires
 pending-as-ruled-requires c κs = search needs
 
 returns-3 : tie.Need-returns-3
-returns-3 c = rw (sym (c .before .before .before .before .before .before .before .before .before .before .orders-listed .ensures) ∙ not-false _ (c .before .before .before .before .before .before .before .before .before .if1 .left), sym (c .before .before .before .before .before .active-as-ruled .ensures) ∙ not-false _ (c .before .before .before .before .if2 .left)) (c .pending-as-ruled .ensures ∙ last-test _)
+returns-3 c =
+    let at-if2 = c .before .before .before .before in
+    let at-active-as-ruled = at-if2 .before in
+    let at-if1 = at-active-as-ruled .before .before .before .before in
+    let at-orders-listed = at-if1 .before in
+    rw (
+      sym (at-orders-listed .orders-listed .ensures) ∙ not-false _ (at-if1 .if1 .left),
+      sym (at-active-as-ruled .active-as-ruled .ensures) ∙ not-false _ (at-if2 .if2 .left),
+    ) (c .pending-as-ruled .ensures ∙ last-test _)
 
 pub orders-sound-spec : {M : Type 1} → statement M
 orders-sound-spec =

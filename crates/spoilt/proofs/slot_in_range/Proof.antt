@@ -9,11 +9,15 @@ use Rattle.spoilt.proofs.slot_open.Reads as slot-open-reads
 
 returns : tie.Need-returns
 unfolding slotInRange
-returns c = rw (eq-eqb _ _ (c .before .if1 .taken))
+returns c =
+    let at-if1 = c .before in
+    rw (eq-eqb _ _ (at-if1 .if1 .taken))
 
 returns-2 : tie.Need-returns-2
 unfolding slotInRange
-returns-2 c = rw (ne-eqb _ _ (c .before .if1 .left), lt-leb _ _ (c .if2 .taken))
+returns-2 c =
+    let at-if1 = c .before in
+    rw (ne-eqb _ _ (at-if1 .if1 .left), lt-leb _ _ (c .if2 .taken))
 
 sub-p : tie.Need-sub-p
 sub-p c = search needs
@@ -44,7 +48,11 @@ slot-open-requires c κs = search needs
 
 returns-3 : tie.Need-returns-3
 unfolding slotInRange
-returns-3 c = rw (ne-eqb _ _ (c .before .before .before .before .before .before .if1 .left), le-leb _ _ (c .before .before .before .before .before .if2 .left), ← c .before .before .before .entry .ensures .0) (c .slot-open .ensures)
+returns-3 c =
+    let at-entry = c .before .before .before in
+    let at-if2 = at-entry .before .before in
+    let at-if1 = at-if2 .before in
+    rw (ne-eqb _ _ (at-if1 .if1 .left), le-leb _ _ (at-if2 .if2 .left), ← at-entry .entry .ensures .0) (c .slot-open .ensures)
 
 pub slot-in-range-spec : {M : Type 1} → statement M
 slot-in-range-spec =

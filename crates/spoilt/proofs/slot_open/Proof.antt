@@ -18,22 +18,43 @@ charge-requires c κs = search needs
 
 returns-2 : tie.Need-returns-2
 unfolding slotOpen
-returns-2 c = rw (ne-eqb _ _ (c .before .before .before .before .if1 .left), ← c .before .before .before .charge .ensures, lt-leb _ _ (c .if2 .taken))
+returns-2 c =
+    let at-charge = c .before .before .before in
+    let at-if1 = at-charge .before in
+    rw (ne-eqb _ _ (at-if1 .if1 .left), ← at-charge .charge .ensures, lt-leb _ _ (c .if2 .taken))
 
 charge-requires-2 : tie.Need-charge-requires-2
 charge-requires-2 c κs = search needs
 
 mul-if3 : tie.Need-mul-if3
 unfolding chargeOf charged framing
-mul-if3 c = omega (arith, c .before .charge2 .ensures)
+mul-if3 c =
+    let at-charge2 = c .before in
+    omega (arith, at-charge2 .charge2 .ensures)
 
 returns-3 : tie.Need-returns-3
 unfolding slotOpen
-returns-3 c = rw (ne-eqb _ _ (c .before .before .before .before .before .before .before .before .if1 .left), ← c .before .before .before .before .before .before .before .charge .ensures, le-leb _ _ (c .before .before .before .before .if2 .left), ← c .before .before .before .charge2 .ensures, le-ltb _ _ (c .if3 .taken))
+returns-3 c =
+    let at-charge2 = c .before .before .before in
+    let at-if2 = at-charge2 .before in
+    let at-charge = at-if2 .before .before .before in
+    let at-if1 = at-charge .before in
+    rw (
+      ne-eqb _ _ (at-if1 .if1 .left),
+      ← at-charge .charge .ensures,
+      le-leb _ _ (at-if2 .if2 .left),
+      ← at-charge2 .charge2 .ensures,
+      le-ltb _ _ (c .if3 .taken),
+    )
 
 returns-4 : tie.Need-returns-4
 unfolding slotOpen
-returns-4 c = rw (ne-eqb _ _ (c .before .before .before .before .before .before .before .before .if1 .left), ← c .before .before .before .before .before .before .before .charge .ensures, le-leb _ _ (c .before .before .before .before .if2 .left), ← c .before .before .before .charge2 .ensures, lt-ltb _ _ (c .if3 .left))
+returns-4 c =
+    let at-charge2 = c .before .before .before in
+    let at-if2 = at-charge2 .before in
+    let at-charge = at-if2 .before .before .before in
+    let at-if1 = at-charge .before in
+    rw (ne-eqb _ _ (at-if1 .if1 .left), ← at-charge .charge .ensures, le-leb _ _ (at-if2 .if2 .left), ← at-charge2 .charge2 .ensures, lt-ltb _ _ (c .if3 .left))
 
 pub slot-open-spec : {M : Type 1} → statement M
 slot-open-spec =

@@ -37,11 +37,24 @@ loop-less : tie.Need-loop-less Inv-loop μ-loop
 loop-less c = search needs
 
 loop-again : tie.Need-loop-again Inv-loop μ-loop
-loop-again c = (omega arith, c .set-with .ensures ∙ ap₂ (λ (m : Bool) (s : ℕ). cond m (withBit s (c .before .before .before .loop .k)) s) (c .before .class-active .ensures) (c .before .before .before .loop .inv .1) ∙ sym (set-next (classActive (c .before .before .before .before .args .slot) (now (c .before .before .before .before .args .shares)) (now (c .before .before .before .before .args .heads))) (c .before .before .before .loop .k)))
+loop-again c =
+    let at-class-active = c .before in
+    let at-loop = at-class-active .before .before in
+    let at-start = at-loop .before in (
+      omega arith,
+      c .set-with .ensures
+          ∙ ap₂ (λ (m : Bool) (s : ℕ). cond m (withBit s (at-loop .loop .k)) s) (at-class-active .class-active .ensures) (at-loop .loop .inv .1)
+          ∙ sym (set-next (classActive (at-start .args .slot) (now (at-start .args .shares)) (now (at-start .args .heads))) (at-loop .loop .k)),
+    )
 
 returns : tie.Need-returns Inv-loop μ-loop
 unfolding activeAsRuled
-returns c = let e : c .before .loop .k ≡ 17 = omega arith in ap (eqb (c .before .before .args .active)) (c .before .loop .inv .1 ∙ ap (λ (n : ℕ). setBelow n (classActive (c .before .before .args .slot) (now (c .before .before .args .shares)) (now (c .before .before .args .heads)))) e)
+returns c =
+    let at-loop = c .before in
+    let at-start = at-loop .before in
+    let e : c .before .loop .k ≡ 17 =
+    omega arith in ap (eqb (at-start .args .active))
+    (at-loop .loop .inv .1 ∙ ap (λ (n : ℕ). setBelow n (classActive (at-start .args .slot) (now (at-start .args .shares)) (now (at-start .args .heads)))) e)
 
 pub active-as-ruled-spec : {M : Type 1} → statement M
 active-as-ruled-spec =

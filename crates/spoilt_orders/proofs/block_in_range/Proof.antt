@@ -15,21 +15,33 @@ in-order-requires c κs = search needs
 
 returns : tie.Need-returns
 unfolding blockInRange
-returns c = rw (sym (c .before .in-order .ensures) ∙ not-true _ (c .if1 .taken))
+returns c =
+    let at-in-order = c .before in
+    rw (sym (at-in-order .in-order .ensures) ∙ not-true _ (c .if1 .taken))
 
 of-class-requires : tie.Need-of-class-requires
 of-class-requires c κs = search needs
 
 returns-2 : tie.Need-returns-2
 unfolding blockInRange
-returns-2 c = rw (sym (c .before .before .before .in-order .ensures) ∙ not-false _ (c .before .before .if1 .left), sym (c .before .of-class .ensures) ∙ not-true _ (c .if2 .taken))
+returns-2 c =
+    let at-of-class = c .before in
+    let at-if1 = at-of-class .before in
+    let at-in-order = at-if1 .before in
+    rw (sym (at-in-order .in-order .ensures) ∙ not-false _ (at-if1 .if1 .left), sym (at-of-class .of-class .ensures) ∙ not-true _ (c .if2 .taken))
 
 ready-in-range-requires : tie.Need-ready-in-range-requires
 ready-in-range-requires c κs = search needs
 
 returns-3 : tie.Need-returns-3
 unfolding blockInRange
-returns-3 c = rw (sym (c .before .before .before .before .in-order .ensures) ∙ not-false _ (c .before .before .before .if1 .left), sym (c .before .before .of-class .ensures) ∙ not-false _ (c .before .if2 .left)) (c .ready-in-range .ensures)
+returns-3 c =
+    let at-if2 = c .before in
+    let at-of-class = at-if2 .before in
+    let at-if1 = at-of-class .before in
+    let at-in-order = at-if1 .before in
+    rw (sym (at-in-order .in-order .ensures) ∙ not-false _ (at-if1 .if1 .left), sym (at-of-class .of-class .ensures) ∙ not-false _ (at-if2 .if2 .left))
+    (c .ready-in-range .ensures)
 
 pub block-in-range-spec : {M : Type 1} → statement M
 block-in-range-spec =

@@ -38,7 +38,9 @@ one-if-requires : tie.Need-one-if-requires Inv-loop μ-loop
 one-if-requires c κs = search needs
 
 add-blocks : tie.Need-add-blocks Inv-loop μ-loop
-add-blocks c = omega (arith, c .one-if .ensures, oneIf-le (c .before .in-order .result))
+add-blocks c =
+    let at-in-order = c .before in
+    omega (arith, c .one-if .ensures, oneIf-le (at-in-order .in-order .result))
 
 add-p : tie.Need-add-p Inv-loop μ-loop
 add-p c = search needs
@@ -47,11 +49,29 @@ loop-less : tie.Need-loop-less Inv-loop μ-loop
 loop-less c = search needs
 
 loop-again : tie.Need-loop-again Inv-loop μ-loop
-loop-again c = (omega arith, (omega (arith, c .one-if .ensures, oneIf-le (c .before .in-order .result)), omega (arith, c .one-if .ensures ∙ ap oneIf (c .before .in-order .ensures), c .before .before .before .before .loop .inv .1 .1, below-more (λ i. oneIf (inOrder i (getD (now (c .before .before .before .before .before .args .counts)) i 0) (c .before .before .before .before .before .args .slot))) (c .before .before .before .before .loop .p))))
+loop-again c =
+    let at-in-order = c .before in
+    let at-loop = at-in-order .before .before .before in
+    let at-start = at-loop .before in (
+      omega arith,
+      (
+        omega (arith, c .one-if .ensures, oneIf-le (at-in-order .in-order .result)),
+        omega (
+          arith,
+          c .one-if .ensures ∙ ap oneIf (at-in-order .in-order .ensures),
+          at-loop .loop .inv .1 .1,
+          below-more (λ i. oneIf (inOrder i (getD (now (at-start .args .counts)) i 0) (at-start .args .slot))) (at-loop .loop .p),
+        ),
+      ),
+    )
 
 returns : tie.Need-returns Inv-loop μ-loop
 unfolding blocksInOrder
-returns c = let e : c .before .loop .p ≡ 64 = omega arith in c .before .loop .inv .1 .1 ∙ ap (below (λ i. oneIf (inOrder i (getD (now (c .before .before .args .counts)) i 0) (c .before .before .args .slot)))) e
+returns c =
+    let at-loop = c .before in
+    let at-start = at-loop .before in
+    let e : c .before .loop .p ≡ 64 =
+    omega arith in at-loop .loop .inv .1 .1 ∙ ap (below (λ i. oneIf (inOrder i (getD (now (at-start .args .counts)) i 0) (at-start .args .slot)))) e
 
 pub blocks-in-order-spec : {M : Type 1} → statement M
 blocks-in-order-spec =

@@ -16,11 +16,16 @@ returns c = rw (ne-eqb _ _ (c .if1 .taken))
 
 returns-2 : tie.Need-returns-2
 unfolding classActive
-returns-2 c = rw (eq-eqb _ _ (c .before .if1 .left), eq-eqb _ _ (c .if2 .taken))
+returns-2 c =
+    let at-if1 = c .before in
+    rw (eq-eqb _ _ (at-if1 .if1 .left), eq-eqb _ _ (c .if2 .taken))
 
 returns-3 : tie.Need-returns-3
 unfolding classActive
-returns-3 c = rw (eq-eqb _ _ (c .before .before .if1 .left), ne-eqb _ _ (c .before .if2 .left), lt-leb _ _ (c .if3 .taken))
+returns-3 c =
+    let at-if2 = c .before in
+    let at-if1 = at-if2 .before in
+    rw (eq-eqb _ _ (at-if1 .if1 .left), ne-eqb _ _ (at-if2 .if2 .left), lt-leb _ _ (c .if3 .taken))
 
 sub-p : tie.Need-sub-p
 sub-p c = search needs
@@ -36,7 +41,11 @@ of-class-requires c κs = search needs
 
 returns-4 : tie.Need-returns-4
 unfolding classActive
-returns-4 c = rw (eq-eqb _ _ (c .before .before .before .before .if1 .left), ne-eqb _ _ (c .before .before .before .if2 .left), le-leb _ _ (c .before .before .if3 .left)) (c .of-class .ensures)
+returns-4 c =
+    let at-if3 = c .before .before in
+    let at-if2 = at-if3 .before in
+    let at-if1 = at-if2 .before in
+    rw (eq-eqb _ _ (at-if1 .if1 .left), ne-eqb _ _ (at-if2 .if2 .left), le-leb _ _ (at-if3 .if3 .left)) (c .of-class .ensures)
 
 pub class-active-spec : {M : Type 1} → statement M
 class-active-spec =

@@ -15,7 +15,9 @@ returns c = rw (eq-eqb _ _ (c .if1 .taken))
 
 returns-2 : tie.Need-returns-2
 unfolding classPending
-returns-2 c = rw (ne-eqb _ _ (c .before .if1 .left), lt-leb _ _ (c .if2 .taken))
+returns-2 c =
+    let at-if1 = c .before in
+    rw (ne-eqb _ _ (at-if1 .if1 .left), lt-leb _ _ (c .if2 .taken))
 
 cast-p : tie.Need-cast-p
 cast-p c = search needs
@@ -31,7 +33,10 @@ element-copy-out-result c = search needs
 
 returns-3 : tie.Need-returns-3
 unfolding classPending
-returns-3 c = rw (ne-eqb _ _ (c .before .before .if1 .left), le-leb _ _ (c .before .if2 .left))
+returns-3 c =
+    let at-if2 = c .before in
+    let at-if1 = at-if2 .before in
+    rw (ne-eqb _ _ (at-if1 .if1 .left), le-leb _ _ (at-if2 .if2 .left))
 
 pub class-pending-spec : {M : Type 1} → statement M
 class-pending-spec =

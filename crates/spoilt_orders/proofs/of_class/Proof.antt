@@ -13,15 +13,21 @@ interval-requires : tie.Need-interval-requires
 interval-requires c κs = search needs
 
 mul-scaled : tie.Need-mul-scaled
-mul-scaled c = omega (arith, scaled-fits (c .before .args .share) (c .before .args .k) (c .interval .result) (omega arith) (c .before .pre) (c .interval .ensures))
+mul-scaled c =
+    let at-start = c .before in
+    omega (arith, scaled-fits (at-start .args .share) (at-start .args .k) (c .interval .result) (omega arith) (at-start .pre) (c .interval .ensures))
 
 returns : tie.Need-returns
 unfolding ofClass
-returns c = rw (← c .before .interval .ensures, lt-leb _ _ (c .if1 .taken))
+returns c =
+    let at-interval = c .before in
+    rw (← at-interval .interval .ensures, lt-leb _ _ (c .if1 .taken))
 
 returns-2 : tie.Need-returns-2
 unfolding ofClass
-returns-2 c = rw (← c .before .interval .ensures, le-leb _ _ (c .if1 .left))
+returns-2 c =
+    let at-interval = c .before in
+    rw (← at-interval .interval .ensures, le-leb _ _ (c .if1 .left))
 
 pub of-class-spec : {M : Type 1} → statement M
 of-class-spec = tie.close (tie.spec interval-requires mul-scaled returns returns-2)

@@ -14,7 +14,8 @@ use Rattle.spoilt_orders.proofs.order_length.Lts as lts
 use Rattle.spoilt_orders.proofs.block_in_range.Reads as block-in-range-reads
 
 abbrev Inv-loop : tie.InvT-loop
-Inv-loop k start slot tail head shares counts ready next met₀ h₀ least₀ last₀ met h least last = (met ≤ 64) × (walk k start slot tail shares counts ready next 64 0 head 0 0 ≡ walk k start slot tail shares counts ready next (64 - met) met h least last)
+Inv-loop k start slot tail head shares counts ready next met₀ h₀ least₀ last₀ met h least last =
+    (met ≤ 64) × (walk k start slot tail shares counts ready next 64 0 head 0 0 ≡ walk k start slot tail shares counts ready next (64 - met) met h least last)
 
 abbrev μ-loop : tie.MeasureT-loop
 μ-loop k start slot tail head shares counts ready next met₀ h₀ least₀ last₀ met h least last = 64 - met
@@ -23,10 +24,25 @@ loop-holds : tie.Need-loop-holds Inv-loop μ-loop
 loop-holds c = (omega arith, refl)
 
 returns : tie.Need-returns Inv-loop μ-loop
-returns c = sym (c .before .before .loop .inv .1 ∙ walk-long (c .before .before .before .args .k) (c .before .before .before .args .start) (c .before .before .before .args .slot) (c .before .before .before .args .tail) (now (c .before .before .before .args .shares)) (now (c .before .before .before .args .counts)) (now (c .before .before .before .args .ready)) (now (c .before .before .before .args .next)) (c .before .before .loop .met) (c .before .before .loop .h) (c .before .before .loop .least) (c .before .before .loop .last) _ (omega arith) (c .before .loop-test .taken))
+returns c =
+    let at-loop-test = c .before in
+    let at-loop = at-loop-test .before in
+    let at-start = at-loop .before in
+    sym (at-loop .loop .inv .1
+    ∙ walk-long (at-start .args .k) (at-start .args .start) (at-start .args .slot) (at-start .args .tail) (now (at-start .args .shares))
+    (now (at-start .args .counts)) (now (at-start .args .ready)) (now (at-start .args .next)) (at-loop .loop .met) (at-loop .loop .h) (at-loop .loop .least)
+    (at-loop .loop .last) _ (omega arith) (at-loop-test .loop-test .taken))
 
 returns-2 : tie.Need-returns-2 Inv-loop μ-loop
-returns-2 c = sym (c .before .before .before .loop .inv .1 ∙ walk-far (c .before .before .before .before .args .k) (c .before .before .before .before .args .start) (c .before .before .before .before .args .slot) (c .before .before .before .before .args .tail) (now (c .before .before .before .before .args .shares)) (now (c .before .before .before .before .args .counts)) (now (c .before .before .before .before .args .ready)) (now (c .before .before .before .before .args .next)) (c .before .before .before .loop .met) (c .before .before .before .loop .h) (c .before .before .before .loop .least) (c .before .before .before .loop .last) (c .before .if1 .left) (c .before .before .loop-test .taken) (c .if2 .taken))
+returns-2 c =
+    let at-if1 = c .before in
+    let at-loop-test = at-if1 .before in
+    let at-loop = at-loop-test .before in
+    let at-start = at-loop .before in
+    sym (at-loop .loop .inv .1
+    ∙ walk-far (at-start .args .k) (at-start .args .start) (at-start .args .slot) (at-start .args .tail) (now (at-start .args .shares))
+    (now (at-start .args .counts)) (now (at-start .args .ready)) (now (at-start .args .next)) (at-loop .loop .met) (at-loop .loop .h) (at-loop .loop .least)
+    (at-loop .loop .last) (at-if1 .if1 .left) (at-loop-test .loop-test .taken) (c .if2 .taken))
 
 cast-p : tie.Need-cast-p Inv-loop μ-loop
 cast-p c = search needs
@@ -56,7 +72,18 @@ block-in-range-requires : tie.Need-block-in-range-requires Inv-loop μ-loop
 block-in-range-requires c κs = search needs
 
 returns-3 : tie.Need-returns-3 Inv-loop μ-loop
-returns-3 c = sym (c .before .before .before .before .before .before .before .before .loop .inv .1 ∙ walk-refused (c .before .before .before .before .before .before .before .before .before .args .k) (c .before .before .before .before .before .before .before .before .before .args .start) (c .before .before .before .before .before .before .before .before .before .args .slot) (c .before .before .before .before .before .before .before .before .before .args .tail) (now (c .before .before .before .before .before .before .before .before .before .args .shares)) (now (c .before .before .before .before .before .before .before .before .before .args .counts)) (now (c .before .before .before .before .before .before .before .before .before .args .ready)) (now (c .before .before .before .before .before .before .before .before .before .args .next)) (c .before .before .before .before .before .before .before .before .loop .met) (c .before .before .before .before .before .before .before .before .loop .h) (c .before .before .before .before .before .before .before .before .loop .least) (c .before .before .before .before .before .before .before .before .loop .last) (c .before .before .before .before .before .before .if1 .left) (c .before .before .before .before .before .before .before .loop-test .taken) (c .before .before .before .before .before .if2 .left) (sym (c .before .block-in-range .ensures) ∙ not-true _ (c .if3 .taken)))
+returns-3 c =
+    let at-block-in-range = c .before in
+    let at-if2 = at-block-in-range .before .before .before .before in
+    let at-if1 = at-if2 .before in
+    let at-loop-test = at-if1 .before in
+    let at-loop = at-loop-test .before in
+    let at-start = at-loop .before in
+    sym (at-loop .loop .inv .1
+    ∙ walk-refused (at-start .args .k) (at-start .args .start) (at-start .args .slot) (at-start .args .tail) (now (at-start .args .shares))
+    (now (at-start .args .counts)) (now (at-start .args .ready)) (now (at-start .args .next)) (at-loop .loop .met) (at-loop .loop .h) (at-loop .loop .least)
+    (at-loop .loop .last) (at-if1 .if1 .left) (at-loop-test .loop-test .taken) (at-if2 .if2 .left)
+    (sym (at-block-in-range .block-in-range .ensures) ∙ not-true _ (c .if3 .taken)))
 
 add-met : tie.Need-add-met Inv-loop μ-loop
 add-met c = search needs
@@ -68,13 +95,42 @@ loop-less : tie.Need-loop-less Inv-loop μ-loop
 loop-less c = search needs
 
 loop-again : tie.Need-loop-again Inv-loop μ-loop
-loop-again c = (omega arith, c .before .before .before .before .before .before .before .before .before .loop .inv .1 ∙ walk-on (c .before .before .before .before .before .before .before .before .before .before .args .k) (c .before .before .before .before .before .before .before .before .before .before .args .start) (c .before .before .before .before .before .before .before .before .before .before .args .slot) (c .before .before .before .before .before .before .before .before .before .before .args .tail) (now (c .before .before .before .before .before .before .before .before .before .before .args .shares)) (now (c .before .before .before .before .before .before .before .before .before .before .args .counts)) (now (c .before .before .before .before .before .before .before .before .before .before .args .ready)) (now (c .before .before .before .before .before .before .before .before .before .before .args .next)) (c .before .before .before .before .before .before .before .before .before .loop .met) (c .before .before .before .before .before .before .before .before .before .loop .h) (c .before .before .before .before .before .before .before .before .before .loop .least) (c .before .before .before .before .before .before .before .before .before .loop .last) (c .before .before .before .before .before .before .before .if1 .left) (c .before .before .before .before .before .before .before .before .loop-test .taken) (c .before .before .before .before .before .before .if2 .left) (sym (c .before .before .block-in-range .ensures) ∙ not-false _ (c .before .if3 .left)))
+loop-again c =
+    let at-if3 = c .before in
+    let at-block-in-range = at-if3 .before in
+    let at-if2 = at-block-in-range .before .before .before .before in
+    let at-if1 = at-if2 .before in
+    let at-loop-test = at-if1 .before in
+    let at-loop = at-loop-test .before in
+    let at-start = at-loop .before in (
+      omega arith,
+      at-loop .loop .inv .1
+          ∙ walk-on (at-start .args .k) (at-start .args .start) (at-start .args .slot) (at-start .args .tail) (now (at-start .args .shares))
+          (now (at-start .args .counts)) (now (at-start .args .ready)) (now (at-start .args .next)) (at-loop .loop .met) (at-loop .loop .h)
+          (at-loop .loop .least)
+          (at-loop .loop .last) (at-if1 .if1 .left) (at-loop-test .loop-test .taken) (at-if2 .if2 .left)
+          (sym (at-block-in-range .block-in-range .ensures) ∙ not-false _ (at-if3 .if3 .left)),
+    )
 
 returns-4 : tie.Need-returns-4 Inv-loop μ-loop
-returns-4 c = sym (c .before .before .loop .inv .1 ∙ walk-end (c .before .before .before .args .k) (c .before .before .before .args .start) (c .before .before .before .args .slot) (c .before .before .before .args .tail) (now (c .before .before .before .args .shares)) (now (c .before .before .before .args .counts)) (now (c .before .before .before .args .ready)) (now (c .before .before .before .args .next)) (c .before .before .loop .met) (c .before .before .loop .h) (c .before .before .loop .least) (c .before .before .loop .last) _ (c .before .loop-test .left) ∙ ap (λ (t : Bool). cond t (c .before .before .loop .met) 65) (ne-eqb _ _ (c .if4 .taken)))
+returns-4 c =
+    let at-loop-test = c .before in
+    let at-loop = at-loop-test .before in
+    let at-start = at-loop .before in
+    sym (at-loop .loop .inv .1
+    ∙ walk-end (at-start .args .k) (at-start .args .start) (at-start .args .slot) (at-start .args .tail) (now (at-start .args .shares))
+    (now (at-start .args .counts)) (now (at-start .args .ready)) (now (at-start .args .next)) (at-loop .loop .met) (at-loop .loop .h) (at-loop .loop .least)
+    (at-loop .loop .last) _ (at-loop-test .loop-test .left) ∙ ap (λ (t : Bool). cond t (at-loop .loop .met) 65) (ne-eqb _ _ (c .if4 .taken)))
 
 returns-5 : tie.Need-returns-5 Inv-loop μ-loop
-returns-5 c = sym (c .before .before .loop .inv .1 ∙ walk-end (c .before .before .before .args .k) (c .before .before .before .args .start) (c .before .before .before .args .slot) (c .before .before .before .args .tail) (now (c .before .before .before .args .shares)) (now (c .before .before .before .args .counts)) (now (c .before .before .before .args .ready)) (now (c .before .before .before .args .next)) (c .before .before .loop .met) (c .before .before .loop .h) (c .before .before .loop .least) (c .before .before .loop .last) _ (c .before .loop-test .left) ∙ ap (λ (t : Bool). cond t (c .before .before .loop .met) 65) (eq-eqb _ _ (c .if4 .left)))
+returns-5 c =
+    let at-loop-test = c .before in
+    let at-loop = at-loop-test .before in
+    let at-start = at-loop .before in
+    sym (at-loop .loop .inv .1
+    ∙ walk-end (at-start .args .k) (at-start .args .start) (at-start .args .slot) (at-start .args .tail) (now (at-start .args .shares))
+    (now (at-start .args .counts)) (now (at-start .args .ready)) (now (at-start .args .next)) (at-loop .loop .met) (at-loop .loop .h) (at-loop .loop .least)
+    (at-loop .loop .last) _ (at-loop-test .loop-test .left) ∙ ap (λ (t : Bool). cond t (at-loop .loop .met) 65) (eq-eqb _ _ (c .if4 .left)))
 
 pub order-length-spec : {M : Type 1} → statement M
 order-length-spec =

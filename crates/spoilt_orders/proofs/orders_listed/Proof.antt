@@ -22,7 +22,10 @@ use Rattle.spoilt_orders.proofs.order_length.Reads as order-length-read
 use Rattle.units.proofs.next_start.Reads as next-start-reads
 
 abbrev Inv-loop : tie.InvT-loop
-Inv-loop clock slot heads tails shares counts ready next total₀ k₀ total k = (k ≤ 17) × ((total ≤ k * 64) × ((allBelow k (λ j. leb (orderLength clock slot heads tails shares counts ready next j) 64) ≡ true) × (total ≡ below (orderLength clock slot heads tails shares counts ready next) k)))
+Inv-loop clock slot heads tails shares counts ready next total₀ k₀ total k =
+    (k ≤ 17) × ((total ≤ k * 64)
+    × ((allBelow k (λ j. leb (orderLength clock slot heads tails shares counts ready next j) 64) ≡ true)
+    × (total ≡ below (orderLength clock slot heads tails shares counts ready next) k)))
 
 abbrev μ-loop : tie.MeasureT-loop
 μ-loop clock slot heads tails shares counts ready next total₀ k₀ total k = 17 - k
@@ -32,7 +35,9 @@ clock-in-range-requires c κs = search needs
 
 returns : tie.Need-returns Inv-loop μ-loop
 unfolding ordersListed
-returns c = rw (sym (c .before .clock-in-range .ensures) ∙ not-true _ (c .if1 .taken))
+returns c =
+    let at-clock-in-range = c .before in
+    rw (sym (at-clock-in-range .clock-in-range .ensures) ∙ not-true _ (c .if1 .taken))
 
 loop-holds : tie.Need-loop-holds Inv-loop μ-loop
 loop-holds c = (omega arith, (omega arith, (all-none _, sym (below-none _))))
@@ -42,7 +47,13 @@ cast-class c = search needs
 
 next-start-requires : tie.Need-next-start-requires Inv-loop μ-loop
 unfolding clockInRange
-next-start-requires c κs = (omega (arith, c .loop-test .taken), true-le (c .before .before .before .before .args .clock) (2 ^ 62) (sym (c .before .before .before .clock-in-range .ensures) ∙ not-false _ (c .before .before .if1 .left)))
+next-start-requires c κs =
+    let at-if1 = c .before .before in
+    let at-clock-in-range = at-if1 .before in
+    let at-start = at-clock-in-range .before in (
+      omega (arith, c .loop-test .taken),
+      true-le (at-start .args .clock) (2 ^ 62) (sym (at-clock-in-range .clock-in-range .ensures) ∙ not-false _ (at-if1 .if1 .left)),
+    )
 
 element-copy-out-order-length : tie.Need-element-copy-out-order-length Inv-loop μ-loop
 element-copy-out-order-length c = search needs
@@ -55,10 +66,32 @@ order-length-requires c κs = search needs
 
 returns-2 : tie.Need-returns-2 Inv-loop μ-loop
 unfolding ordersListed
-returns-2 c = let len = length-as (c .before .before .before .before .before .before .before .before .before .args .clock) (c .before .before .before .before .before .before .before .before .before .args .slot) (now (c .before .before .before .before .before .before .before .before .before .args .heads)) (now (c .before .before .before .before .before .before .before .before .before .args .tails)) (now (c .before .before .before .before .before .before .before .before .before .args .shares)) (now (c .before .before .before .before .before .before .before .before .before .args .counts)) (now (c .before .before .before .before .before .before .before .before .before .args .ready)) (now (c .before .before .before .before .before .before .before .before .before .args .next)) (c .before .before .before .before .before .before .loop .k) _ _ (c .before .before .before .before .next-start .ensures) (c .before .order-length .ensures) in rw (sym (c .before .before .before .before .before .before .before .before .clock-in-range .ensures) ∙ not-false _ (c .before .before .before .before .before .before .before .if1 .left), all-stop (λ j. leb (orderLength (c .before .before .before .before .before .before .before .before .before .args .clock) (c .before .before .before .before .before .before .before .before .before .args .slot) (now (c .before .before .before .before .before .before .before .before .before .args .heads)) (now (c .before .before .before .before .before .before .before .before .before .args .tails)) (now (c .before .before .before .before .before .before .before .before .before .args .shares)) (now (c .before .before .before .before .before .before .before .before .before .args .counts)) (now (c .before .before .before .before .before .before .before .before .before .args .ready)) (now (c .before .before .before .before .before .before .before .before .before .args .next)) j) 64) 17 (c .before .before .before .before .before .before .loop .k) (c .before .before .before .before .before .loop-test .taken) (lt-leb (orderLength (c .before .before .before .before .before .before .before .before .before .args .clock) (c .before .before .before .before .before .before .before .before .before .args .slot) (now (c .before .before .before .before .before .before .before .before .before .args .heads)) (now (c .before .before .before .before .before .before .before .before .before .args .tails)) (now (c .before .before .before .before .before .before .before .before .before .args .shares)) (now (c .before .before .before .before .before .before .before .before .before .args .counts)) (now (c .before .before .before .before .before .before .before .before .before .args .ready)) (now (c .before .before .before .before .before .before .before .before .before .args .next)) (c .before .before .before .before .before .before .loop .k)) 64 (omega (arith, len, c .if2 .taken))))
+returns-2 c =
+    let at-order-length = c .before in
+    let at-next-start = at-order-length .before .before .before in
+    let at-loop-test = at-next-start .before in
+    let at-loop = at-loop-test .before in
+    let at-if1 = at-loop .before in
+    let at-clock-in-range = at-if1 .before in
+    let at-start = at-clock-in-range .before in
+    let len =
+    length-as (at-start .args .clock) (at-start .args .slot) (now (at-start .args .heads)) (now (at-start .args .tails)) (now (at-start .args .shares))
+    (now (at-start .args .counts)) (now (at-start .args .ready)) (now (at-start .args .next)) (at-loop .loop .k) _ _ (at-next-start .next-start .ensures)
+    (at-order-length .order-length .ensures) in
+    rw (
+      sym (at-clock-in-range .clock-in-range .ensures) ∙ not-false _ (at-if1 .if1 .left),
+      all-stop (λ j. leb (orderLength (at-start .args .clock) (at-start .args .slot) (now (at-start .args .heads)) (now (at-start .args .tails))
+          (now (at-start .args .shares)) (now (at-start .args .counts)) (now (at-start .args .ready)) (now (at-start .args .next)) j) 64) 17 (at-loop .loop .k)
+          (at-loop-test .loop-test .taken)
+          (lt-leb (orderLength (at-start .args .clock) (at-start .args .slot) (now (at-start .args .heads)) (now (at-start .args .tails))
+          (now (at-start .args .shares)) (now (at-start .args .counts)) (now (at-start .args .ready)) (now (at-start .args .next)) (at-loop .loop .k)) 64
+          (omega (arith, len, c .if2 .taken))),
+    )
 
 add-total : tie.Need-add-total Inv-loop μ-loop
-add-total c = omega (arith, c .before .before .before .before .before .before .loop .inv .1 .0, c .if2 .left)
+add-total c =
+    let at-loop = c .before .before .before .before .before .before in
+    omega (arith, at-loop .loop .inv .1 .0, c .if2 .left)
 
 add-k : tie.Need-add-k Inv-loop μ-loop
 add-k c = search needs
@@ -67,14 +100,56 @@ loop-less : tie.Need-loop-less Inv-loop μ-loop
 loop-less c = search needs
 
 loop-again : tie.Need-loop-again Inv-loop μ-loop
-loop-again c = let len = length-as (c .before .before .before .before .before .before .before .before .before .args .clock) (c .before .before .before .before .before .before .before .before .before .args .slot) (now (c .before .before .before .before .before .before .before .before .before .args .heads)) (now (c .before .before .before .before .before .before .before .before .before .args .tails)) (now (c .before .before .before .before .before .before .before .before .before .args .shares)) (now (c .before .before .before .before .before .before .before .before .before .args .counts)) (now (c .before .before .before .before .before .before .before .before .before .args .ready)) (now (c .before .before .before .before .before .before .before .before .before .args .next)) (c .before .before .before .before .before .before .loop .k) _ _ (c .before .before .before .before .next-start .ensures) (c .before .order-length .ensures) in (omega arith, (omega (arith, c .before .before .before .before .before .before .loop .inv .1 .0, c .if2 .left), (all-more (λ j. leb (orderLength (c .before .before .before .before .before .before .before .before .before .args .clock) (c .before .before .before .before .before .before .before .before .before .args .slot) (now (c .before .before .before .before .before .before .before .before .before .args .heads)) (now (c .before .before .before .before .before .before .before .before .before .args .tails)) (now (c .before .before .before .before .before .before .before .before .before .args .shares)) (now (c .before .before .before .before .before .before .before .before .before .args .counts)) (now (c .before .before .before .before .before .before .before .before .before .args .ready)) (now (c .before .before .before .before .before .before .before .before .before .args .next)) j) 64) (c .before .before .before .before .before .before .loop .k) (c .before .before .before .before .before .before .loop .inv .1 .1 .0) (le-leb (orderLength (c .before .before .before .before .before .before .before .before .before .args .clock) (c .before .before .before .before .before .before .before .before .before .args .slot) (now (c .before .before .before .before .before .before .before .before .before .args .heads)) (now (c .before .before .before .before .before .before .before .before .before .args .tails)) (now (c .before .before .before .before .before .before .before .before .before .args .shares)) (now (c .before .before .before .before .before .before .before .before .before .args .counts)) (now (c .before .before .before .before .before .before .before .before .before .args .ready)) (now (c .before .before .before .before .before .before .before .before .before .args .next)) (c .before .before .before .before .before .before .loop .k)) 64 (omega (arith, len, c .if2 .left))), omega (arith, len, c .before .before .before .before .before .before .loop .inv .1 .1 .1, below-more (orderLength (c .before .before .before .before .before .before .before .before .before .args .clock) (c .before .before .before .before .before .before .before .before .before .args .slot) (now (c .before .before .before .before .before .before .before .before .before .args .heads)) (now (c .before .before .before .before .before .before .before .before .before .args .tails)) (now (c .before .before .before .before .before .before .before .before .before .args .shares)) (now (c .before .before .before .before .before .before .before .before .before .args .counts)) (now (c .before .before .before .before .before .before .before .before .before .args .ready)) (now (c .before .before .before .before .before .before .before .before .before .args .next))) (c .before .before .before .before .before .before .loop .k)))))
+loop-again c =
+    let at-order-length = c .before in
+    let at-next-start = at-order-length .before .before .before in
+    let at-loop = at-next-start .before .before in
+    let at-start = at-loop .before .before .before in
+    let len =
+    length-as (at-start .args .clock) (at-start .args .slot) (now (at-start .args .heads)) (now (at-start .args .tails)) (now (at-start .args .shares))
+    (now (at-start .args .counts)) (now (at-start .args .ready)) (now (at-start .args .next)) (at-loop .loop .k) _ _ (at-next-start .next-start .ensures)
+    (at-order-length .order-length .ensures) in (
+      omega arith,
+      (
+        omega (arith, at-loop .loop .inv .1 .0, c .if2 .left),
+        (
+          all-more (λ j. leb (orderLength (at-start .args .clock) (at-start .args .slot) (now (at-start .args .heads)) (now (at-start .args .tails))
+              (now (at-start .args .shares)) (now (at-start .args .counts)) (now (at-start .args .ready)) (now (at-start .args .next)) j) 64) (at-loop .loop .k)
+              (at-loop .loop .inv .1 .1 .0)
+              (le-leb (orderLength (at-start .args .clock) (at-start .args .slot) (now (at-start .args .heads)) (now (at-start .args .tails))
+              (now (at-start .args .shares)) (now (at-start .args .counts)) (now (at-start .args .ready)) (now (at-start .args .next)) (at-loop .loop .k)) 64
+              (omega (arith, len, c .if2 .left))),
+          omega (
+            arith,
+            len,
+            at-loop .loop .inv .1 .1 .1,
+            below-more (orderLength (at-start .args .clock) (at-start .args .slot) (now (at-start .args .heads)) (now (at-start .args .tails))
+                (now (at-start .args .shares)) (now (at-start .args .counts)) (now (at-start .args .ready)) (now (at-start .args .next))) (at-loop .loop .k),
+          ),
+        ),
+      ),
+    )
 
 blocks-in-order-requires : tie.Need-blocks-in-order-requires Inv-loop μ-loop
 blocks-in-order-requires c κs = search needs
 
 returns-3 : tie.Need-returns-3 Inv-loop μ-loop
 unfolding ordersListed
-returns-3 c = let e : c .before .before .loop .k ≡ 17 = omega arith in rw (sym (c .before .before .before .before .clock-in-range .ensures) ∙ not-false _ (c .before .before .before .if1 .left), rw e at (c .before .before .loop .inv .1 .1 .0), ← c .blocks-in-order .ensures) (ap (λ (n : ℕ). eqb n (c .blocks-in-order .result)) (c .before .before .loop .inv .1 .1 .1 ∙ ap (below (orderLength (c .before .before .before .before .before .args .clock) (c .before .before .before .before .before .args .slot) (now (c .before .before .before .before .before .args .heads)) (now (c .before .before .before .before .before .args .tails)) (now (c .before .before .before .before .before .args .shares)) (now (c .before .before .before .before .before .args .counts)) (now (c .before .before .before .before .before .args .ready)) (now (c .before .before .before .before .before .args .next)))) e))
+returns-3 c =
+    let at-loop = c .before .before in
+    let at-if1 = at-loop .before in
+    let at-clock-in-range = at-if1 .before in
+    let at-start = at-clock-in-range .before in
+    let e : c .before .before .loop .k ≡ 17 =
+    omega arith in rw (
+      sym (at-clock-in-range .clock-in-range .ensures) ∙ not-false _ (at-if1 .if1 .left),
+      rw e at (at-loop .loop .inv .1 .1 .0),
+      ← c .blocks-in-order .ensures,
+    )
+    (ap (λ (n : ℕ). eqb n (c .blocks-in-order .result))
+    (at-loop .loop .inv .1 .1 .1
+    ∙ ap (below (orderLength (at-start .args .clock) (at-start .args .slot) (now (at-start .args .heads)) (now (at-start .args .tails))
+    (now (at-start .args .shares)) (now (at-start .args .counts)) (now (at-start .args .ready)) (now (at-start .args .next)))) e))
 
 pub orders-listed-spec : {M : Type 1} → statement M
 orders-listed-spec =

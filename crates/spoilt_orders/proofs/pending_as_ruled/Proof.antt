@@ -37,11 +37,25 @@ loop-less : tie.Need-loop-less Inv-loop μ-loop
 loop-less c = search needs
 
 loop-again : tie.Need-loop-again Inv-loop μ-loop
-loop-again c = (omega arith, c .set-with .ensures ∙ ap₂ (λ (m : Bool) (s : ℕ). cond m (withBit s (c .before .before .before .loop .k)) s) (c .before .class-pending .ensures) (c .before .before .before .loop .inv .1) ∙ sym (set-next (classPending (c .before .before .before .before .args .clock) (now (c .before .before .before .before .args .ready)) (now (c .before .before .before .before .args .heads))) (c .before .before .before .loop .k)))
+loop-again c =
+    let at-class-pending = c .before in
+    let at-loop = at-class-pending .before .before in
+    let at-start = at-loop .before in (
+      omega arith,
+      c .set-with .ensures
+          ∙ ap₂ (λ (m : Bool) (s : ℕ). cond m (withBit s (at-loop .loop .k)) s) (at-class-pending .class-pending .ensures) (at-loop .loop .inv .1)
+          ∙ sym (set-next (classPending (at-start .args .clock) (now (at-start .args .ready)) (now (at-start .args .heads))) (at-loop .loop .k)),
+    )
 
 returns : tie.Need-returns Inv-loop μ-loop
 unfolding pendingAsRuled
-returns c = let e : c .before .loop .k ≡ 17 = omega arith in ap (eqb (c .before .before .args .pending)) (c .before .loop .inv .1 ∙ ap (λ (n : ℕ). setBelow n (classPending (c .before .before .args .clock) (now (c .before .before .args .ready)) (now (c .before .before .args .heads)))) e)
+returns c =
+    let at-loop = c .before in
+    let at-start = at-loop .before in
+    let e : c .before .loop .k ≡ 17 =
+    omega arith in ap (eqb (at-start .args .pending))
+    (at-loop .loop .inv .1
+    ∙ ap (λ (n : ℕ). setBelow n (classPending (at-start .args .clock) (now (at-start .args .ready)) (now (at-start .args .heads)))) e)
 
 pub pending-as-ruled-spec : {M : Type 1} → statement M
 pending-as-ruled-spec =

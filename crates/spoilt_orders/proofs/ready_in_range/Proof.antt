@@ -18,15 +18,25 @@ shl-whole c = search needs
 
 returns : tie.Need-returns
 unfolding readyInRange
-returns c = let f : c .before .args .ready < 2 ^ 64 = omega arith in rw (ne-eqb _ _ (λ e. c .if1 .taken (whole-is (c .before .args .ready) (c .before .args .k) f ∙ e)))
+returns c =
+    let at-start = c .before in
+    let f : c .before .args .ready < 2 ^ 64 = omega arith in rw (ne-eqb _ _ (λ e. c .if1 .taken (whole-is (at-start .args .ready) (at-start .args .k) f ∙ e)))
 
 returns-2 : tie.Need-returns-2
 unfolding readyInRange
-returns-2 c = let f : c .before .before .args .ready < 2 ^ 64 = omega arith in rw (eq-eqb _ _ (sym (whole-is (c .before .before .args .ready) (c .before .before .args .k) f) ∙ c .before .if1 .left), lt-leb _ _ (c .if2 .taken))
+returns-2 c =
+    let at-if1 = c .before in
+    let at-start = at-if1 .before in
+    let f : c .before .before .args .ready < 2 ^ 64 =
+    omega arith in rw (eq-eqb _ _ (sym (whole-is (at-start .args .ready) (at-start .args .k) f) ∙ at-if1 .if1 .left), lt-leb _ _ (c .if2 .taken))
 
 returns-3 : tie.Need-returns-3
 unfolding readyInRange
-returns-3 c = let f : c .before .before .args .ready < 2 ^ 64 = omega arith in rw (eq-eqb _ _ (sym (whole-is (c .before .before .args .ready) (c .before .before .args .k) f) ∙ c .before .if1 .left), le-leb _ _ (c .if2 .left))
+returns-3 c =
+    let at-if1 = c .before in
+    let at-start = at-if1 .before in
+    let f : c .before .before .args .ready < 2 ^ 64 =
+    omega arith in rw (eq-eqb _ _ (sym (whole-is (at-start .args .ready) (at-start .args .k) f) ∙ at-if1 .if1 .left), le-leb _ _ (c .if2 .left))
 
 pub ready-in-range-spec : {M : Type 1} → statement M
 ready-in-range-spec = tie.close (tie.spec shr-whole shl-whole returns returns-2 returns-3)

@@ -9,7 +9,9 @@ with-bit-requires : tie.Need-with-bit-requires
 with-bit-requires c κs = search needs
 
 returns : tie.Need-returns
-returns c = rw (c .before .if1 .taken) (c .with-bit .ensures)
+returns c =
+    let at-if1 = c .before in
+    rw (at-if1 .if1 .taken) (c .with-bit .ensures)
 
 returns-2 : tie.Need-returns-2
 returns-2 c = rw (c .if1 .left)

@@ -12,15 +12,24 @@ charge-requires c κs = search needs
 
 returns : tie.Need-returns
 unfolding deficitInRange
-returns c = rw (← c .before .before .before .charge .ensures, le-ltb _ _ (c .if1 .taken))
+returns c =
+    let at-charge = c .before .before .before in
+    rw (← at-charge .charge .ensures, le-ltb _ _ (c .if1 .taken))
 
 returns-2 : tie.Need-returns-2
 unfolding deficitInRange
-returns-2 c = rw (← c .before .before .before .before .charge .ensures, lt-ltb _ _ (c .before .if1 .left), c .if2 .taken)
+returns-2 c =
+    let at-if1 = c .before in
+    let at-charge = at-if1 .before .before .before in
+    rw (← at-charge .charge .ensures, lt-ltb _ _ (at-if1 .if1 .left), c .if2 .taken)
 
 returns-3 : tie.Need-returns-3
 unfolding deficitInRange
-returns-3 c = rw (← c .before .before .before .before .before .charge .ensures, lt-ltb _ _ (c .before .before .if1 .left), c .before .if2 .left)
+returns-3 c =
+    let at-if2 = c .before in
+    let at-if1 = at-if2 .before in
+    let at-charge = at-if1 .before .before .before in
+    rw (← at-charge .charge .ensures, lt-ltb _ _ (at-if1 .if1 .left), at-if2 .if2 .left)
 
 pub deficit-in-range-spec : {M : Type 1} → statement M
 deficit-in-range-spec = tie.close (tie.spec charge-requires returns returns-2 returns-3)

@@ -16,7 +16,9 @@ none-held-requires c κs = search needs
 
 returns-2 : tie.Need-returns-2
 unfolding heldWhileWaiting
-returns-2 c = rw (eq-eqb _ _ (c .before .if1 .left)) (c .none-held .ensures)
+returns-2 c =
+    let at-if1 = c .before in
+    rw (eq-eqb _ _ (at-if1 .if1 .left)) (c .none-held .ensures)
 
 pub held-while-waiting-spec : {M : Type 1} → statement M
 held-while-waiting-spec = tie.close (tie.spec returns none-held-requires returns-2)

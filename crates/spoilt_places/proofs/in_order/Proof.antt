@@ -13,14 +13,20 @@ returns c = rw (eq-eqb _ _ (c .if1 .taken))
 
 returns-2 : tie.Need-returns-2
 unfolding inOrder
-returns-2 c = rw (ne-eqb _ _ (c .before .if1 .left), no-link _ (c .before .before .args .p) (c .if2 .taken))
+returns-2 c =
+    let at-if1 = c .before in
+    let at-start = at-if1 .before in
+    rw (ne-eqb _ _ (at-if1 .if1 .left), no-link _ (at-start .args .p) (c .if2 .taken))
 
 sub-result : tie.Need-sub-result
 sub-result c = search needs
 
 returns-3 : tie.Need-returns-3
 unfolding inOrder
-returns-3 c = rw (ne-eqb _ _ (c .before .if1 .left), link-as (c .before .before .args .slot) (c .before .before .args .p) (c .if2 .left))
+returns-3 c =
+    let at-if1 = c .before in
+    let at-start = at-if1 .before in
+    rw (ne-eqb _ _ (at-if1 .if1 .left), link-as (at-start .args .slot) (at-start .args .p) (c .if2 .left))
 
 pub in-order-spec : {M : Type 1} → statement M
 in-order-spec = tie.close (tie.spec returns returns-2 sub-result returns-3)

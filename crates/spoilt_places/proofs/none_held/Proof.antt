@@ -31,7 +31,10 @@ element-copy-out-if1 c = search needs
 
 returns : tie.Need-returns Inv-loop μ-loop
 unfolding noneHeld
-returns c = sym (all-stop _ 17 (c .before .before .before .loop .k) (c .before .before .loop-test .taken) (ne-eqb _ _ (c .if1 .taken)))
+returns c =
+    let at-loop-test = c .before .before in
+    let at-loop = at-loop-test .before in
+    sym (all-stop _ 17 (at-loop .loop .k) (at-loop-test .loop-test .taken) (ne-eqb _ _ (c .if1 .taken)))
 
 add-k : tie.Need-add-k Inv-loop μ-loop
 add-k c = search needs
@@ -40,11 +43,15 @@ loop-less : tie.Need-loop-less Inv-loop μ-loop
 loop-less c = search needs
 
 loop-again : tie.Need-loop-again Inv-loop μ-loop
-loop-again c = (omega arith, all-more _ (c .before .before .before .loop .k) (c .before .before .before .loop .inv .1) (eq-eqb _ _ (c .if1 .left)))
+loop-again c =
+    let at-loop = c .before .before .before in
+    (omega arith, all-more _ (at-loop .loop .k) (at-loop .loop .inv .1) (eq-eqb _ _ (c .if1 .left)))
 
 returns-2 : tie.Need-returns-2 Inv-loop μ-loop
 unfolding noneHeld
-returns-2 c = let e : c .before .loop .k ≡ 17 = omega arith in sym (rw e at (c .before .loop .inv .1))
+returns-2 c =
+    let at-loop = c .before in
+    let e : c .before .loop .k ≡ 17 = omega arith in sym (rw e at (at-loop .loop .inv .1))
 
 pub none-held-spec : {M : Type 1} → statement M
 none-held-spec =

@@ -16,7 +16,9 @@ times-found-requires c κs = search needs
 
 returns-2 : tie.Need-returns-2
 unfolding numberApart
-returns-2 c = rw (ne-eqb _ _ (c .before .if1 .left), ← c .times-found .ensures)
+returns-2 c =
+    let at-if1 = c .before in
+    rw (ne-eqb _ _ (at-if1 .if1 .left), ← c .times-found .ensures)
 
 pub number-apart-spec : {M : Type 1} → statement M
 number-apart-spec = tie.close (tie.spec returns times-found-requires returns-2)

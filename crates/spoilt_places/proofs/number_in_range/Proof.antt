@@ -7,7 +7,9 @@ use Rattle.spoilt_places.proofs.number_in_range.Lts as lts
 
 returns : tie.Need-returns
 unfolding numberInRange
-returns c = rw (lt-ltb _ _ (c .before .if1 .taken))
+returns c =
+    let at-if1 = c .before in
+    rw (lt-ltb _ _ (at-if1 .if1 .taken))
 
 returns-2 : tie.Need-returns-2
 unfolding numberInRange

@@ -34,7 +34,11 @@ number-apart-requires c κs = search needs
 
 returns : tie.Need-returns Inv-loop μ-loop
 unfolding numbersApart
-returns c = sym (all-stop _ 64 (c .before .before .before .before .loop .p) (c .before .before .before .loop-test .taken) (sym (c .before .number-apart .ensures) ∙ not-true _ (c .if1 .taken)))
+returns c =
+    let at-number-apart = c .before in
+    let at-loop-test = at-number-apart .before .before in
+    let at-loop = at-loop-test .before in
+    sym (all-stop _ 64 (at-loop .loop .p) (at-loop-test .loop-test .taken) (sym (at-number-apart .number-apart .ensures) ∙ not-true _ (c .if1 .taken)))
 
 add-p : tie.Need-add-p Inv-loop μ-loop
 add-p c = search needs
@@ -43,11 +47,16 @@ loop-less : tie.Need-loop-less Inv-loop μ-loop
 loop-less c = search needs
 
 loop-again : tie.Need-loop-again Inv-loop μ-loop
-loop-again c = (omega arith, all-more _ (c .before .before .before .before .loop .p) (c .before .before .before .before .loop .inv .1) (sym (c .before .number-apart .ensures) ∙ not-false _ (c .if1 .left)))
+loop-again c =
+    let at-number-apart = c .before in
+    let at-loop = at-number-apart .before .before .before in
+    (omega arith, all-more _ (at-loop .loop .p) (at-loop .loop .inv .1) (sym (at-number-apart .number-apart .ensures) ∙ not-false _ (c .if1 .left)))
 
 returns-2 : tie.Need-returns-2 Inv-loop μ-loop
 unfolding numbersApart
-returns-2 c = let e : c .before .loop .p ≡ 64 = omega arith in sym (rw e at (c .before .loop .inv .1))
+returns-2 c =
+    let at-loop = c .before in
+    let e : c .before .loop .p ≡ 64 = omega arith in sym (rw e at (at-loop .loop .inv .1))
 
 pub numbers-apart-spec : {M : Type 1} → statement M
 numbers-apart-spec =

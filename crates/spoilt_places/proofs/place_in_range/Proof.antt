@@ -20,21 +20,40 @@ number-in-range-requires c κs = search needs
 
 returns : tie.Need-returns
 unfolding placeInRange
-returns c = rw (sym (c .before .number-in-range .ensures) ∙ not-true _ (c .if1 .taken))
+returns c =
+    let at-number-in-range = c .before in
+    rw (sym (at-number-in-range .number-in-range .ensures) ∙ not-true _ (c .if1 .taken))
 
 share-in-range-requires : tie.Need-share-in-range-requires
 share-in-range-requires c κs = search needs
 
 returns-2 : tie.Need-returns-2
 unfolding placeInRange
-returns-2 c = rw (sym (c .before .before .before .number-in-range .ensures) ∙ not-false _ (c .before .before .if1 .left), sym (c .before .share-in-range .ensures) ∙ not-true _ (c .if2 .taken))
+returns-2 c =
+    let at-share-in-range = c .before in
+    let at-if1 = at-share-in-range .before in
+    let at-number-in-range = at-if1 .before in
+    rw (
+      sym (at-number-in-range .number-in-range .ensures) ∙ not-false _ (at-if1 .if1 .left),
+      sym (at-share-in-range .share-in-range .ensures) ∙ not-true _ (c .if2 .taken),
+    )
 
 ring-in-range-requires : tie.Need-ring-in-range-requires
 ring-in-range-requires c κs = search needs
 
 returns-3 : tie.Need-returns-3
 unfolding placeInRange
-returns-3 c = rw (sym (c .before .before .before .before .before .number-in-range .ensures) ∙ not-false _ (c .before .before .before .before .if1 .left), sym (c .before .before .before .share-in-range .ensures) ∙ not-false _ (c .before .before .if2 .left), sym (c .before .ring-in-range .ensures) ∙ not-true _ (c .if3 .taken))
+returns-3 c =
+    let at-ring-in-range = c .before in
+    let at-if2 = at-ring-in-range .before in
+    let at-share-in-range = at-if2 .before in
+    let at-if1 = at-share-in-range .before in
+    let at-number-in-range = at-if1 .before in
+    rw (
+      sym (at-number-in-range .number-in-range .ensures) ∙ not-false _ (at-if1 .if1 .left),
+      sym (at-share-in-range .share-in-range .ensures) ∙ not-false _ (at-if2 .if2 .left),
+      sym (at-ring-in-range .ring-in-range .ensures) ∙ not-true _ (c .if3 .taken),
+    )
 
 in-order-requires : tie.Need-in-order-requires
 in-order-requires c κs = search needs
@@ -44,21 +63,73 @@ deficit-in-range-requires c κs = search needs
 
 returns-4 : tie.Need-returns-4
 unfolding placeInRange
-returns-4 c = rw (sym (c .before .before .before .before .before .before .before .before .number-in-range .ensures) ∙ not-false _ (c .before .before .before .before .before .before .before .if1 .left), sym (c .before .before .before .before .before .before .share-in-range .ensures) ∙ not-false _ (c .before .before .before .before .before .if2 .left), sym (c .before .before .before .before .ring-in-range .ensures) ∙ not-false _ (c .before .before .before .if3 .left), ← c .before .before .in-order .ensures, sym (c .before .deficit-in-range .ensures) ∙ not-true _ (c .if4 .taken))
+returns-4 c =
+    let at-deficit-in-range = c .before in
+    let at-in-order = at-deficit-in-range .before in
+    let at-if3 = at-in-order .before in
+    let at-ring-in-range = at-if3 .before in
+    let at-if2 = at-ring-in-range .before in
+    let at-share-in-range = at-if2 .before in
+    let at-if1 = at-share-in-range .before in
+    let at-number-in-range = at-if1 .before in
+    rw (
+      sym (at-number-in-range .number-in-range .ensures) ∙ not-false _ (at-if1 .if1 .left),
+      sym (at-share-in-range .share-in-range .ensures) ∙ not-false _ (at-if2 .if2 .left),
+      sym (at-ring-in-range .ring-in-range .ensures) ∙ not-false _ (at-if3 .if3 .left),
+      ← at-in-order .in-order .ensures,
+      sym (at-deficit-in-range .deficit-in-range .ensures) ∙ not-true _ (c .if4 .taken),
+    )
 
 free-is-zero-requires : tie.Need-free-is-zero-requires
 free-is-zero-requires c κs = search needs
 
 returns-5 : tie.Need-returns-5
 unfolding placeInRange
-returns-5 c = rw (sym (c .before .before .before .before .before .before .before .before .before .before .number-in-range .ensures) ∙ not-false _ (c .before .before .before .before .before .before .before .before .before .if1 .left), sym (c .before .before .before .before .before .before .before .before .share-in-range .ensures) ∙ not-false _ (c .before .before .before .before .before .before .before .if2 .left), sym (c .before .before .before .before .before .before .ring-in-range .ensures) ∙ not-false _ (c .before .before .before .before .before .if3 .left), ← c .before .before .before .before .in-order .ensures, sym (c .before .before .before .deficit-in-range .ensures) ∙ not-false _ (c .before .before .if4 .left), sym (c .before .free-is-zero .ensures) ∙ not-true _ (c .if5 .taken))
+returns-5 c =
+    let at-free-is-zero = c .before in
+    let at-if4 = at-free-is-zero .before in
+    let at-deficit-in-range = at-if4 .before in
+    let at-in-order = at-deficit-in-range .before in
+    let at-if3 = at-in-order .before in
+    let at-ring-in-range = at-if3 .before in
+    let at-if2 = at-ring-in-range .before in
+    let at-share-in-range = at-if2 .before in
+    let at-if1 = at-share-in-range .before in
+    let at-number-in-range = at-if1 .before in
+    rw (
+      sym (at-number-in-range .number-in-range .ensures) ∙ not-false _ (at-if1 .if1 .left),
+      sym (at-share-in-range .share-in-range .ensures) ∙ not-false _ (at-if2 .if2 .left),
+      sym (at-ring-in-range .ring-in-range .ensures) ∙ not-false _ (at-if3 .if3 .left),
+      ← at-in-order .in-order .ensures,
+      sym (at-deficit-in-range .deficit-in-range .ensures) ∙ not-false _ (at-if4 .if4 .left),
+      sym (at-free-is-zero .free-is-zero .ensures) ∙ not-true _ (c .if5 .taken),
+    )
 
 unused-is-zero-requires : tie.Need-unused-is-zero-requires
 unused-is-zero-requires c κs = search needs
 
 returns-6 : tie.Need-returns-6
 unfolding placeInRange
-returns-6 c = rw (sym (c .before .before .before .before .before .before .before .before .before .before .before .number-in-range .ensures) ∙ not-false _ (c .before .before .before .before .before .before .before .before .before .before .if1 .left), sym (c .before .before .before .before .before .before .before .before .before .share-in-range .ensures) ∙ not-false _ (c .before .before .before .before .before .before .before .before .if2 .left), sym (c .before .before .before .before .before .before .before .ring-in-range .ensures) ∙ not-false _ (c .before .before .before .before .before .before .if3 .left), ← c .before .before .before .before .before .in-order .ensures, sym (c .before .before .before .before .deficit-in-range .ensures) ∙ not-false _ (c .before .before .before .if4 .left), sym (c .before .before .free-is-zero .ensures) ∙ not-false _ (c .before .if5 .left)) (c .unused-is-zero .ensures ∙ last-test _)
+returns-6 c =
+    let at-if5 = c .before in
+    let at-free-is-zero = at-if5 .before in
+    let at-if4 = at-free-is-zero .before in
+    let at-deficit-in-range = at-if4 .before in
+    let at-in-order = at-deficit-in-range .before in
+    let at-if3 = at-in-order .before in
+    let at-ring-in-range = at-if3 .before in
+    let at-if2 = at-ring-in-range .before in
+    let at-share-in-range = at-if2 .before in
+    let at-if1 = at-share-in-range .before in
+    let at-number-in-range = at-if1 .before in
+    rw (
+      sym (at-number-in-range .number-in-range .ensures) ∙ not-false _ (at-if1 .if1 .left),
+      sym (at-share-in-range .share-in-range .ensures) ∙ not-false _ (at-if2 .if2 .left),
+      sym (at-ring-in-range .ring-in-range .ensures) ∙ not-false _ (at-if3 .if3 .left),
+      ← at-in-order .in-order .ensures,
+      sym (at-deficit-in-range .deficit-in-range .ensures) ∙ not-false _ (at-if4 .if4 .left),
+      sym (at-free-is-zero .free-is-zero .ensures) ∙ not-false _ (at-if5 .if5 .left),
+    ) (c .unused-is-zero .ensures ∙ last-test _)
 
 pub place-in-range-spec : {M : Type 1} → statement M
 place-in-range-spec =

@@ -40,7 +40,9 @@ loop-again c = (omega arith, all-more _ _ (search needs) (sym (c .before .place-
 
 returns-2 : tie.Need-returns-2 Inv-loop μ-loop
 unfolding placesInRange
-returns-2 c = let e : c .before .loop .p ≡ 64 = omega arith in sym (rw e at (c .before .loop .inv .1))
+returns-2 c =
+    let at-loop = c .before in
+    let e : c .before .loop .p ≡ 64 = omega arith in sym (rw e at (at-loop .loop .inv .1))
 
 -- The needs with no name are the reads of the arrays: the bytes before the element, and that the array has it.
 pub places-in-range-spec : {M : Type 1} → statement M

@@ -11,11 +11,16 @@ depth-requires c κs = search needs
 
 returns : tie.Need-returns
 unfolding ringInRange
-returns c = rw (← c .before .before .depth .ensures, le-ltb _ _ (c .if1 .taken))
+returns c =
+    let at-depth = c .before .before in
+    rw (← at-depth .depth .ensures, le-ltb _ _ (c .if1 .taken))
 
 returns-2 : tie.Need-returns-2
 unfolding ringInRange
-returns-2 c = rw (← c .before .before .before .depth .ensures, lt-ltb _ _ (c .before .if1 .left))
+returns-2 c =
+    let at-if1 = c .before in
+    let at-depth = at-if1 .before .before in
+    rw (← at-depth .depth .ensures, lt-ltb _ _ (at-if1 .if1 .left))
 
 pub ring-in-range-spec : {M : Type 1} → statement M
 ring-in-range-spec = tie.close (tie.spec depth-requires returns returns-2)

@@ -14,7 +14,9 @@ add-result c = search needs
 
 returns : tie.Need-returns
 unfolding sharesFit
-returns c = rw (← c .before .before .sum .ensures .0, ← c .sum2 .ensures .0)
+returns c =
+    let at-sum = c .before .before in
+    rw (← at-sum .sum .ensures .0, ← c .sum2 .ensures .0)
 
 pub shares-fit-spec : {M : Type 1} → statement M
 shares-fit-spec = tie.close (tie.spec sum-requires sum-requires-2 add-result returns)

@@ -34,7 +34,10 @@ one-if-requires : tie.Need-one-if-requires Inv-loop μ-loop
 one-if-requires c κs = search needs
 
 add-found : tie.Need-add-found Inv-loop μ-loop
-add-found c = omega (arith, c .one-if .ensures, oneIf-le (eqb (getD (now (c .before .before .before .before .args .numbers)) (c .before .before .before .loop .p) 0) (c .before .before .before .before .args .n)))
+add-found c =
+    let at-loop = c .before .before .before in
+    let at-start = at-loop .before in
+    omega (arith, c .one-if .ensures, oneIf-le (eqb (getD (now (at-start .args .numbers)) (at-loop .loop .p) 0) (at-start .args .n)))
 
 add-p : tie.Need-add-p Inv-loop μ-loop
 add-p c = search needs
@@ -43,11 +46,28 @@ loop-less : tie.Need-loop-less Inv-loop μ-loop
 loop-less c = search needs
 
 loop-again : tie.Need-loop-again Inv-loop μ-loop
-loop-again c = (omega arith, (omega (arith, c .one-if .ensures, oneIf-le (eqb (getD (now (c .before .before .before .before .args .numbers)) (c .before .before .before .loop .p) 0) (c .before .before .before .before .args .n))), omega (arith, c .one-if .ensures, c .before .before .before .loop .inv .1 .1, below-more (λ q. oneIf (eqb (getD (now (c .before .before .before .before .args .numbers)) q 0) (c .before .before .before .before .args .n))) (c .before .before .before .loop .p))))
+loop-again c =
+    let at-loop = c .before .before .before in
+    let at-start = at-loop .before in (
+      omega arith,
+      (
+        omega (arith, c .one-if .ensures, oneIf-le (eqb (getD (now (at-start .args .numbers)) (at-loop .loop .p) 0) (at-start .args .n))),
+        omega (
+          arith,
+          c .one-if .ensures,
+          at-loop .loop .inv .1 .1,
+          below-more (λ q. oneIf (eqb (getD (now (at-start .args .numbers)) q 0) (at-start .args .n))) (at-loop .loop .p),
+        ),
+      ),
+    )
 
 returns : tie.Need-returns Inv-loop μ-loop
 unfolding timesFound
-returns c = let e : c .before .loop .p ≡ 64 = omega arith in c .before .loop .inv .1 .1 ∙ ap (below (λ q. oneIf (eqb (getD (now (c .before .before .args .numbers)) q 0) (c .before .before .args .n)))) e
+returns c =
+    let at-loop = c .before in
+    let at-start = at-loop .before in
+    let e : c .before .loop .p ≡ 64 =
+    omega arith in at-loop .loop .inv .1 .1 ∙ ap (below (λ q. oneIf (eqb (getD (now (at-start .args .numbers)) q 0) (at-start .args .n)))) e
 
 pub times-found-spec : {M : Type 1} → statement M
 times-found-spec =

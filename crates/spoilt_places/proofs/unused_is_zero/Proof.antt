@@ -11,11 +11,16 @@ returns c = rw (c .if1 .taken)
 
 returns-2 : tie.Need-returns-2
 unfolding unusedIsZero
-returns-2 c = rw (c .before .before .if1 .left, ne-eqb _ _ (c .if2 .taken))
+returns-2 c =
+    let at-if1 = c .before .before in
+    rw (at-if1 .if1 .left, ne-eqb _ _ (c .if2 .taken))
 
 returns-3 : tie.Need-returns-3
 unfolding unusedIsZero
-returns-3 c = rw (c .before .before .before .if1 .left, eq-eqb _ _ (c .before .if2 .left))
+returns-3 c =
+    let at-if2 = c .before in
+    let at-if1 = at-if2 .before .before in
+    rw (at-if1 .if1 .left, eq-eqb _ _ (at-if2 .if2 .left))
 
 pub unused-is-zero-spec : {M : Type 1} → statement M
 unused-is-zero-spec = tie.close (tie.spec returns returns-2 returns-3)

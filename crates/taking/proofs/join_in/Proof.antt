@@ -46,7 +46,10 @@ with-bit-requires c κs = search needs
 
 returns : tie.Need-returns
 unfolding joinedOrders
-returns c = ⊎-elim (λ w. rw (c .with-bit .ensures, w .1, w .2, eq-eqb _ _ (w .0 .taken))) (λ w. rw (c .with-bit .ensures, w .1, w .2, ne-eqb _ _ (w .0 .left))) (c .before .if1 .came)
+returns c =
+    let at-if1 = c .before in
+    ⊎-elim (λ w. rw (c .with-bit .ensures, w .1, w .2, eq-eqb _ _ (w .0 .taken))) (λ w. rw (c .with-bit .ensures, w .1, w .2, ne-eqb _ _ (w .0 .left)))
+    (at-if1 .if1 .came)
 
 pub join-in-spec : {M : Type 1} → statement M
 join-in-spec =

@@ -15,7 +15,9 @@ element-copy-out-count : tie.Need-element-copy-out-count
 element-copy-out-count c = search needs
 
 add-counts : tie.Need-add-counts
-add-counts c = omega (arith, depth-most, c .before .pre .room)
+add-counts c =
+    let at-start = c .before in
+    omega (arith, depth-most, at-start .pre .room)
 
 mul-counts : tie.Need-mul-counts
 mul-counts c = search needs
@@ -37,17 +39,27 @@ class-of-requires : tie.Need-class-of-requires
 class-of-requires c κs = search needs
 
 next-start-requires : tie.Need-next-start-requires
-next-start-requires c κs = (rw (c .class-of .ensures) (class-le _), c .before .before .before .before .pre .time)
+next-start-requires c κs =
+    let at-start = c .before .before .before .before in
+    (rw (c .class-of .ensures) (class-le _), at-start .pre .time)
 
 cast-join-in : tie.Need-cast-join-in
 cast-join-in c = search needs
 
 join-in-requires : tie.Need-join-in-requires
-join-in-requires c κs = let h : c .before .before .before .before .before .class-of .result ≤ 16 = rw (c .before .before .before .before .before .class-of .ensures) (class-le _) in (c .before .before .before .before .before .before .before .before .before .pre .place, (omega arith, c .before .before .before .before .before .before .before .before .before .pre .last _ (omega arith)))
+join-in-requires c κs =
+    let at-class-of = c .before .before .before .before .before in
+    let at-start = at-class-of .before .before .before .before in
+    let h : c .before .before .before .before .before .class-of .result ≤ 16 =
+    rw (at-class-of .class-of .ensures) (class-le _) in (at-start .pre .place, (omega arith, at-start .pre .last _ (omega arith)))
 
 returns-2 : tie.Need-returns-2
 unfolding takenAt
-returns-2 c = rw (eq-eqb _ _ (c .before .before .before .before .before .before .before .before .if1 .left), c .join-in .ensures, c .before .before .before .before .before .next-start .ensures, c .before .before .before .before .before .before .class-of .ensures)
+returns-2 c =
+    let at-next-start = c .before .before .before .before .before in
+    let at-class-of = at-next-start .before in
+    let at-if1 = at-class-of .before .before in
+    rw (eq-eqb _ _ (at-if1 .if1 .left), c .join-in .ensures, at-next-start .next-start .ensures, at-class-of .class-of .ensures)
 
 pub take-in-spec : {M : Type 1} → statement M
 take-in-spec =

@@ -16,7 +16,9 @@ mul-t3 c = record { fits = omega arith }
 
 returns : tie.Need-returns
 unfolding chargeOf
-returns c = rw (c .before .charged .ensures)
+returns c =
+    let at-charged = c .before in
+    rw (at-charged .charged .ensures)
 
 pub charge-spec : {M : Type 1} → statement M
 charge-spec = tie.close (tie.spec charged-requires mul-t3 returns)

@@ -24,7 +24,11 @@ loop-holds c = (omega arith, (search needs, λ j h. absurd (omega arith)))
 
 returns : tie.Need-returns Inv-loop μ-loop
 unfolding classOf
-returns c = sym (least-found (reaches (c .before .before .before .args .share)) 16 (c .before .before .loop .k) (omega arith) (c .before .before .loop .inv .1 .1) (leb-yes (2 ^ (16 - c .before .before .loop .k)) _ (rw (← c .before .before .loop .inv .1 .0) (c .if1 .taken))))
+returns c =
+    let at-loop = c .before .before in
+    let at-start = at-loop .before in
+    sym (least-found (reaches (at-start .args .share)) 16 (at-loop .loop .k) (omega arith) (at-loop .loop .inv .1 .1)
+    (leb-yes (2 ^ (16 - c .before .before .loop .k)) _ (rw (← at-loop .loop .inv .1 .0) (c .if1 .taken))))
 
 add-k : tie.Need-add-k Inv-loop μ-loop
 add-k c = omega arith
@@ -33,11 +37,24 @@ loop-less : tie.Need-loop-less Inv-loop μ-loop
 loop-less c = omega arith
 
 loop-again : tie.Need-loop-again Inv-loop μ-loop
-loop-again c = (omega arith, (rw (c .before .before .loop .inv .1 .0) (half-power 16 (c .before .before .loop .k) (c .before .loop-test .taken)), below-next (λ j. reaches (c .before .before .before .args .share) j ≡ false) (c .before .before .loop .k) (c .before .before .loop .inv .1 .1) (leb-no (2 ^ (16 - c .before .before .loop .k)) _ (rw (← c .before .before .loop .inv .1 .0) (c .if1 .left)))))
+loop-again c =
+    let at-loop-test = c .before in
+    let at-loop = at-loop-test .before in
+    let at-start = at-loop .before in (
+      omega arith,
+      (
+        rw (at-loop .loop .inv .1 .0) (half-power 16 (at-loop .loop .k) (at-loop-test .loop-test .taken)),
+        below-next (λ j. reaches (at-start .args .share) j ≡ false) (at-loop .loop .k) (at-loop .loop .inv .1 .1)
+            (leb-no (2 ^ (16 - c .before .before .loop .k)) _ (rw (← at-loop .loop .inv .1 .0) (c .if1 .left))),
+      ),
+    )
 
 returns-2 : tie.Need-returns-2 Inv-loop μ-loop
 unfolding classOf
-returns-2 c = let e : c .before .loop .k ≡ 16 = omega arith in e ∙ sym (least-none (reaches (c .before .before .args .share)) 16 (λ j h. c .before .loop .inv .1 .1 j (omega arith)))
+returns-2 c =
+    let at-start = c .before .before in
+    let e : c .before .loop .k ≡ 16 =
+    omega arith in e ∙ sym (least-none (reaches (at-start .args .share)) 16 (λ j h. c .before .loop .inv .1 .1 j (omega arith)))
 
 pub class-of-spec : {M : Type 1} → statement M
 class-of-spec =

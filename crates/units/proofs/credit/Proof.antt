@@ -17,17 +17,33 @@ largest-charge-requires : tie.Need-largest-charge-requires
 largest-charge-requires c κs = search needs
 
 interval-requires : tie.Need-interval-requires
-interval-requires c κs = omega (arith, class-le (c .before .args .share))
+interval-requires c κs =
+    let at-start = c .before in
+    omega (arith, class-le (at-start .args .share))
 
 mul-t7 : tie.Need-mul-t7
-mul-t7 c = record { fits = rw (c .interval .ensures, c .before .before .pre .1 .1 .0) (omega (arith, class-hi (c .before .before .args .share) (c .before .before .pre .1 .0))) }
+mul-t7 c =
+    let at-start = c .before .before in
+    record { fits = rw (c .interval .ensures, at-start .pre .1 .1 .0) (omega (arith, class-hi (at-start .args .share) (at-start .pre .1 .0))) }
 
 mul-t8 : tie.Need-mul-t8
-mul-t8 c = record { fits = rw (c .before .interval .ensures, c .before .before .before .pre .1 .1 .0, c .before .before .largest-charge .ensures) (credit-fits (c .before .before .before .args .share * 2 ^ classOf (c .before .before .before .args .share)) _ (class-hi (c .before .before .before .args .share) (c .before .before .before .pre .1 .0)) (charge-small (c .before .before .before .args .largest .0) (c .before .before .before .pre .1 .1 .1))) }
+mul-t8 c =
+    let at-interval = c .before in
+    let at-largest-charge = at-interval .before in
+    let at-start = at-largest-charge .before in
+    record {
+      fits = rw (at-interval .interval .ensures, at-start .pre .1 .1 .0, at-largest-charge .largest-charge .ensures)
+          (credit-fits (at-start .args .share * 2 ^ classOf (at-start .args .share)) _ (class-hi (at-start .args .share) (at-start .pre .1 .0))
+          (charge-small (at-start .args .largest .0) (at-start .pre .1 .1 .1)));
+    }
 
 returns : tie.Need-returns
 unfolding creditOf
-returns c = rw (c .before .interval .ensures, c .before .before .before .pre .1 .1 .0, c .before .before .largest-charge .ensures)
+returns c =
+    let at-interval = c .before in
+    let at-largest-charge = at-interval .before in
+    let at-start = at-largest-charge .before in
+    rw (at-interval .interval .ensures, at-start .pre .1 .1 .0, at-largest-charge .largest-charge .ensures)
 
 pub credit-spec : {M : Type 1} → statement M
 credit-spec = tie.close (tie.spec largest-charge-requires interval-requires mul-t7 mul-t8 returns)

@@ -17,11 +17,15 @@ div-result : tie.Need-div-result
 div-result c = rw (c .interval .ensures) (pow-pos _)
 
 add-result : tie.Need-add-result
-add-result c = omega (arith, div-le-self (c .before .args .clock) (c .interval .result))
+add-result c =
+    let at-start = c .before in
+    omega (arith, div-le-self (at-start .args .clock) (c .interval .result))
 
 mul-result : tie.Need-mul-result
 unfolding nextStart
-mul-result c = record { fits = rw (c .interval .ensures) (next-fits (c .before .args .k) (c .before .args .clock) (c .before .pre .0) (c .before .pre .1)) }
+mul-result c =
+    let at-start = c .before in
+    record { fits = rw (c .interval .ensures) (next-fits (at-start .args .k) (at-start .args .clock) (at-start .pre .0) (at-start .pre .1)) }
 
 returns : tie.Need-returns
 unfolding nextStart
