@@ -108,7 +108,8 @@ pub fn close_in(
 ) -> u8
     requires { ⌜ CloseNeeds (now numbers) (now shares) (now held) ⌝ }
     ensures { λ r. ⌜
-        (let before = blocksNow (now (numbers .entry)) (now (shares .entry)) (now (starts .entry)) (now (held .entry)) in
+        (let before =
+        blocksNow (now (numbers .entry)) (now (shares .entry)) (now (starts .entry)) (now (held .entry)) in
         let after = blocksNow (now (numbers .exit)) (now (shares .exit)) (now (starts .exit)) (now (held .exit)) in
         answered r after ≡ closedIn active (now (counts .entry)) before block) ⌝ }
 {

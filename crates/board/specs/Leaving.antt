@@ -1,4 +1,5 @@
--- WHAT A CALL LEAVES IN MEMORY: its reply and both tables, from what the rules say of it (crate rules, specs/Calls.antt).
+-- WHAT A CALL LEAVES IN MEMORY: its reply and both tables, from what the rules say of it (crate rules,
+-- specs/Calls.antt).
 use mathlib.Core.Path.{_≡_}
 use mathlib.Core.Bool.{cond}
 use mathlib.Core.Option.{Option, none, some}
@@ -8,7 +9,8 @@ use lib.Dec.{eqb}
 use lib.ListN.{length, set, replicate}
 use Rattle.rules.specs.Board
 use Rattle.rules.specs.Board.{tableLength}
-use Rattle.rules.specs.Calls.{Single, one, Answer, gives, takes, sends, bursts, codeOf, Entries, kept, cleared, oneSet, Outcome, done! }
+use Rattle.rules.specs.Calls.{Single, one, Answer, gives, takes, sends, bursts, codeOf, Entries, kept, cleared, oneSet}
+use Rattle.rules.specs.Calls.{Outcome, done! }
 use Rattle.board.specs.declared.Board as struct
 use Rattle.board.specs.declared.Reply.{Reply}
 use Rattle.board.specs.Reading.{encode, view, Sound}
@@ -57,7 +59,9 @@ boardAfter b (sends s) next = spelt b next
 boardAfter b (bursts r) next = spelt b next
 
 abbrev pub written : struct.Board → List ℕ → List ℕ → Outcome → Returned Reply
-written b ids lens o = returned (replied (codeOf (o .answer)) (boardAfter b (o .answer) (o .board))) (idsAfter (o .entries) ids) (lensAfter (o .entries) lens)
+written b ids lens o =
+    returned (replied (codeOf (o .answer)) (boardAfter b (o .answer) (o .board))) (idsAfter (o .entries) ids)
+    (lensAfter (o .entries) lens)
 
 -- ---- A call on a board that is known to be good
 

@@ -1,19 +1,21 @@
--- A BOARD IN MEMORY: the parts of it that a step is lent, packed, and a board with such a part changed. Where a field is
--- added to the board, `boardNow` and the two changes below it name it, and no other definition names all fields but the
--- spelling of a board (Reading).
+-- A BOARD IN MEMORY: the parts of it that a step is lent, packed, and a board with such a part changed. Where a field
+-- is added to the board, `boardNow` and the two changes below it name it, and no other definition names all fields but
+-- the spelling of a board (Reading).
 use mathlib.Core.List.{List}
 use Prim.Native.Nat.{ℕ}
 use Rattle.board.specs.declared.Board.{Board}
 use Rattle.board.specs.declared.After.{After}
 
 abbrev pub numbersNow : (clock active pending slot left : ℕ) → After
-numbersNow clock active pending slot left = record { clock = clock; active = active; pending = pending; slot = slot; left = record { 0 = left } }
+numbersNow clock active pending slot left =
+    record { clock = clock; active = active; pending = pending; slot = slot; left = record { 0 = left } }
 
 abbrev pub numbersOf : Board → After
 numbersOf b = numbersNow (b .clock) (b .active) (b .pending) (b .slot) (b .left .0)
 
 -- the board whose arrays and numbers these are
-abbrev pub boardNow : (numbers shares starts counts deficits ready next heads tails held : List ℕ) (largest : ℕ) → After → Board
+abbrev pub boardNow : (numbers shares starts counts deficits ready next heads tails held : List ℕ) (largest : ℕ) → After
+    → Board
 boardNow numbers shares starts counts deficits ready next heads tails held largest now =
     record {
       numbers = numbers;
@@ -86,7 +88,8 @@ engineOf b =
 abbrev pub withEngine : Board → Engine → Board
 withEngine b e =
     let q = e .queues in
-    boardNow (b .numbers) (b .shares) (e .starts) (e .counts) (q .deficits) (q .ready) (q .next) (q .heads) (q .tails) (q .held) (b .largest) (e .now)
+    boardNow (b .numbers) (b .shares) (e .starts) (e .counts) (q .deficits) (q .ready) (q .next) (q .heads) (q .tails)
+    (q .held) (b .largest) (e .now)
 
 -- ---- What taking a record changes
 
@@ -117,7 +120,8 @@ abbrev pub withTaking : Board → Taking → Board
 withTaking b t =
     let o = t .orders in
     let now = numbersNow (b .clock) (o .active) (b .pending) (b .slot) (b .left .0) in
-    withEngine b (engineNow (b .starts) (t .counts) (b .deficits) (o .ready) (o .next) (o .heads) (o .tails) (b .held) now)
+    withEngine b (engineNow (b .starts) (t .counts) (b .deficits) (o .ready) (o .next) (o .heads) (o .tails)
+    (b .held) now)
 
 -- what it sees and leaves as it is
 pub record Seen : Type 0 where

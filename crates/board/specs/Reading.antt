@@ -1,5 +1,5 @@
--- HOW A VALUE SPELLS A BOARD: a board of the rules is written as a value, and a value with both tables is read as a board of the rules.
--- A link to place p is p + 1; 0 is no link.
+-- HOW A VALUE SPELLS A BOARD: a board of the rules is written as a value, and a value with both tables is read as a
+-- board of the rules. A link to place p is p + 1; 0 is no link.
 use mathlib.Core.Path.{_≡_}
 use mathlib.Core.Bool.{Bool, true, cond, _&&_}
 use mathlib.Core.Option.{Option, none, some}
@@ -10,7 +10,8 @@ use lib.ListN.{length, getD}
 use Rattle.base.specs.Tests.{Decides, every, sameList}
 use Rattle.bits.specs.Sets.{setBelow}
 use Rattle.rules.specs.Board
-use Rattle.rules.specs.Board.{Record, Stand, out, queued, serving, Place, freePlace, at, entry, blockClass, active, pending}
+use Rattle.rules.specs.Board.{Record, Stand, out, queued, serving, Place, freePlace, at, entry, blockClass, active}
+use Rattle.rules.specs.Board.{pending}
 use Rattle.rules.specs.Choice.{leftOf}
 use Rattle.rules.specs.Spoilt.{readyNum, unspoilt}
 use Rattle.board.specs.declared.Board as struct
@@ -94,7 +95,14 @@ bareOf b i =
 unfoldable pub placeOf : struct.Board → List ℕ → List ℕ → ℕ → Place
 placeOf b ids lens i =
     let x = bareOf b i in
-    record { number = x .number; share = x .share; start = x .start; lane = laneOf ids lens i x (getD (b .counts) i 0); deficit = x .deficit; stand = x .stand }
+    record {
+      number = x .number;
+      share = x .share;
+      start = x .start;
+      lane = laneOf ids lens i x (getD (b .counts) i 0);
+      deficit = x .deficit;
+      stand = x .stand;
+    }
 
 -- the places from the link h on, at most n of them
 unfoldable pub follow : List ℕ → ℕ → ℕ → List ℕ

@@ -1,4 +1,5 @@
-// The board in memory: one value with the sixty-four places and the seventeen class orders, and how it spells a board of the rules.
+// The board in memory: one value with the sixty-four places and the seventeen class orders, and how it spells a board
+// of the rules.
 ghost use mathlib.Core.Path.{_≡_};
 ghost use Rattle.rules.specs.Board.{fresh};
 ghost use Rattle.board.specs.Memory.{numbersOf, boardNow};
@@ -8,9 +9,9 @@ use numbers::NO_LINK;
 use numbers::PLACES;
 use units::Parts;
 
-// A link to place p is p + 1, and 0 is none: `next` behind each place, `heads` and `tails` of each class's order, `slot`.
-// `deficits` are parts, as `left` is: an array that is lent holds numbers, which are wrapped at each read.
-// A board lies in memory as C lays it out, so that a program in C holds one by its address.
+// A link to place p is p + 1, and 0 is none: `next` behind each place, `heads` and `tails` of each class's order,
+// `slot`. `deficits` are parts, as `left` is: an array that is lent holds numbers, which are wrapped at each read. A
+// board lies in memory as C lays it out, so that a program in C holds one by its address.
 #[repr(C)]
 pub struct Board {
     pub numbers: [u32; PLACES],

@@ -24,7 +24,8 @@ notServed b code = record { code = code; block = 0; number = 0; length = 0; cloc
 abbrev pub servedBy : struct.Board → Answer → Board.Board → Served
 servedBy b (gives code) next = notServed b code
 servedBy b (takes a) next = notServed b 0
-servedBy b (sends s) next = record { code = 0; block = s .block; number = s .number; length = s .bytes; clock = s .clock; board = encode next }
+servedBy b (sends s) next =
+    record { code = 0; block = s .block; number = s .number; length = s .bytes; clock = s .clock; board = encode next }
 servedBy b (bursts r) next = notServed b 0
 
 unfoldable pub goodServe : struct.Board → List ℕ → List ℕ → Served

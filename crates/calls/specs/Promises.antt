@@ -1,4 +1,5 @@
--- THE PROMISES of the calls: the answer, the board and both tables after a call, from what the rules say of it (crate rules, specs/Calls.antt).
+-- THE PROMISES of the calls: the answer, the board and both tables after a call, from what the rules say of it (crate
+-- rules, specs/Calls.antt).
 use mathlib.Core.Bool.{cond}
 use mathlib.Core.Option.{none, some}
 use mathlib.Core.List.{List}

@@ -15,7 +15,8 @@ use numbers::codes;
 use operands::Opening;
 use units::Bytes;
 
-// The answer of a serve: its code; the block that is served, the number and the length of the record sent, and the slot's clock.
+// The answer of a serve: its code; the block that is served, the number and the length of the record sent, and the
+// slot's clock.
 pub struct Served {
     pub code: u8,
     pub block: u32,

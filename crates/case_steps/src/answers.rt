@@ -11,7 +11,8 @@ use units::Bytes;
 // The most numbers that an answer tells.
 pub const NUMBERS: usize = 5;
 
-// What is told of a call: its numbers, of which the first `count` are written, and the digest of all that it left. The board goes on to the next step.
+// What is told of a call: its numbers, of which the first `count` are written, and the digest of all that it left. The
+// board goes on to the next step.
 pub struct Answer {
     pub count: usize,
     pub numbers: [u64; NUMBERS],

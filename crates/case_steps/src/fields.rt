@@ -1,5 +1,5 @@
-// The fields of a board, each by the step that sets it: how many values it has and how great they can be, what stands there, and the board with
-// another value.
+// The fields of a board, each by the step that sets it: how many values it has and how great they can be, what stands
+// there, and the board with another value.
 use crate::steps;
 use board::Board;
 use numbers::CLASSES;

@@ -1,5 +1,5 @@
-// Plays a case file: boards given field by field and the box's public calls on them, read from standard input in the byte form of docs/CASES.md
-// and answered line by line on standard output.
+// Plays a case file: boards given field by field and the box's public calls on them, read from standard input in the
+// byte form of docs/CASES.md and answered line by line on standard output.
 use case_steps::tables;
 
 mod answers;
@@ -9,7 +9,8 @@ mod play;
 mod set;
 mod show;
 
-// A proved loop has to end, and nothing says that the input does: the turns are counted down from a number that no run uses up.
+// A proved loop has to end, and nothing says that the input does: the turns are counted down from a number that no run
+// uses up.
 fn main() {
     let mut ids = [0u32; tables::MOST];
     let mut lens = [0u16; tables::MOST];

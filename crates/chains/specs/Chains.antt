@@ -1,11 +1,13 @@
--- CHAINS of the public calls: each is given what the one before left. A step of a chain is known by its call's promise alone.
+-- CHAINS of the public calls: each is given what the one before left. A step of a chain is known by its call's promise
+-- alone.
 use mathlib.Core.Path.{_≡_}
 use mathlib.Core.Bool.{Bool, true, false, cond, _&&_}
 use mathlib.Core.List.{List, [], _∷_}
 use Prim.Native.Nat.{ℕ}
 use lib.Dec.{eqb}
 use Rattle.rules.specs.Board
-use Rattle.rules.specs.Calls.{Single, open!, rename!, close!, record!, serve!, Call, one, burst!, Answer, gives, takes, sends, bursts, done! }
+use Rattle.rules.specs.Calls.{Single, open!, rename!, close!, record!, serve!, Call, one, burst!, Answer, gives, takes}
+use Rattle.rules.specs.Calls.{sends, bursts, done! }
 use Rattle.rules.specs.Runs.{isServe, leaves}
 use Rattle.board.specs.declared.Board as struct
 use Rattle.board.specs.declared.Reply.{Reply}
@@ -34,7 +36,9 @@ abbrev pub replyTells : Single → Reply → Answer
 replyTells x r = cond (isRecord x && eqb (r .code) 0) (takes (record { code = 0 })) (gives (r .code))
 
 abbrev pub servedTells : Served → Answer
-servedTells r = cond (eqb (r .code) 0) (sends (record { block = r .block; number = r .number; bytes = r .length; clock = r .clock })) (gives (r .code))
+servedTells r =
+    cond (eqb (r .code) 0)
+    (sends (record { block = r .block; number = r .number; bytes = r .length; clock = r .clock })) (gives (r .code))
 
 abbrev pub burstTells : Bursted → Answer
 burstTells r = bursts (record { count = r .count; total = r .bytes .0; code = r .code })
@@ -54,7 +58,8 @@ pub data Did (s : Holding) : Call → Answer → Holding → Type 0 where
 
 pub data Chain : Holding → List Call → List Answer → Holding → Type 0 where
   stops : {s : Holding} → Chain s [] [] s
-  goes : {s m e : Holding} {c : Call} {a : Answer} {cs : List Call} {told : List Answer} → Did s c a m → Chain m cs told e → Chain s (c ∷ cs) (a ∷ told) e
+  goes : {s m e : Holding} {c : Call} {a : Answer} {cs : List Call} {told : List Answer} → Did s c a m
+      → Chain m cs told e → Chain s (c ∷ cs) (a ∷ told) e
 
 -- it begins with a done making
 pub record Made (L : ℕ) (s : Holding) : Type 0 where

@@ -1,5 +1,5 @@
--- THE DEMANDS OVER A CHAIN'S OWN ANSWERS: documents 00 and 01 in words of the calls that were made, the answers that they gave and the values
--- that they left. A chain may hold bursts anywhere.
+-- THE DEMANDS OVER A CHAIN'S OWN ANSWERS: documents 00 and 01 in words of the calls that were made, the answers that
+-- they gave and the values that they left. A chain may hold bursts anywhere.
 use mathlib.Core.Path.{_≡_}
 use mathlib.Core.Bool.{Bool, true, false, cond, not, _&&_}
 use mathlib.Core.Logic.{_⊎_, _≢_}
@@ -94,25 +94,33 @@ unfoldable pub NotSpent : List Answer → Type 0
 NotSpent [] = Unit {0}
 NotSpent (a ∷ told) = (codeOf a ≢ 11) × NotSpent told
 
--- ---- Bursts: a burst's answer does not name the blocks that it sent from. So a chain is read beside the chain of single calls that it comes
--- to: in place of each burst as many serving calls as its count, each of which sends, and whose bytes are the burst's.
+-- ---- Bursts: a burst's answer does not name the blocks that it sent from. So a chain is read beside the chain of
+-- single calls that it comes to: in place of each burst as many serving calls as its count, each of which sends, and
+-- whose bytes are the burst's.
 
 pub data Spelt : List Call → List Answer → List Single → List Answer → Type 0 where
   over : Spelt [] [] [] []
-  single : {cs : List Call} {told said : List Answer} {xs : List Single} (x : Single) (a : Answer) → Spelt cs told xs said → Spelt (one x ∷ cs) (a ∷ told) (x ∷ xs) (a ∷ said)
-  asServes : {cs : List Call} {told said : List Answer} {xs : List Single} (bytes : ℕ) (list : List ℕ) (r : Bursted) (sent : List Sent)
+  single : {cs : List Call} {told said : List Answer} {xs : List Single} (x : Single) (a : Answer)
+      → Spelt cs told xs said → Spelt (one x ∷ cs) (a ∷ told) (x ∷ xs) (a ∷ said)
+  asServes : {cs : List Call} {told said : List Answer} {xs : List Single} (bytes : ℕ) (list : List ℕ) (r : Bursted)
+      (sent : List Sent)
       → length sent ≡ r .count → sum (λ (s : Sent). charged (s .bytes)) sent ≡ r .bytes .0
-      → Spelt cs told xs said → Spelt (burst! bytes list ∷ cs) (burstTells r ∷ told) (serves (length sent) ++ xs) (map sends sent ++ said)
+      → Spelt cs told xs said
+      → Spelt (burst! bytes list ∷ cs) (burstTells r ∷ told) (serves (length sent) ++ xs) (map sends sent ++ said)
 
--- Both chains go from the same value to the same value. (What happens within a burst is read in the second, of which each part is a chain.)
-pub record Row (s : Holding) (cs : List Call) (told : List Answer) (xs : List Single) (said : List Answer) (e : Holding) : Type 0 where
+-- Both chains go from the same value to the same value. (What happens within a burst is read in the second, of which
+-- each part is a chain.)
+pub record Row (s : Holding) (cs : List Call) (told : List Answer) (xs : List Single) (said : List Answer)
+    (e : Holding) : Type 0 where
   pub chain : Chain s cs told e
   pub spelt : Spelt cs told xs said
   pub singles : Chain s (map one xs) said e
 
 -- Every part of a chain from a done making has its row.
 abbrev pub HasRow : Type 0
-HasRow = (L : ℕ) (s m e : Holding) (before cs : List Call) (told₁ told : List Answer) → Made L s → Chain s before told₁ m → Chain m cs told e
+HasRow =
+    (L : ℕ) (s m e : Holding) (before cs : List Call) (told₁ told : List Answer) → Made L s → Chain s before told₁ m
+    → Chain m cs told e
     → (xs : List Single) × (said : List Answer) × Row m cs told xs said e
 
 -- A chain's own answers, its bursts' totals among them, tell of the bytes that its row's answers tell of.
@@ -120,8 +128,8 @@ abbrev pub SameBytes : Type 0
 SameBytes = (s e : Holding) (cs : List Call) (told : List Answer) (xs : List Single) (said : List Answer)
     → Row s cs told xs said e → bytesIn told ≡ bytesIn said
 
--- A burst of a chain: the single serving calls that it is, from the value that it was given to the value that it left; the list's first
--- entries are their records' numbers, and the others are as they were.
+-- A burst of a chain: the single serving calls that it is, from the value that it was given to the value that it left;
+-- the list's first entries are their records' numbers, and the others are as they were.
 pub record BurstIs (m : Holding) (list : List ℕ) (r : Bursted) (list′ ids lens : List ℕ) : Type 0 where
   pub sent : List Sent
   pub serving :
@@ -154,10 +162,11 @@ pub record RefusalChangesNothing : Type 0 where
 -- ---- and no call of a chain after its making is given 3 or 2
 
 abbrev pub NeverRefused : Type 0
-NeverRefused = (L : ℕ) (s e : Holding) (cs : List Call) (told : List Answer) → Made L s → Chain s cs told e → NoneRefused told
+NeverRefused =
+    (L : ℕ) (s e : Holding) (cs : List Call) (told : List Answer) → Made L s → Chain s cs told e → NoneRefused told
 
--- ---- A block: an opening of the chain, and what the calls after it and their answers tell of it: its number now, the records taken in for it,
--- those sent under the number that it had when each was sent, and whether it is closed
+-- ---- A block: an opening of the chain, and what the calls after it and their answers tell of it: its number now, the
+-- records taken in for it, those sent under the number that it had when each was sent, and whether it is closed
 
 unfoldable pub story : Story → List Single → List Answer → Story
 story st [] said = st
@@ -273,8 +282,8 @@ abbrev pub PassageLives : Type 0
 PassageLives = (L : ℕ) (c : Chained L) (w : Parting) (p : Passage L c w)
     → Life L (w .given) (tale p) (lastOf p) (p .f) × Life L (w .given) (laterTale p) (laterLast p) (p .h)
 
--- ---- Demand 2: each record taken in is sent once, in its block's order, under the number that the block has when it is sent, or it still
--- stands in its lane. A closed block has none left.
+-- ---- Demand 2: each record taken in is sent once, in its block's order, under the number that the block has when it
+-- is sent, or it still stands in its lane. A closed block has none left.
 
 abbrev pub Conserved : Type 0
 Conserved = (L : ℕ) (given : Opening) (st : Story) (last : Option ℕ) (e : Holding)
@@ -282,15 +291,18 @@ Conserved = (L : ℕ) (given : Opening) (st : Story) (last : Option ℕ) (e : Ho
 
 -- No other record is sent: the one that is answered stood at the front of the lane of the open block that is named.
 abbrev pub SendsFront : Type 0
-SendsFront = (L : ℕ) (s f g : Holding) (cs : List Call) (told : List Answer) (a : Sent) → Made L s → Chain s cs told f → Did f (one serve!) (sends a) g
+SendsFront =
+    (L : ℕ) (s f g : Holding) (cs : List Call) (told : List Answer) (a : Sent) → Made L s → Chain s cs told f
+    → Did f (one serve!) (sends a) g
     → laneOf (reads f) (a .block) ≡ record { number = a .number; bytes = a .bytes } ∷ laneOf (reads g) (a .block)
 
 -- ---- Demand 3
 
--- The call brings a record to the front of the block's lane: all that was taken in was sent, and it is taken; or the one before it is sent, and
--- not all that was taken in has been sent then.
+-- The call brings a record to the front of the block's lane: all that was taken in was sent, and it is taken; or the
+-- one before it is sent, and not all that was taken in has been sent then.
 pub data ComesToFront (st : Story) : Single → Answer → Type 0 where
-  intoEmpty : (r : Board.Record) (a : Answer) → isDone a ≡ true → st .taken ≡ st .sent → ComesToFront st (record! (st .number) r) a
+  intoEmpty : (r : Board.Record) (a : Answer) → isDone a ≡ true → st .taken ≡ st .sent
+      → ComesToFront st (record! (st .number) r) a
   nextUp : (a : Answer) → isFor (st .number) a ≡ true → st .taken ≢ st .sent ++ recordOf a → ComesToFront st serve! a
 
 -- No answer names the block that had n first: it is followed through its renames.
@@ -325,7 +337,8 @@ ServesSend = (L : ℕ) (given : Opening) (st : Story) (last : Option ℕ) (f g :
     → Life L given st last f → st .closed ≡ false → st .taken ≢ st .sent → Did f (one serve!) a g
     → (a ≡ gives 11) ⊎ ((s : Sent) × (a ≡ sends s))
 
--- A burst that leaves a record waiting was not stopped for want of records: it is answered 11, or 14 with a full list, or 13.
+-- A burst that leaves a record waiting was not stopped for want of records: it is answered 11, or 14 with a full list,
+-- or 13.
 abbrev pub BurstSends : Type 0
 BurstSends = (L : ℕ) (given : Opening) (st : Story) (last : Option ℕ) (s f g : Holding)
     (cs : List Call) (told : List Answer) (bytes : ℕ) (list : List ℕ) (r : Calls.Bursted)
@@ -333,7 +346,8 @@ BurstSends = (L : ℕ) (given : Opening) (st : Story) (last : Option ℕ) (s f g
     → Life L given st last g → st .closed ≡ false → st .taken ≢ st .sent
     → (r .code ≡ 11) ⊎ (((r .code ≡ 14) × (r .count ≡ length list)) ⊎ (r .code ≡ 13))
 
--- ---- Slots, as the answers tell them: a send begins a slot if its clock is not that of the send before it, of whichever block
+-- ---- Slots, as the answers tell them: a send begins a slot if its clock is not that of the send before it, of
+-- whichever block
 
 abbrev pub isNew : Option ℕ → ℕ → Bool
 isNew none t = true
@@ -363,10 +377,11 @@ pub record WaitsAt (k lo : ℕ) (st : Story) (last : Option ℕ) (t : ℕ) (a : 
   pub early : t < lo
   pub reached : lo ≤ u
   pub before : st .taken ≢ st .sent
-  pub after : (goesOn st serve! a .taken ≢ goesOn st serve! a .sent) ⊎ ((beginsSlot (st .number) last a ≡ true) × (lo ≤ clockOf a))
+  pub after : (goesOn st serve! a .taken ≢ goesOn st serve! a .sent)
+      ⊎ ((beginsSlot (st .number) last a ≡ true) × (lo ≤ clockOf a))
 
--- A block already waiting when the clock reaches a start of its class has exactly one slot begun in that interval by the time the clock
--- reaches its end. The clock may reach either inside a burst.
+-- A block already waiting when the clock reaches a start of its class has exactly one slot begun in that interval by
+-- the time the clock reaches its end. The clock may reach either inside a burst.
 abbrev pub SlotOnce : Type 0
 SlotOnce = (L : ℕ) (c : Chained L) (w : Parting) (p : Passage L c w) (lo : ℕ) → let k = classOf (w .given .share) in
     w .at ≡ serve! → WaitsAt k lo (tale p) (lastOf p) (clock (p .f)) (p .answered) (clock (p .g))
@@ -381,18 +396,25 @@ NeverTwice = (L : ℕ) (c : Chained L) (w : Parting) (p : Passage L c w) (lo : �
 
 -- A slot sends at most 3L - 1 bytes: the sends of a whole chain that are answered with one clock.
 abbrev pub SlotsSmall : Type 0
-SlotsSmall = (L : ℕ) (s e : Holding) (cs : List Call) (told : List Answer) (xs : List Single) (said : List Answer) → Made L s → Row s cs told xs said e
+SlotsSmall =
+    (L : ℕ) (s e : Holding) (cs : List Call) (told : List Answer) (xs : List Single) (said : List Answer) → Made L s
+    → Row s cs told xs said e
     → (t : ℕ) → slotBytes t said ≤ 3 * largestCharge L - 1
 
--- ---- No second answer fits: what is given and the calls decide every answer, and the value and both tables that are left
+-- ---- No second answer fits: what is given and the calls decide every answer, and the value and both tables that are
+-- left
 
 abbrev pub OnlyOne : Type 0
-OnlyOne = (s e e′ : Holding) (cs : List Call) (told told′ : List Answer) → Chain s cs told e → Chain s cs told′ e′ → (told ≡ told′) × (e ≡ e′)
+OnlyOne =
+    (s e e′ : Holding) (cs : List Call) (told told′ : List Answer) → Chain s cs told e → Chain s cs told′ e′
+    → (told ≡ told′) × (e ≡ e′)
 
 -- ---- No promise is empty: any L in range is made, and any calls may follow
 
 abbrev pub HasChain : Type 0
-HasChain = (L : ℕ) → InRange L → (cs : List Call) → (s : Holding) × (told : List Answer) × (e : Holding) × Made L s × Chain s cs told e
+HasChain =
+    (L : ℕ) → InRange L → (cs : List Call)
+    → (s : Holding) × (told : List Answer) × (e : Holding) × Made L s × Chain s cs told e
 
 -- and every story of a run of the rules is told by a chain, bursts among its calls, which comes to that run's board
 abbrev pub HasLife : Type 0

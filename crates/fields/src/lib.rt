@@ -133,8 +133,8 @@ fn play_serve(
     }
 }
 
-// One field after L: what it says is done, and its line is put in front of the buffer. The contract names what stands in
-// memory at entry once, as `before`.
+// One field after L: what it says is done, and its line is put in front of the buffer. The contract names what stands
+// in memory at entry once, as `before`.
 pub fn play_field(
     event: Event,
     sent: Bytes,

@@ -17,7 +17,8 @@ decimalIn (suc f) n = cond (ltb n 10) ((48 + n % 10) ∷ []) (decimalIn f (n / 1
 unfoldable pub decimal : ℕ → List ℕ
 decimal n = decimalIn (suc n) n
 
--- Back from a text: every byte of it is a digit; none but 0 itself has a zero in front; and the number that the digits spell.
+-- Back from a text: every byte of it is a digit; none but 0 itself has a zero in front; and the number that the digits
+-- spell.
 abbrev pub Digits : List ℕ → Type 0
 Digits [] = Unit {0}
 Digits (d ∷ ds) = ((48 ≤ d) × (d < 58)) × Digits ds

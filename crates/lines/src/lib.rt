@@ -4,7 +4,8 @@ ghost use mathlib.Core.List.{List, [], _∷_};
 ghost use Prim.Native.Nat.{_+_, _≤_};
 ghost use lib.ListN.{length};
 ghost use Rattle.lines.specs.Text.{decimal, columns, lineOf, Written, Line};
-ghost use Rattle.lines.specs.Listing.{openLine, closeLine, nameLine, inLine, outLine, refusedLine, endLine, brokenLine, longLine};
+ghost use Rattle.lines.specs.Listing.{openLine, closeLine, nameLine, inLine, outLine, refusedLine};
+ghost use Rattle.lines.specs.Listing.{endLine, brokenLine, longLine};
 
 // Room for any line.
 pub const LINE_ROOM: usize = 64;
@@ -66,7 +67,8 @@ fn put_columns(line: &mut [u8], at: usize, numbers: &[u64]) -> usize
 
 fn put_line(line: &mut [u8], word: &[u8], numbers: &[u64]) -> usize
     requires { ⌜ length (lineOf (now word) (now numbers)) ≤ length (now line) ⌝ }
-    ensures { λ r. ⌜ Line (now (line .entry)) (lineOf (now (word .entry)) (now (numbers .entry))) r (now (line .exit)) ⌝ }
+    ensures { λ r. ⌜
+        Line (now (line .entry)) (lineOf (now (word .entry)) (now (numbers .entry))) r (now (line .exit)) ⌝ }
 {
     let a = put_text(&mut *line, 0, word);
     let b = put_columns(&mut *line, a, numbers);

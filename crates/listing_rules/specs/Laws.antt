@@ -14,7 +14,8 @@ use Rattle.log.specs.Rows.{nextAt}
 use Rattle.log.specs.Worked.{workedLog}
 use Rattle.lines.specs.Listing.{endLine, brokenLine, longLine}
 use Rattle.lines.specs.Worked.{workedBytes}
-use Rattle.listing_rules.specs.Listing.{Playing, unmade, played, fieldLine, waiting, lastLine, listingFrom, listingOf}
+use Rattle.listing_rules.specs.Listing.{Playing, unmade, played, fieldLine, waiting, lastLine, listingFrom}
+use Rattle.listing_rules.specs.Listing.{listingOf}
 
 -- A whole field gives its line, and the listing goes on from its end.
 abbrev pub ListingWhole : Type 0

@@ -1,11 +1,13 @@
--- THE LISTING of a log (document 01, 'The log and the listing'): what each field does to the board, and the line that it gives.
+-- THE LISTING of a log (document 01, 'The log and the listing'): what each field does to the board, and the line that
+-- it gives.
 use mathlib.Core.List.{List, [], _∷_, _++_}
 use Prim.Native.Nat.{ℕ, _+_}
 use lib.ListN.{length}
 use Rattle.base.specs.Sums.{sum}
 use Rattle.rules.specs.Board.{Place, Board, fresh}
 use Rattle.rules.specs.Blocks.{meant}
-use Rattle.rules.specs.Calls.{Single, open!, rename!, close!, record!, serve!, step, Answer, gives, takes, sends, bursts, codeOf}
+use Rattle.rules.specs.Calls.{Single, open!, rename!, close!, record!, serve!, step, Answer, gives, takes, sends}
+use Rattle.rules.specs.Calls.{bursts, codeOf}
 use Rattle.rules.specs.Runs.{answer, bytesOf}
 use Rattle.log.specs.declared.Stage.{Stage}
 use Rattle.log.specs.declared.Event.{Event}
@@ -13,7 +15,8 @@ use Rattle.log.specs.declared.Event.the-variants.{Largest, Open, Close, Rename,
 use Rattle.log.specs.declared.End.{End}
 use Rattle.log.specs.declared.End.the-variants.{Whole as whole, Broken as broken, Long as long}
 use Rattle.log.specs.Rows.{WholeField, readFrom, readLog}
-use Rattle.lines.specs.Listing.{openLine, closeLine, nameLine, inLine, outLine, refusedLine, endLine, brokenLine, longLine}
+use Rattle.lines.specs.Listing.{openLine, closeLine, nameLine, inLine, outLine, refusedLine, endLine, brokenLine}
+use Rattle.lines.specs.Listing.{longLine}
 
 -- What stands between two fields: the board, and the bytes sent so far.
 pub record Playing : Type 0 where
@@ -38,7 +41,8 @@ played p (Arrive block number bytes) = after p (record! block (record { number =
 played p Serve = after p serve!
 played p Passed = p
 
--- A serve that is done shows block, record, length and the slot's clock; a refused one its code. (The other answers are not a serve's.)
+-- A serve that is done shows block, record, length and the slot's clock; a refused one its code. (The other answers are
+-- not a serve's.)
 abbrev pub servedLine : Answer → List ℕ
 servedLine (gives code) = refusedLine code
 servedLine (takes a) = refusedLine (a .code)
@@ -51,7 +55,8 @@ fieldLine p (Largest l) = []
 fieldLine p (Open o) = openLine (o .number) (codeOf (answer (p .board) (open! (meant o))))
 fieldLine p (Close block) = closeLine block (codeOf (answer (p .board) (close! block)))
 fieldLine p (Rename old new) = nameLine old new (codeOf (answer (p .board) (rename! old new)))
-fieldLine p (Arrive block number bytes) = inLine number (codeOf (answer (p .board) (record! block (record { number = number; bytes = bytes }))))
+fieldLine p (Arrive block number bytes) =
+    inLine number (codeOf (answer (p .board) (record! block (record { number = number; bytes = bytes }))))
 fieldLine p Serve = servedLine (answer (p .board) serve!)
 fieldLine p Passed = []
 

@@ -52,8 +52,8 @@ lastTag = 6
 unfoldable pub rightLength : ℕ → ℕ → Bool
 rightLength tag n = leb 128 tag || (leb 1 tag && (leb tag lastTag && eqb n (lengthOf tag)))
 
--- Tag 6: L. Tag 1: open, block and share. Tag 2: close. Tag 3: rename, old and new. Tag 4: record, block, number, length.
--- Tag 5: serve once. Tags 128 to 255 are passed over.
+-- Tag 6: L. Tag 1: open, block and share. Tag 2: close. Tag 3: rename, old and new. Tag 4: record, block, number,
+-- length. Tag 5: serve once. Tags 128 to 255 are passed over.
 unfoldable pub eventOf : List ℕ → ℕ → ℕ → Event
 eventOf s tag at =
     cond (eqb tag 6) (Largest (numberAt s at 2))

@@ -60,7 +60,8 @@ abbrev pub SaysIf : Bool → Event → ℕ → List ℕ → Type 0
 SaysIf true e tag value = ((128 ≤ tag) × (tag < 256)) × (length value < 65536)
 SaysIf false e tag value = (tag ≡ tagOf e) × ((value ≡ valueOf (operandsOf e)) × Fit (operandsOf e))
 
--- A field of this tag and value says this event. One that is passed over may have any value that its two length bytes can count.
+-- A field of this tag and value says this event. One that is passed over may have any value that its two length bytes
+-- can count.
 abbrev pub Says : Event → ℕ → List ℕ → Type 0
 Says e tag value = SaysIf (isPassed e) e tag value
 

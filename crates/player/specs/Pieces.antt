@@ -62,7 +62,8 @@ abbrev pub endedPiece : ℕ → State → Piece
 endedPiece used s = record { code = 0; used = used; over = true; state = s }
 
 -- what a piece that is not refused does
-pub record PieceDone (log : List ℕ) (s : State) (ids lens out : List ℕ) (r : Piece) (ids′ lens′ out′ : List ℕ) : Type 0 where
+pub record PieceDone (log : List ℕ) (s : State) (ids lens out : List ℕ) (r : Piece)
+    (ids′ lens′ out′ : List ℕ) : Type 0 where
   pub done : r .code ≡ 0
   pub fits : r .used ≤ length out
   pub joined : take (r .used) out′ ++ restAfter log r ids′ lens′ ≡ restOf log s ids lens
@@ -72,7 +73,8 @@ pub record PieceDone (log : List ℕ) (s : State) (ids lens out : List ℕ) (r :
   pub moves : r .over ≡ false → 64 ≤ length out → (readTo s < readTo (r .state)) × (readTo (r .state) ≤ length log)
 
 -- THE PROMISE of a piece, for every log, state, table and buffer
-pub record PieceOf (log : List ℕ) (s : State) (ids lens out : List ℕ) (r : Piece) (ids′ lens′ out′ : List ℕ) : Type 0 where
+pub record PieceOf (log : List ℕ) (s : State) (ids lens out : List ℕ) (r : Piece)
+    (ids′ lens′ out′ : List ℕ) : Type 0 where
   pub code : r .code ≡ pieceCode log s ids lens
   pub refused : r .code ≢ 0 → (r ≡ refusedPiece (r .code) s) × ((ids′ ≡ ids) × ((lens′ ≡ lens) × (out′ ≡ out)))
   pub done : r .code ≡ 0 → PieceDone log s ids lens out r ids′ lens′ out′
@@ -81,8 +83,10 @@ pub record PieceOf (log : List ℕ) (s : State) (ids lens out : List ℕ) (r : P
 
 -- Pieces one after the other, each given what the one before left, up to the last; what they wrote, joined.
 pub data Pieces (log : List ℕ) : State → List ℕ → List ℕ → List ℕ → Type 0 where
-  last : {s : State} {ids lens : List ℕ} (out : List ℕ) (r : Piece) (ids′ lens′ out′ : List ℕ) → PieceOf log s ids lens out r ids′ lens′ out′ → r .over ≡ true → Pieces log s ids lens (take (r .used) out′)
-  more : {s : State} {ids lens written : List ℕ} (out : List ℕ) (r : Piece) (ids′ lens′ out′ : List ℕ) → PieceOf log s ids lens out r ids′ lens′ out′ → r .over ≡ false
+  last : {s : State} {ids lens : List ℕ} (out : List ℕ) (r : Piece) (ids′ lens′ out′ : List ℕ)
+      → PieceOf log s ids lens out r ids′ lens′ out′ → r .over ≡ true → Pieces log s ids lens (take (r .used) out′)
+  more : {s : State} {ids lens written : List ℕ} (out : List ℕ) (r : Piece) (ids′ lens′ out′ : List ℕ)
+      → PieceOf log s ids lens out r ids′ lens′ out′ → r .over ≡ false
       → Pieces log (r .state) ids′ lens′ written → Pieces log s ids lens (take (r .used) out′ ++ written)
 
 -- how many pieces they are, and that each that is not the last had room for a line

@@ -54,7 +54,8 @@ openBlock b o = guarded b (openChecks b o) (record { out = done; next = goOn b (
 
 -- Rename changes the number only. Lane, share, order, deficit and an open slot stay.
 abbrev pub renamed : ℕ → Place → Place
-renamed n x = record { number = n; share = x .share; start = x .start; lane = x .lane; deficit = x .deficit; stand = x .stand }
+renamed n x =
+    record { number = n; share = x .share; start = x .start; lane = x .lane; deficit = x .deficit; stand = x .stand }
 
 abbrev pub renameChecks : Board → (old new : ℕ) → List Check
 renameChecks b old new = check 4 (numberOutside new) ∷ check 6 (noneHas b old) ∷ check 5 (someHas b new) ∷ []
@@ -69,7 +70,8 @@ unfoldable pub quiet : Board → Bool
 quiet b = isNone (b .slot) && isNone (leastReady (b .places))
 
 -- Close needs an empty lane. The place is free at once. The share is held with its class's, unless none waits.
--- Held shares of one class all go at the same clock, the next start of the class above the present one, so one number a class is enough.
+-- Held shares of one class all go at the same clock, the next start of the class above the present one, so one number a
+-- class is enough.
 unfoldable pub closed : Board → ℕ → Board
 closed b p =
     record {
@@ -78,7 +80,9 @@ closed b p =
       places = set (b .places) p freePlace;
       orders = b .orders;
       slot = b .slot;
-      held = cond (quiet b) (b .held) (upd (b .held) (blockClass (at b p)) (b .held (blockClass (at b p)) + at b p .share));
+      held =
+          cond (quiet b) (b .held)
+          (upd (b .held) (blockClass (at b p)) (b .held (blockClass (at b p)) + at b p .share));
     }
 
 abbrev pub closeChecks : Board → (n : ℕ) → List Check

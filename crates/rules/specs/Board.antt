@@ -29,13 +29,15 @@ noRecord = record { number = 0; bytes = 0 }
 unfoldable pub charge : Record → ℕ
 charge x = charged (x .bytes)
 
--- Where a block stands: it does not wait; it is in its class's order, with a ready time; it has the open slot, with so many parts left.
+-- Where a block stands: it does not wait; it is in its class's order, with a ready time; it has the open slot, with so
+-- many parts left.
 pub data Stand : Type 0 where
   out : Stand
   queued : ℕ → Stand
   serving : ℕ → Stand
 
--- A place: the block's number and share, the ring's start, the lane from its front on, the deficit in parts, where the block stands.
+-- A place: the block's number and share, the ring's start, the lane from its front on, the deficit in parts, where the
+-- block stands.
 pub record Place : Type 0 where
   pub number : ℕ
   pub share : ℕ
@@ -52,8 +54,8 @@ abbrev pub moved : Place → (start : ℕ) (lane : List Record) (deficit : ℕ) 
 moved x start lane deficit stand =
     record { number = x .number; share = x .share; start = start; lane = lane; deficit = deficit; stand = stand }
 
--- The board: L, the clock, the places, the order of each class (places, first to last), the place that has the open slot,
--- and the held share of each class.
+-- The board: L, the clock, the places, the order of each class (places, first to last), the place that has the open
+-- slot, and the held share of each class.
 pub record Board : Type 0 where
   pub largest : ℕ
   pub clock : ℕ
@@ -145,4 +147,5 @@ freeShare b = 65536 - spent b
 
 -- ---- A fresh board: every place free, clock 0, that L.
 unfoldable pub fresh : ℕ → Board
-fresh L = record { largest = L; clock = 0; places = replicate 64 freePlace; orders = λ k. []; slot = none; held = λ j. 0 }
+fresh L =
+    record { largest = L; clock = 0; places = replicate 64 freePlace; orders = λ k. []; slot = none; held = λ j. 0 }

@@ -118,10 +118,21 @@ writes serve! o = kept
 -- a call on a board that is not spoilt
 -- Of a burst's list only the first entries, as many as the count, are written.
 abbrev pub done! : Board → Call → Outcome
-done! b (one x) = record { answer = told b (step b x .out); board = some (step b x .next); entries = writes x (step b x .out); list = [] }
+done! b (one x) =
+    record {
+      answer = told b (step b x .out);
+      board = some (step b x .next);
+      entries = writes x (step b x .out);
+      list = [];
+    }
 done! b (burst! bytes list) =
     record {
-      answer = bursts (record { count = burst b bytes (length list) .count; total = burst b bytes (length list) .total; code = burst b bytes (length list) .code });
+      answer =
+          bursts (record {
+            count = burst b bytes (length list) .count;
+            total = burst b bytes (length list) .total;
+            code = burst b bytes (length list) .code;
+          });
       board = some (burst b bytes (length list) .next);
       entries = kept;
       list = burst b bytes (length list) .numbers ++ drop (length (burst b bytes (length list) .numbers)) list;

@@ -8,7 +8,8 @@ use lib.ListN.{length, getD, set, drop}
 use Rattle.base.specs.Tests.{least}
 use Rattle.units.specs.Classes.{nextStart}
 use Rattle.units.specs.Credit.{creditOf}
-use Rattle.rules.specs.Board.{Record, noRecord, charge, Stand, out, queued, serving, Place, moved, Board, at, depth, entry, onward, front, blockClass, isOpen, anyDue}
+use Rattle.rules.specs.Board.{Record, noRecord, charge, Stand, out, queued, serving, Place, moved, Board, at}
+use Rattle.rules.specs.Board.{depth, entry, onward, front, blockClass, isOpen, anyDue}
 
 -- ---- What a call does: what comes of it, and the next board
 
@@ -99,7 +100,15 @@ upd f k v j = cond (eqb j k) v (f j)
 
 -- one place of the board changed
 abbrev pub goOn : Board → ℕ → Place → Board
-goOn b p x = record { largest = b .largest; clock = b .clock; places = set (b .places) p x; orders = b .orders; slot = b .slot; held = b .held }
+goOn b p x =
+    record {
+      largest = b .largest;
+      clock = b .clock;
+      places = set (b .places) p x;
+      orders = b .orders;
+      slot = b .slot;
+      held = b .held;
+    }
 
 -- place p, now x, joins the end of its class's order
 abbrev pub joining : Board → ℕ → Place → Board
@@ -119,12 +128,14 @@ joining b p x =
 abbrev pub more : Place → Record → Place
 more x r = moved x (x .start) (x .lane ++ (r ∷ [])) (x .deficit) (x .stand)
 
--- If the lane was empty, the block joins the end of its class's order, with ready time the next start of its class above the present clock.
+-- If the lane was empty, the block joins the end of its class's order, with ready time the next start of its class
+-- above the present clock.
 abbrev pub joins : ℕ → Place → Record → Place
 joins clock x r = moved x (x .start) (r ∷ []) (x .deficit) (queued (nextStart (blockClass x) clock))
 
 unfoldable pub takenIn : Board → ℕ → Record → Board
-takenIn b p r = cond (leb (length (at b p .lane)) 0) (joining b p (joins (b .clock) (at b p) r)) (goOn b p (more (at b p) r))
+takenIn b p r =
+    cond (leb (length (at b p .lane)) 0) (joining b p (joins (b .clock) (at b p) r)) (goOn b p (more (at b p) r))
 
 -- the record is taken at place p
 abbrev pub tookAt : Board → (p : ℕ) → Record → Turn
@@ -219,7 +230,8 @@ unfoldable pub sendFrom : Board → ℕ → Board
 sendFrom b p =
     cond (leb (length (at b p .lane)) 1) (ended b p (emptied (at b p)) (b .orders))
     (cond (ltb (leftAfter (at b p)) (charge (getD (drop 1 (at b p .lane)) 0 noRecord) * 65536))
-    (ended b p (short (b .clock) (at b p)) (upd (b .orders) (blockClass (at b p)) (b .orders (blockClass (at b p)) ++ (p ∷ []))))
+    (ended b p (short (b .clock) (at b p))
+    (upd (b .orders) (blockClass (at b p)) (b .orders (blockClass (at b p)) ++ (p ∷ []))))
     (goOn b p (going (at b p))))
 
 -- ---- 2. A slot is open: the next serving call sends the front record of that block
@@ -266,8 +278,8 @@ begin b t =
 abbrev pub beginChecks : (t : ℕ) → List Check
 beginChecks t = check 11 (leb (2 ^ 62) t) ∷ []
 
--- If none is pending, the clock goes to the least ready time among waiting blocks: the slot begins at the later of that and the clock.
--- Code 1 where no block waits: no slot is open, and none is in an order.
+-- If none is pending, the clock goes to the least ready time among waiting blocks: the slot begins at the later of that
+-- and the clock. Code 1 where no block waits: no slot is open, and none is in an order.
 unfoldable pub serveBy : Board → Option ℕ → Option ℕ → Turn
 serveBy b (some p) ready = send false b p
 serveBy b none none = refuse b 1

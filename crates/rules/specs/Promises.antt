@@ -11,12 +11,14 @@ use Rattle.base.specs.Sums.{sum}
 use Rattle.base.specs.Tests.{least}
 use Rattle.units.specs.Classes.{Start, nextStart}
 use Rattle.units.specs.Credit.{charged, largestCharge, creditOf}
-use Rattle.rules.specs.Board.{tableLength, Record, charge, Place, Board, at, entry, front, Seventeen, someWait, active, pending, fresh}
+use Rattle.rules.specs.Board.{tableLength, Record, charge, Place, Board, at, entry, front, Seventeen, someWait}
+use Rattle.rules.specs.Board.{active, pending, fresh}
 use Rattle.rules.specs.Choice.{Sending, sent, openAt, find, isNone, leastReady, leftOf, serve}
 use Rattle.rules.specs.Blocks.{Opening}
 use Rattle.rules.specs.Burst.{Burst, burst}
 use Rattle.rules.specs.Spoilt.{spoilt}
-use Rattle.rules.specs.Calls.{Single, open!, serve!, step, Call, one, burst!, Sent, gives, sends, codeOf, Lent, kept, Outcome, listOf, done!, call, make}
+use Rattle.rules.specs.Calls.{Single, open!, serve!, step, Call, one, burst!, Sent, gives, sends, codeOf, Lent}
+use Rattle.rules.specs.Calls.{kept, Outcome, listOf, done!, call, make}
 use Rattle.rules.specs.Runs
 
 -- ---- Runs
@@ -46,23 +48,30 @@ pub record KeepsAll (lent : Lent) (c : Call) (left : Outcome) : Type 0 where
   pub list : left .list ≡ listOf c
 
 abbrev pub RefusalKeeps : Type 0
-RefusalKeeps = (lent : Lent) (x : Single) → codeOf (call lent (one x) .answer) ≢ 0 → KeepsAll lent (one x) (call lent (one x))
+RefusalKeeps =
+    (lent : Lent) (x : Single) → codeOf (call lent (one x) .answer) ≢ 0 → KeepsAll lent (one x) (call lent (one x))
 
 -- A burst that is given 3 or 2 leaves board, entries and list. (Its other codes stop it: BurstIsServes.)
 abbrev pub BurstRefusalKeeps : Type 0
-BurstRefusalKeeps = (lent : Lent) (bytes : ℕ) (list : List ℕ) → (codeOf (call lent (burst! bytes list) .answer) ≡ 3) ⊎ (codeOf (call lent (burst! bytes list) .answer) ≡ 2)
+BurstRefusalKeeps =
+    (lent : Lent) (bytes : ℕ) (list : List ℕ)
+    → (codeOf (call lent (burst! bytes list) .answer) ≡ 3) ⊎ (codeOf (call lent (burst! bytes list) .answer) ≡ 2)
     → KeepsAll lent (burst! bytes list) (call lent (burst! bytes list))
 
 -- A refused making leaves both tables, and the board that it gives is spoilt.
 abbrev pub RefusedMaking : Type 0
 RefusedMaking = (numbers lengths L : ℕ) → codeOf (make numbers lengths L .answer) ≢ 0
-    → (make numbers lengths L .entries ≡ kept) × (make numbers lengths L .board ≡ some (fresh 0)) × (spoilt (fresh 0) ≡ true)
+    → (make numbers lengths L .entries ≡ kept) × (make numbers lengths L .board ≡ some (fresh 0))
+    × (spoilt (fresh 0) ≡ true)
 
 -- A board that is not spoilt stays so under every call, of a run or not.
 abbrev pub StaysUnspoilt : Type 0
-StaysUnspoilt = (b : Board) (c : Call) → Seventeen b → spoilt b ≡ false → (spoilt (Runs.leaves b c) ≡ false) × Seventeen (Runs.leaves b c)
+StaysUnspoilt =
+    (b : Board) (c : Call) → Seventeen b → spoilt b ≡ false
+    → (spoilt (Runs.leaves b c) ≡ false) × Seventeen (Runs.leaves b c)
 
--- No board of a run is spoilt: lent with tables of 2,048 entries, every call does what the rules say, and none is given 3 or 2.
+-- No board of a run is spoilt: lent with tables of 2,048 entries, every call does what the rules say, and none is given
+-- 3 or 2.
 pub record NotRefused (b : Board) (c : Call) : Type 0 where
   pub does : call (record { numbers = tableLength; lengths = tableLength; board = some b }) c ≡ done! b c
   pub not3 : codeOf (done! b c .answer) ≢ 3
@@ -71,12 +80,13 @@ pub record NotRefused (b : Board) (c : Call) : Type 0 where
 abbrev pub NeverSpoilt : Type 0
 NeverSpoilt = (L : ℕ) (b : Board) → OfRun L b → (spoilt b ≡ false) × ((c : Call) → NotRefused b c)
 
--- ---- Demand 2: each record taken in is sent once, in its block's order, under the number that the block has when it is sent,
--- or it still stands in its lane. A closed block has none left.
+-- ---- Demand 2: each record taken in is sent once, in its block's order, under the number that the block has when it
+-- is sent, or it still stands in its lane. A closed block has none left.
 
 pub record Accounted (s : Runs.Story) (b : Board) : Type 0 where
   pub whenClosed : s .closed ≡ true → s .taken ≡ s .sent
-  pub whenOpen : s .closed ≡ false → ((p : ℕ) × (find b (s .number) ≡ openAt p)) × (s .taken ≡ s .sent ++ Runs.laneOf b (s .number))
+  pub whenOpen : s .closed ≡ false
+      → ((p : ℕ) × (find b (s .number) ≡ openAt p)) × (s .taken ≡ s .sent ++ Runs.laneOf b (s .number))
 
 abbrev pub Conserved : Type 0
 Conserved = (L : ℕ) (b : Board) → OfRun L b → (o : Opening) (after : List Single)
@@ -90,7 +100,8 @@ Conserved = (L : ℕ) (b : Board) → OfRun L b → (o : Opening) (after : List 
 abbrev pub bound : ℕ → ℕ → ℕ
 bound L k = (2 ^ suc k - 1) * (3 * largestCharge L - 1)
 
--- From the moment a record comes to the front of a lane of class k until it is sent, at most that many bytes of other records are sent.
+-- From the moment a record comes to the front of a lane of class k until it is sent, at most that many bytes of other
+-- records are sent.
 abbrev pub ByteBound : Type 0
 ByteBound = (L : ℕ) (b : Board) → OfRun L b → (n : ℕ) (x : Single) (after : List Single)
     → Runs.ComesToFront b n x → Runs.Unsent n (step b x .next) after
@@ -107,18 +118,20 @@ abbrev pub ServesSend : Type 0
 ServesSend = (L : ℕ) (b : Board) → OfRun L b → someWait (b .places) ≡ true
     → (Runs.answer b serve! ≡ gives 11) ⊎ ((s : Sent) × (Runs.answer b serve! ≡ sends s))
 
--- The call x brings the clock from below lo, a start of the class of the block that has n, to lo or past it, and the block waits when it
--- gets there: it waits before the call, and after it too unless the call itself began its slot at lo or later. (Waiting before the call is
--- not enough: the call may end the block's own slot with an empty lane as the clock ticks to lo.)
+-- The call x brings the clock from below lo, a start of the class of the block that has n, to lo or past it, and the
+-- block waits when it gets there: it waits before the call, and after it too unless the call itself began its slot at
+-- lo or later. (Waiting before the call is not enough: the call may end the block's own slot with an empty lane as the
+-- clock ticks to lo.)
 pub record WaitsAt (n lo : ℕ) (b : Board) (x : Single) : Type 0 where
   pub start : Start (Runs.classAt b n) lo
   pub early : b .clock < lo
   pub reached : lo ≤ step b x .next .clock
   pub before : 1 ≤ length (Runs.laneOf b n)
-  pub after : (1 ≤ length (Runs.laneOf (step b x .next) n)) ⊎ ((Runs.beginsSlot n b x ≡ true) × (lo ≤ Runs.clockOf (Runs.answer b x)))
+  pub after : (1 ≤ length (Runs.laneOf (step b x .next) n))
+      ⊎ ((Runs.beginsSlot n b x ≡ true) × (lo ≤ Runs.clockOf (Runs.answer b x)))
 
--- A block already waiting when the clock reaches a start of its class has exactly one slot begun in that interval by the time the clock
--- reaches its end.
+-- A block already waiting when the clock reaches a start of its class has exactly one slot begun in that interval by
+-- the time the clock reaches its end.
 abbrev pub SlotOnce : Type 0
 SlotOnce = (L : ℕ) (b : Board) → OfRun L b → (n lo : ℕ) (x : Single) (after : List Single)
     → WaitsAt n lo b x → lo + 2 ^ Runs.classAt b n ≤ Runs.play (step b x .next) after .clock
@@ -126,7 +139,9 @@ SlotOnce = (L : ℕ) (b : Board) → OfRun L b → (n lo : ℕ) (x : Single) (af
 
 -- No block ever has two slots begun in one interval of its class.
 abbrev pub NeverTwice : Type 0
-NeverTwice = (L : ℕ) (b : Board) → OfRun L b → (n p lo : ℕ) (after : List Single) → find b n ≡ openAt p → Start (Runs.classAt b n) lo
+NeverTwice =
+    (L : ℕ) (b : Board) → OfRun L b → (n p lo : ℕ) (after : List Single) → find b n ≡ openAt p
+    → Start (Runs.classAt b n) lo
     → Runs.slotsIn lo (lo + 2 ^ Runs.classAt b n) n b after ≤ 1
 
 -- ---- A burst is that many single serving calls
@@ -134,11 +149,13 @@ NeverTwice = (L : ℕ) (b : Board) → OfRun L b → (n p lo : ℕ) (after : Lis
 abbrev pub serves : ℕ → List Single
 serves n = replicate n serve!
 
--- why it stopped: the single call that would follow is refused with that code; or the list is full; or the next record exceeds the bytes remaining
+-- why it stopped: the single call that would follow is refused with that code; or the list is full; or the next record
+-- exceeds the bytes remaining
 pub data Stopped (bytes room : ℕ) (r : Burst) : Type 0 where
   byCall : Runs.answer (r .next) serve! ≡ gives (r .code) → Stopped bytes room r
   byList : (s : Sent) → Runs.answer (r .next) serve! ≡ sends s → r .count ≡ room → r .code ≡ 14 → Stopped bytes room r
-  byBytes : (s : Sent) → Runs.answer (r .next) serve! ≡ sends s → r .count < room → bytes < r .total + charged (s .bytes) → r .code ≡ 13 → Stopped bytes room r
+  byBytes : (s : Sent) → Runs.answer (r .next) serve! ≡ sends s → r .count < room
+      → bytes < r .total + charged (s .bytes) → r .code ≡ 13 → Stopped bytes room r
 
 pub record IsServes (b : Board) (bytes room : ℕ) (r : Burst) : Type 0 where
   pub next : r .next ≡ Runs.play b (serves (r .count))
@@ -160,23 +177,31 @@ DeficitsSmall = (L : ℕ) (b : Board) → OfRun L b → (p : ℕ) → at b p .de
 
 -- A slot sends at most 3L - 1 bytes.
 abbrev pub SlotsSmall : Type 0
-SlotsSmall = (L : ℕ) (b : Board) → OfRun L b → (t : ℕ) (after : List Single) → Runs.slotBytes t b after ≤ 3 * largestCharge L - 1
+SlotsSmall =
+    (L : ℕ) (b : Board) → OfRun L b → (t : ℕ) (after : List Single) → Runs.slotBytes t b after ≤ 3 * largestCharge L - 1
 
--- If none is pending, the least ready time equals the next start of the lowest active class, on every board that is not spoilt.
+-- If none is pending, the least ready time equals the next start of the lowest active class, on every board that is not
+-- spoilt.
 abbrev pub JumpIsStart : Type 0
 JumpIsStart = (b : Board) → Seventeen b → spoilt b ≡ false → b .slot ≡ none → ((k : ℕ) → pending b k ≡ false)
     → (r : ℕ) → leastReady (b .places) ≡ some r → r ≡ nextStart (least (active b) 17) (b .clock)
 
 -- The held shares are those of the closings whose release has not come.
 abbrev pub HeldAreClosings : Type 0
-HeldAreClosings = (L : ℕ) → InRange L → (xs : List Single) (k : ℕ) → Runs.play (fresh L) xs .held k ≡ sum (Runs.heldOf k) (Runs.holds [] (fresh L) xs)
+HeldAreClosings =
+    (L : ℕ) → InRange L → (xs : List Single) (k : ℕ)
+    → Runs.play (fresh L) xs .held k ≡ sum (Runs.heldOf k) (Runs.holds [] (fresh L) xs)
 
--- Code 1 is given exactly when no block waits; 11 exactly when one does, no slot is open, and the slot would begin at 2^62 or later.
+-- Code 1 is given exactly when no block waits; 11 exactly when one does, no slot is open, and the slot would begin at
+-- 2^62 or later.
 pub record ServeCodes (b : Board) : Type 0 where
-  pub one : (Runs.answer b serve! ≡ gives 1 → someWait (b .places) ≡ false) × (someWait (b .places) ≡ false → Runs.answer b serve! ≡ gives 1)
+  pub one : (Runs.answer b serve! ≡ gives 1 → someWait (b .places) ≡ false)
+      × (someWait (b .places) ≡ false → Runs.answer b serve! ≡ gives 1)
   pub eleven : Runs.answer b serve! ≡ gives 11
-      → (someWait (b .places) ≡ true) × (b .slot ≡ none) × ((r : ℕ) × (leastReady (b .places) ≡ some r) × (2 ^ 62 ≤ max (b .clock) r))
-  pub elevenWhen : (r : ℕ) → b .slot ≡ none → leastReady (b .places) ≡ some r → 2 ^ 62 ≤ max (b .clock) r → Runs.answer b serve! ≡ gives 11
+      → (someWait (b .places) ≡ true) × (b .slot ≡ none)
+      × ((r : ℕ) × (leastReady (b .places) ≡ some r) × (2 ^ 62 ≤ max (b .clock) r))
+  pub elevenWhen : (r : ℕ) → b .slot ≡ none → leastReady (b .places) ≡ some r → 2 ^ 62 ≤ max (b .clock) r
+      → Runs.answer b serve! ≡ gives 11
 
 abbrev pub ServeRefusals : Type 0
 ServeRefusals = (b : Board) → Seventeen b → spoilt b ≡ false → ServeCodes b

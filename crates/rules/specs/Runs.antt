@@ -1,4 +1,5 @@
--- RUNS: a done making, then any row of the other calls, each given what the one before left; and the words in which the demands speak of a run.
+-- RUNS: a done making, then any row of the other calls, each given what the one before left; and the words in which the
+-- demands speak of a run.
 use mathlib.Core.Path.{_≡_}
 use mathlib.Core.Bool.{Bool, true, false, cond, _&&_}
 use mathlib.Core.List.{List, [], _∷_, _++_}
@@ -11,7 +12,8 @@ use Rattle.units.specs.Credit.{charged}
 use Rattle.rules.specs.Board.{Record, Board, at, someWait}
 use Rattle.rules.specs.Choice.{find, byFound, isNone}
 use Rattle.rules.specs.Burst.{burst}
-use Rattle.rules.specs.Calls.{Single, open!, rename!, close!, record!, serve!, step, Call, one, burst!, Answer, gives, takes, sends, bursts, told, codeOf}
+use Rattle.rules.specs.Calls.{Single, open!, rename!, close!, record!, serve!, step, Call, one, burst!, Answer}
+use Rattle.rules.specs.Calls.{gives, takes, sends, bursts, told, codeOf}
 
 -- ---- Rows of single calls
 
@@ -152,7 +154,13 @@ abbrev pub begins : ℕ → Story
 begins n = record { number = n; taken = []; sent = []; closed = false }
 
 abbrev pub goesOn : Story → Single → Answer → Story
-goesOn s x a = record { number = numberAfter (s .number) x a; taken = s .taken ++ takenFor (s .number) x a; sent = s .sent ++ sentFor (s .number) a; closed = closes (s .number) x a }
+goesOn s x a =
+    record {
+      number = numberAfter (s .number) x a;
+      taken = s .taken ++ takenFor (s .number) x a;
+      sent = s .sent ++ sentFor (s .number) a;
+      closed = closes (s .number) x a;
+    }
 
 -- a closed block's story is over: the same number opened again is another block
 abbrev pub tells : Bool → Story → Single → Answer → Story
@@ -168,7 +176,8 @@ unfoldable pub Unsent : ℕ → Board → List Single → Type 0
 Unsent n b [] = Unit {0}
 Unsent n b (x ∷ xs) = (isFor n (answer b x) ≡ false) × Unsent (numberAfter n x (answer b x)) (step b x .next) xs
 
--- The call brings a record to the front of the lane of the block that has n: it comes into the empty lane, or the one before it is sent.
+-- The call brings a record to the front of the lane of the block that has n: it comes into the empty lane, or the one
+-- before it is sent.
 pub data ComesToFront (b : Board) (n : ℕ) : Single → Type 0 where
   intoEmpty : (r : Record) → isDone (answer b (record! n r)) ≡ true → laneOf b n ≡ [] → ComesToFront b n (record! n r)
   nextUp : isFor n (answer b serve!) ≡ true → 1 ≤ length (laneOf (step b serve! .next) n) → ComesToFront b n serve!
@@ -210,14 +219,16 @@ abbrev pub closing : Board → Single → Answer → List Hold
 closing b (open! o) a = []
 closing b (rename! old new) a = []
 closing b (close! n) a =
-    cond (isDone a && someWait (b .places)) (record { share = shareOf b n; class = classAt b n; until = nextStart (classAt b n) (b .clock) } ∷ []) []
+    cond (isDone a && someWait (b .places))
+    (record { share = shareOf b n; class = classAt b n; until = nextStart (classAt b n) (b .clock) } ∷ []) []
 closing b (record! n r) a = []
 closing b serve! a = []
 
 -- It is held until the clock reaches that start, or until no block waits.
 unfoldable pub stillHeld : Board → List Hold → List Hold
 stillHeld b [] = []
-stillHeld b (h ∷ hs) = let rest = stillHeld b hs in cond (ltb (b .clock) (h .until) && someWait (b .places)) (h ∷ rest) rest
+stillHeld b (h ∷ hs) =
+    let rest = stillHeld b hs in cond (ltb (b .clock) (h .until) && someWait (b .places)) (h ∷ rest) rest
 
 -- the holds of a row's closings whose release has not come
 unfoldable pub holds : List Hold → Board → List Single → List Hold

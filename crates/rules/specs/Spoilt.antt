@@ -1,6 +1,6 @@
 -- SPOILT (document 01, the last paragraph of 'Codes the box gives'): each clause is a test, in the paper's order.
--- What makes a value spell a board at all, and with it the class sets, the links and every zero of a field that is not in use, is told
--- beside the value itself; here are the clauses on the board that it spells.
+-- What makes a value spell a board at all, and with it the class sets, the links and every zero of a field that is not
+-- in use, is told beside the value itself; here are the clauses on the board that it spells.
 use mathlib.Core.Bool.{Bool, true, false, not, _&&_, _||_}
 use mathlib.Core.Option.{Option, none, some}
 use mathlib.Core.List.{List, [], _∷_}
@@ -11,7 +11,8 @@ use Rattle.base.specs.Sums.{oneIf}
 use Rattle.base.specs.Tests.{every, alike, allBelow}
 use Rattle.units.specs.Classes.{nextStart}
 use Rattle.units.specs.Credit.{largestCharge}
-use Rattle.rules.specs.Board.{Record, charge, Stand, out, queued, serving, Place, freePlace, Board, at, depth, front, blockClass, isOpen, waits, spent}
+use Rattle.rules.specs.Board.{Record, charge, Stand, out, queued, serving, Place, freePlace, Board, at, depth}
+use Rattle.rules.specs.Board.{front, blockClass, isOpen, waits, spent}
 use Rattle.rules.specs.Blocks.{quiet}
 
 -- a test of every place
@@ -28,7 +29,9 @@ clockInRange b = leb (b .clock) (2 ^ 62)
 
 -- open block numbers distinct and in range
 unfoldable pub numbersApart : Board → Bool
-numbersApart b = allBelow 64 (λ p. allBelow 64 (λ q. eqb p q || not (isOpen (at b p) && (isOpen (at b q) && eqb (at b p .number) (at b q .number)))))
+numbersApart b =
+    allBelow 64 (λ p. allBelow 64
+    (λ q. eqb p q || not (isOpen (at b p) && (isOpen (at b q) && eqb (at b p .number) (at b q .number)))))
 
 abbrev pub numberInRange : Place → Bool
 numberInRange x = not (isOpen x) || leb 1 (x .number)
@@ -108,7 +111,9 @@ readyNum (queued ready) = ready
 readyNum (serving left) = 0
 
 abbrev pub readyInRange : ℕ → Place → Bool
-readyInRange clock x = not (isQueued (x .stand)) || (eqb (readyNum (x .stand) % 2 ^ blockClass x) 0 && leb (readyNum (x .stand)) (nextStart (blockClass x) clock))
+readyInRange clock x =
+    not (isQueued (x .stand))
+    || (eqb (readyNum (x .stand) % 2 ^ blockClass x) 0 && leb (readyNum (x .stand)) (nextStart (blockClass x) clock))
 
 abbrev pub readyAt : List Place → ℕ → ℕ
 readyAt l p = readyNum (getD l p freePlace .stand)

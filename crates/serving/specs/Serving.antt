@@ -32,9 +32,15 @@ sentFrom shares lens place e =
     let empty = endedEmpty k (e .now .clock) (e .now .active) (e .now .pending) (e .queues .heads) (e .queues .held) in
     let waiting = endedWaiting place k rest (e .now .clock) (e .now .active) (e .now .pending) (e .queues) in
     cond (eqb count 0)
-    (engineNow starts counts (e .queues .deficits) (e .queues .ready) (e .queues .next) (e .queues .heads) (e .queues .tails) (empty .held) (empty .now))
+    (engineNow starts counts (e .queues .deficits) (e .queues .ready) (e .queues .next) (e .queues .heads)
+    (e .queues .tails) (empty .held) (empty .now))
     (cond (leb need rest)
-    (record { starts = starts; counts = counts; queues = e .queues; now = numbersNow (e .now .clock) (e .now .active) (e .now .pending) (place + 1) rest })
+    (record {
+      starts = starts;
+      counts = counts;
+      queues = e .queues;
+      now = numbersNow (e .now .clock) (e .now .active) (e .now .pending) (place + 1) rest;
+    })
     (record { starts = starts; counts = counts; queues = waiting .queues; now = waiting .now }))
 
 -- what is left of the slot where the lane empties, which is lost
@@ -70,7 +76,8 @@ pub record Within : Type 0 where
   pub queues : Queues
 
 abbrev pub withinNow : Step → List ℕ → List ℕ → List ℕ → List ℕ → List ℕ → List ℕ → List ℕ → List ℕ → Within
-withinNow step starts counts deficits ready next heads tails held = record { step = step; starts = starts; counts = counts; queues = queuesNow deficits ready next heads tails held }
+withinNow step starts counts deficits ready next heads tails held =
+    record { step = step; starts = starts; counts = counts; queues = queuesNow deficits ready next heads tails held }
 
 -- the engine that it leaves
 abbrev pub engineAfter : Within → Engine

@@ -1,5 +1,5 @@
--- WORKING DEFINITIONS: the clock, the choice, and a slot's beginning and end, on the board's lists. Theorems tie them to the rules; no
--- promise of a call cites one.
+-- WORKING DEFINITIONS: the clock, the choice, and a slot's beginning and end, on the board's lists. Theorems tie them
+-- to the rules; no promise of a call cites one.
 use mathlib.Core.Path.{_≡_}
 use mathlib.Core.Bool.{cond}
 use mathlib.Core.List.{List}
@@ -54,7 +54,8 @@ unfoldable pub choice : ℕ → ℕ → ℕ → ℕ → List ℕ → Choice
 choice clock active pending slot heads =
     let k = chosenClass active pending in
     let time = slotClock clock pending k in
-    cond (eqb slot 0) (cond (eqb active 0) (Stop 1) (cond (leb (2 ^ 62) time) (Stop 11) (Go (getD heads k 0 - 1) time))) (Go (slot - 1) clock)
+    cond (eqb slot 0) (cond (eqb active 0) (Stop 1) (cond (leb (2 ^ 62) time) (Stop 11) (Go (getD heads k 0 - 1) time)))
+    (Go (slot - 1) clock)
 
 abbrev pub choiceOf : Engine → Choice
 choiceOf e = choice (e .now .clock) (e .now .active) (e .now .pending) (e .now .slot) (e .queues .heads)
@@ -100,7 +101,10 @@ beganAt shares largest place k time clock pending q =
     let links = leftLinks place k (linksNow (q .next) (q .heads) (q .tails)) in
     let ready = set (q .ready) place 0 in
     beginningNow
-    (record { left = record { 0 = getD (q .deficits) place 0 + creditOf largest (getD shares place 0) }; pending = stillPending (on .pending) k time (links .heads) ready })
+    (record {
+      left = record { 0 = getD (q .deficits) place 0 + creditOf largest (getD shares place 0) };
+      pending = stillPending (on .pending) k time (links .heads) ready;
+    })
     (queuesNow (set (q .deficits) place 0) ready (links .next) (links .heads) (links .tails) (on .held))
 
 pub record CanBegin (shares : List ℕ) (largest place k : ℕ) (q : Queues) : Type 0 where
@@ -116,12 +120,20 @@ pub record CanBegin (shares : List ℕ) (largest place k : ℕ) (q : Queues) : T
 -- the slot that serves: the open one, or one that begins
 unfoldable pub openedSlot : List ℕ → ℕ → ℕ → ℕ → ℕ → ℕ → ℕ → ℕ → Queues → Beginning
 openedSlot shares largest place time clock pending slot left q =
-    cond (eqb slot 0) (beganAt shares largest place (classOf (getD shares place 0)) time clock pending q) (beginningNow (record { left = record { 0 = left }; pending = pending }) q)
+    cond (eqb slot 0) (beganAt shares largest place (classOf (getD shares place 0)) time clock pending q)
+    (beginningNow (record { left = record { 0 = left }; pending = pending }) q)
 
 unfoldable pub opened : List ℕ → ℕ → ℕ → ℕ → Engine → Engine
 opened shares largest place time e =
-    let b = openedSlot shares largest place time (e .now .clock) (e .now .pending) (e .now .slot) (e .now .left .0) (e .queues) in
-    record { starts = e .starts; counts = e .counts; queues = b .queues; now = numbersNow time (e .now .active) (b .begun .pending) (place + 1) (b .begun .left .0) }
+    let b =
+    openedSlot shares largest place time (e .now .clock) (e .now .pending) (e .now .slot) (e .now .left .0)
+    (e .queues) in
+    record {
+      starts = e .starts;
+      counts = e .counts;
+      queues = b .queues;
+      now = numbersNow time (e .now .active) (b .begun .pending) (place + 1) (b .begun .left .0);
+    }
 
 -- ---- A slot ends: the clock is one more
 
@@ -155,4 +167,5 @@ unfoldable pub endedWaiting : ℕ → ℕ → ℕ → ℕ → ℕ → ℕ → Qu
 endedWaiting place k rest clock active pending q =
     let o = joinedOrders (ordersNow (q .next) (q .heads) (q .tails) (q .ready) active) place k (nextStart k clock) in
     let on = turned clock (clock + 1) (o .heads) (turnedNow pending (q .held)) in
-    waitingEndNow (numbersNow (clock + 1) (o .active) (on .pending) 0 0) (queuesNow (set (q .deficits) place rest) (o .ready) (o .next) (o .heads) (o .tails) (on .held))
+    waitingEndNow (numbersNow (clock + 1) (o .active) (on .pending) 0 0)
+    (queuesNow (set (q .deficits) place rest) (o .ready) (o .next) (o .heads) (o .tails) (on .held))

@@ -1,5 +1,5 @@
-// Slots (rules 2 to 5): the clock goes on, the next class is chosen, a slot begins and ends. Arrays are lent one by one,
-// so that no board is copied.
+// Slots (rules 2 to 5): the clock goes on, the next class is chosen, a slot begins and ends. Arrays are lent one by
+// one, so that no board is copied.
 ghost use mathlib.Core.Path.{_≡_};
 ghost use Prim.Native.Nat.{_+_, _-_, _*_, _^_, _<_, _≤_};
 ghost use lib.ListN.{getD, set, replicate};

@@ -30,13 +30,15 @@ unfoldable pub laneInRange : List ℕ → ℕ → ℕ → ℕ → ℕ → Bool
 laneInRange lens largest p start count = allBelow count (λ j. lengthInRange largest (getD lens (laneEntry p start j) 0))
 
 unfoldable pub lanesInRange : List ℕ → ℕ → List ℕ → List ℕ → Bool
-lanesInRange lens largest starts counts = allBelow 64 (λ p. laneInRange lens largest p (getD starts p 0) (getD counts p 0))
+lanesInRange lens largest starts counts =
+    allBelow 64 (λ p. laneInRange lens largest p (getD starts p 0) (getD counts p 0))
 
 -- ---- THE OPEN SLOT
 
 -- an open slot's block waits, its front fits what is left, that is under 3L bytes, and the slot's clock is below 2^62
 unfoldable pub slotOpen : ℕ → ℕ → ℕ → ℕ → ℕ → Bool
-slotOpen largest clock left count len = not (eqb count 0) && (leb (chargeOf len) left && (ltb left (3 * chargeOf largest) && ltb clock (2 ^ 62)))
+slotOpen largest clock left count len =
+    not (eqb count 0) && (leb (chargeOf len) left && (ltb left (3 * chargeOf largest) && ltb clock (2 ^ 62)))
 
 -- no slot: nothing is left of it; the mark of a slot is a place's
 unfoldable pub slotInRange : List ℕ → ℕ → ℕ → ℕ → ℕ → List ℕ → List ℕ → Bool

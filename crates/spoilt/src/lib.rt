@@ -2,7 +2,8 @@
 ghost use mathlib.Core.Path.{_≡_};
 ghost use Prim.Native.Nat.{ℕ, _<_};
 ghost use lib.ListN.{length};
-ghost use Rattle.spoilt.specs.Test.{tablesWhole, lengthInRange, laneInRange, lanesInRange, slotOpen, slotInRange, orderRules, soundTest};
+ghost use Rattle.spoilt.specs.Test.{tablesWhole, lengthInRange, laneInRange, lanesInRange, slotOpen};
+ghost use Rattle.spoilt.specs.Test.{slotInRange, orderRules, soundTest};
 ghost use Rattle.spoilt.specs.Early.{earlyCode};
 ghost use Rattle.board.specs.Leaving.{Known};
 ghost use Rattle.base.specs.Tests.{every};
@@ -101,7 +102,8 @@ fn slot_in_range<'a>(
     counts: &'a [u16; PLACES],
 ) -> bool
     requires { ⌜ length (now lens) ≡ 2048 ⌝ }
-    ensures { λ r. ⌜ r ≡ slotInRange (now (lens .entry)) largest clock slot (left .0) (now (starts .entry)) (now (counts .entry)) ⌝ }
+    ensures { λ r. ⌜
+        r ≡ slotInRange (now (lens .entry)) largest clock slot (left .0) (now (starts .entry)) (now (counts .entry)) ⌝ }
 {
     if slot == NO_LINK {
         return left.0 == 0;

@@ -28,30 +28,36 @@ readyInRange k start least ready = eqb (ready / 2 ^ k * 2 ^ k) ready && (leb rea
 
 -- the block of place p may stand in the order of class k, behind one whose ready time is the least
 unfoldable pub blockInRange : ℕ → ℕ → ℕ → ℕ → ℕ → ℕ → ℕ → ℕ → Bool
-blockInRange k start slot least p share count ready = inOrder p count slot && (ofClass k share && readyInRange k start least ready)
+blockInRange k start slot least p share count ready =
+    inOrder p count slot && (ofClass k share && readyInRange k start least ready)
 
 -- no order has this length: the walk met a link out of range, did not end, or ended elsewhere than at the tail
 abbrev pub noOrder : ℕ
 noOrder = 65
 
--- The walk of class k's order from the link h, with n more steps allowed: how many places it meets in all; met of them, and the last link, came before h.
+-- The walk of class k's order from the link h, with n more steps allowed: how many places it meets in all; met of them,
+-- and the last link, came before h.
 unfoldable pub walk : ℕ → ℕ → ℕ → ℕ → List ℕ → List ℕ → List ℕ → List ℕ → ℕ → ℕ → ℕ → ℕ → ℕ → ℕ
-walk k start slot tail shares counts ready next zero met h least last = cond (eqb h 0) (cond (eqb last tail) met noOrder) noOrder
+walk k start slot tail shares counts ready next zero met h least last =
+    cond (eqb h 0) (cond (eqb last tail) met noOrder) noOrder
 walk k start slot tail shares counts ready next (suc n) met h least last =
     let p = h - 1 in
     let on = walk k start slot tail shares counts ready next n (met + 1) (getD next p 0) (getD ready p 0) h in
     cond (eqb h 0) (cond (eqb last tail) met noOrder)
-    (cond (leb h 64 && blockInRange k start slot least p (getD shares p 0) (getD counts p 0) (getD ready p 0)) on noOrder)
+    (cond (leb h 64 && blockInRange k start slot least p (getD shares p 0) (getD counts p 0) (getD ready p 0)) on
+    noOrder)
 
 unfoldable pub orderLength : ℕ → ℕ → List ℕ → List ℕ → List ℕ → List ℕ → List ℕ → List ℕ → ℕ → ℕ
-orderLength clock slot heads tails shares counts ready next k = walk k (nextStart k clock) slot (getD tails k 0) shares counts ready next 64 0 (getD heads k 0) 0 0
+orderLength clock slot heads tails shares counts ready next k =
+    walk k (nextStart k clock) slot (getD tails k 0) shares counts ready next 64 0 (getD heads k 0) 0 0
 
 -- how many blocks wait and have not the open slot
 unfoldable pub blocksInOrder : ℕ → List ℕ → ℕ
 blocksInOrder slot counts = below (λ p. oneIf (inOrder p (getD counts p 0) slot)) 64
 
--- clock at most 2^62; each order can be followed to its tail, and each waiting block is once in its own class's order, or in the open slot:
--- no walk meets a place twice or one of another class, so none is missing where they are as long in all as there are such blocks
+-- clock at most 2^62; each order can be followed to its tail, and each waiting block is once in its own class's order,
+-- or in the open slot: no walk meets a place twice or one of another class, so none is missing where they are as long
+-- in all as there are such blocks
 unfoldable pub ordersListed : ℕ → ℕ → List ℕ → List ℕ → List ℕ → List ℕ → List ℕ → List ℕ → Bool
 ordersListed clock slot heads tails shares counts ready next =
     clockInRange clock
@@ -62,7 +68,8 @@ ordersListed clock slot heads tails shares counts ready next =
 
 -- active: the order has a block, or the open slot's block is of the class
 unfoldable pub classActive : ℕ → List ℕ → List ℕ → ℕ → Bool
-classActive slot shares heads k = not (eqb (getD heads k 0) 0) || (not (eqb slot 0) && (leb slot 64 && ofClass k (getD shares (slot - 1) 0)))
+classActive slot shares heads k =
+    not (eqb (getD heads k 0) 0) || (not (eqb slot 0) && (leb slot 64 && ofClass k (getD shares (slot - 1) 0)))
 
 -- pending: the first block of the order is
 unfoldable pub classPending : ℕ → List ℕ → List ℕ → ℕ → Bool

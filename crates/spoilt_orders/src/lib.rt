@@ -3,7 +3,9 @@ ghost use mathlib.Core.Path.{_≡_};
 ghost use mathlib.Core.Bool.{cond};
 ghost use Prim.Native.Nat.{ℕ, _<_, _≤_};
 ghost use Rattle.bits.specs.Sets.{withBit};
-ghost use Rattle.spoilt_orders.specs.Walks.{clockInRange, ofClass, readyInRange, blockInRange, walk, blocksInOrder, ordersListed, classActive, classPending, activeAsRuled, pendingAsRuled};
+ghost use Rattle.spoilt_orders.specs.Walks.{clockInRange, ofClass, readyInRange, blockInRange, walk};
+ghost use Rattle.spoilt_orders.specs.Walks.{blocksInOrder, ordersListed, classActive, classPending};
+ghost use Rattle.spoilt_orders.specs.Walks.{activeAsRuled, pendingAsRuled};
 use numbers::CLASS_END;
 use numbers::CLASSES;
 use numbers::CLOCK_END;
@@ -93,7 +95,9 @@ fn order_length<'a>(
     next: &'a [u8; PLACES],
 ) -> u32
     requires { ⌜ k ≤ 16 ⌝ }
-    ensures { λ r. ⌜ r ≡ walk k start slot tail (now (shares .entry)) (now (counts .entry)) (now (ready .entry)) (now (next .entry)) 64 0 head 0 0 ⌝ }
+    ensures { λ r. ⌜
+        r ≡ walk k start slot tail (now (shares .entry)) (now (counts .entry)) (now (ready .entry)) (now (next .entry))
+        64 0 head 0 0 ⌝ }
 {
     let mut met: u32 = 0;
     let mut h = head;
@@ -136,7 +140,8 @@ fn blocks_in_order(slot: u8, counts: &[u16; PLACES]) -> u32
     blocks
 }
 
-// Clock at most 2^62; each waiting block once in its own class's order, or in the open slot, and no other block there; ready times in range, never falling.
+// Clock at most 2^62; each waiting block once in its own class's order, or in the open slot, and no other block there;
+// ready times in range, never falling.
 pub fn orders_listed<'a>(
     clock: u64,
     slot: u8,
@@ -147,7 +152,9 @@ pub fn orders_listed<'a>(
     ready: &'a [u64; PLACES],
     next: &'a [u8; PLACES],
 ) -> bool
-    ensures { λ r. ⌜ r ≡ ordersListed clock slot (now (heads .entry)) (now (tails .entry)) (now (shares .entry)) (now (counts .entry)) (now (ready .entry)) (now (next .entry)) ⌝ }
+    ensures { λ r. ⌜
+        r ≡ ordersListed clock slot (now (heads .entry)) (now (tails .entry)) (now (shares .entry))
+        (now (counts .entry)) (now (ready .entry)) (now (next .entry)) ⌝ }
 {
     if !clock_in_range(clock) {
         return false;

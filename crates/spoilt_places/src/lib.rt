@@ -1,7 +1,11 @@
-// The rules of the places, for the spoilt test: numbers, shares, rings, deficits and zeros. Each function decides one clause and asks nothing of its caller.
+// The rules of the places, for the spoilt test: numbers, shares, rings, deficits and zeros. Each function decides one
+// clause and asks nothing of its caller.
 ghost use mathlib.Core.Path.{_≡_};
 ghost use Rattle.base.specs.Sums.{oneIf};
-ghost use Rattle.spoilt_places.specs.Ranges.{sizeInRange, timesFound, numberApart, numbersApart, numberInRange, shareInRange, ringInRange, inOrder, deficitInRange, freeIsZero, unusedIsZero, placeInRange, placesInRange, sharesFit, noneHeld, heldWhileWaiting};
+ghost use Rattle.spoilt_places.specs.Ranges.{sizeInRange, timesFound, numberApart, numbersApart};
+ghost use Rattle.spoilt_places.specs.Ranges.{numberInRange, shareInRange, ringInRange, inOrder, deficitInRange};
+ghost use Rattle.spoilt_places.specs.Ranges.{freeIsZero, unusedIsZero, placeInRange, placesInRange};
+ghost use Rattle.spoilt_places.specs.Ranges.{sharesFit, noneHeld, heldWhileWaiting};
 use board::Board;
 use numbers::CLASSES;
 use numbers::GREATEST_LARGEST;

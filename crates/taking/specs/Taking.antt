@@ -33,7 +33,8 @@ joinedOrders o place k time =
 unfoldable pub takenAt : List ℕ → ℕ → ℕ → Taking → Taking
 takenAt shares clock i t =
     let k = classOf (getD shares i 0) in
-    taking (set (t .counts) i (getD (t .counts) i 0 + 1)) (cond (eqb (getD (t .counts) i 0) 0) (joinedOrders (t .orders) i k (nextStart k clock)) (t .orders))
+    taking (set (t .counts) i (getD (t .counts) i 0 + 1))
+    (cond (eqb (getD (t .counts) i 0) 0) (joinedOrders (t .orders) i k (nextStart k clock)) (t .orders))
 
 -- what the lists must have for a record to be taken at place i
 pub record TakeNeeds (shares counts tails : List ℕ) (clock i : ℕ) : Type 0 where

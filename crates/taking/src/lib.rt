@@ -24,7 +24,8 @@ pub fn join_in(
 ) -> u32
     requires { ⌜ (place < 64) × ((k < 17) × (getD (now tails) k 0 ≤ 64)) ⌝ }
     ensures { λ r. ⌜
-        (let before = ordersNow (now (next .entry)) (now (heads .entry)) (now (tails .entry)) (now (ready .entry)) active in
+        (let before =
+        ordersNow (now (next .entry)) (now (heads .entry)) (now (tails .entry)) (now (ready .entry)) active in
         let after = ordersNow (now (next .exit)) (now (heads .exit)) (now (tails .exit)) (now (ready .exit)) r in
         after ≡ joinedOrders before place k time) ⌝ }
 {
