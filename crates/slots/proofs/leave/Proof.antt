@@ -1,3 +1,5 @@
+-- `slots::leave` meets its contract: both cases of the link behind: the order is empty, or it has another first block.
+-- Assumes nothing.
 use borrow.Author.Tests.{eq-eqb, ne-eqb}
 use Rattle.slots.specs.Slots.{leftLinks}
 use borrow.Author.Needs.{needs}

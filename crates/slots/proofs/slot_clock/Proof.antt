@@ -1,3 +1,5 @@
+-- `slots::slot_clock` meets its contract: both cases of the test: the next start of the class, or the clock as it is.
+-- Assumes nothing.
 use borrow.Author.Tests.{eq-eqb, ne-eqb}
 use Rattle.slots.specs.Slots.{slotClock}
 use borrow.Author.Needs.{needs}

@@ -1,3 +1,5 @@
+-- `spoilt::lanes_in_range` meets its contract: the lanes of the places below p are in range; one that is not ends the
+-- loop (all-more, all-stop). Assumes nothing.
 use mathlib.Core.Bool.{true}
 use mathlib.Core.Path.{_∙_, _≡_, sym}
 use Prim.Native.Nat.{_-_, _≤_}

@@ -1,3 +1,4 @@
+-- `spoilt_orders::set_with` meets its contract: both cases of the test. Assumes nothing.
 use borrow.Author.Needs.{needs}
 use Rattle.spoilt_orders.proofs.set_with.Statement.{statement}
 use Rattle.spoilt_orders.proofs.set_with.Tie as tie

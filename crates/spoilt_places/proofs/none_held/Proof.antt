@@ -1,3 +1,5 @@
+-- `spoilt_places::none_held` meets its contract: no share of the classes below k is held; one that is ends the loop
+-- (all-more, all-stop). Assumes nothing.
 use mathlib.Core.Bool.{true}
 use mathlib.Core.Path.{_≡_, sym}
 use Prim.Native.Nat.{_-_, _≤_}

@@ -1,3 +1,5 @@
+-- `spoilt_places::places_in_range` meets its contract: each place below p keeps the rules; one that does not ends the
+-- loop (all-more, all-stop). Assumes nothing.
 use mathlib.Core.Bool.{true}
 use mathlib.Core.Path.{_∙_, _≡_, sym}
 use Prim.Native.Nat.{_-_, _≤_}

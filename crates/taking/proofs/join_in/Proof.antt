@@ -1,3 +1,5 @@
+-- `taking::join_in` meets its contract: both cases of the last link: the block is the first of its order, or it stands
+-- behind the last. Assumes nothing.
 use mathlib.Core.Logic.{⊎-elim}
 use borrow.Author.Tests.{eq-eqb, ne-eqb}
 use Rattle.taking.specs.Taking.{joinedOrders}
