@@ -1,4 +1,4 @@
--- `slots::leave` meets its contract: both cases of the link behind: the order is empty, or it has another first block.
+-- `slots::leave` meets its contract: where no block stands behind the order is empty; else that one is the first.
 -- Assumes nothing.
 use borrow.Author.Tests.{eq-eqb, ne-eqb}
 use Rattle.slots.specs.Slots.{leftLinks}

@@ -1,4 +1,4 @@
--- `slots::slot_clock` meets its contract: both cases of the test: the next start of the class, or the clock as it is.
+-- `slots::slot_clock` meets its contract: where no class is pending it is the next start; else the clock as it is.
 -- Assumes nothing.
 use borrow.Author.Tests.{eq-eqb, ne-eqb}
 use Rattle.slots.specs.Slots.{slotClock}

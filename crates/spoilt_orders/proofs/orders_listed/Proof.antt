@@ -1,5 +1,6 @@
--- `spoilt_orders::orders_listed` meets its contract: the orders of the classes below k have at most 64 places each, and
--- their lengths are summed (all-more, below-more); a longer one ends the loop (all-stop). Assumes nothing.
+-- `spoilt_orders::orders_listed` meets its contract: the loop keeps that the orders below class k have 64 places at
+-- most, and the sum of their lengths (all-more, below-more); the first that is none ends it (all-stop).
+-- Assumes nothing.
 use mathlib.Core.Bool.{true}
 use mathlib.Core.Path.{_∙_, _≡_, ap, sym}
 use Prim.Native.Nat.{_*_, _-_, _^_, _≤_, ℕ}

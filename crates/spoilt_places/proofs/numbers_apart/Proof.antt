@@ -1,5 +1,5 @@
--- `spoilt_places::numbers_apart` meets its contract: the number of each place below p stands apart; one that does not
--- ends the loop (all-more, all-stop). Assumes nothing.
+-- `spoilt_places::numbers_apart` meets its contract: the loop keeps that the numbers below place p stand apart, and the
+-- first that does not ends it (all-more, all-stop). Assumes nothing.
 use mathlib.Core.Bool.{true}
 use mathlib.Core.Path.{_∙_, _≡_, sym}
 use Prim.Native.Nat.{_-_, _≤_}

@@ -1,5 +1,5 @@
--- `units::class_of` meets its contract: the limit is 2^(16-k), and the share reaches none above it, so that the first
--- one reached gives the least class, and 16 is left where none of those before is (half-power, least-found,
+-- `units::class_of` meets its contract: the loop keeps that the limit is 2^(16-k) and that the share reaches none above
+-- it (half-power), so that the first one reached gives the class, and 16 is left where none is (least-found,
 -- least-none). Assumes nothing.
 use mathlib.Core.Path.{_≡_, sym, _∙_}
 use mathlib.Core.Bool.{true, false}
