@@ -34,6 +34,7 @@ pub fn sum_shorts(row: &[u16]) -> u32
     sum
 }
 
+// Every number of the row becomes 0.
 pub fn clear_words(row: &mut [u32])
     ensures { λ _. ⌜ now (row .exit) ≡ zeroed (now (row .entry)) ⌝ }
 {
@@ -44,6 +45,7 @@ pub fn clear_words(row: &mut [u32])
     }
 }
 
+// The same of shorter numbers.
 pub fn clear_shorts(row: &mut [u16])
     ensures { λ _. ⌜ now (row .exit) ≡ zeroed (now (row .entry)) ⌝ }
 {

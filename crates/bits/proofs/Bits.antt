@@ -89,7 +89,7 @@ and-power x k = ap (λ (n : ℕ). bitAnd x n) (twice k) ∙ and-high x 1 k
     twice : (k : ℕ) → 2 ^ k ≡ 2 ^ (1 + k) - 2 ^ k
     twice k = rw (one-add k, pow-suc) (omega arith)
 
--- with y the number without bit k: it has no bit k, and with the bit it is x, where x has the bit
+-- a number without bit k: itself where it has no bit k, and with the bit again itself where it has
 without-none : (x k : ℕ) → bitAt x k ≡ 0 → withoutBit x k ≡ x
 unfolding withoutBit
 without-none x k e = rw (and-power x k, e, zero-mul) (sub-zero x)

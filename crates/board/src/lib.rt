@@ -61,7 +61,7 @@ pub fn numbers_of(b: Board) -> After
     }
 }
 
-// The board whose arrays and numbers these are: no other code names all fields.
+// The board whose arrays and numbers these are: no other code builds a board of all its fields.
 pub fn packed(
     numbers: [u32; PLACES],
     shares: [u32; PLACES],

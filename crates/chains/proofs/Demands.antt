@@ -28,6 +28,7 @@ use Rattle.rules.proofs.Cases.{serve-cases}
 use Rattle.rules.proofs.Stories.{opened-by}
 use Rattle.rules.proofs.Names.{follows, has-find, has-lane, has-share}
 use Rattle.rules.proofs.Promises
+use Rattle.rules.proofs.Promises.{play-join}
 use Rattle.board.specs.declared.Board as struct
 use Rattle.board.specs.Reading.{view}
 use Rattle.board.specs.declared.Reply.{Reply}
@@ -40,7 +41,7 @@ use Rattle.chains.specs.Demands.{reads, clock, bytesIn, slotBytes, NoneR
 use Rattle.chains.specs.Demands.{BurstIsServes, NeverRefused, Opened, Life, Conserved, SendsFront, ComesToFront, intoEmpty, nextUp, StaysInFront}
 use Rattle.chains.specs.Demands.{ServesSend, BurstSends, beginsSlot, slotsIn, WaitsAt, SlotsSmall, OnlyOne, HasChain}
 use Rattle.chains.proofs.Chains.{did-agrees, chain-is-run}
-use Rattle.chains.proofs.Rows.{At, at-made, at-tidy, at-on, at-did, saidOf, play-join, Along, along, bytes-said, slot-bytes-said, story-said}
+use Rattle.chains.proofs.Rows.{At, at-made, at-tidy, at-on, at-did, saidOf, Along, along, bytes-said, slot-bytes-said, story-said}
 use Rattle.chains.proofs.Rows.{unsent-said, spent-said, spelt-bytes, burst-is, row-from}
 use Rattle.chains.proofs.Slots.{Seen, seen-fresh, seen-play, seen-step, begins-said, slots-said}
 

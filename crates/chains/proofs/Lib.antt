@@ -1,3 +1,4 @@
+-- The laws and the theorems of this crate; no other crate stands on it.
 pub mod Refusals
 pub mod Chains
 pub mod Rows

@@ -16,7 +16,7 @@ use Rattle.rules.specs.Runs.{runs, answer, Story, begins, tells}
 use Rattle.rules.specs.Promises.{serves}
 use Rattle.rules.proofs.Cases.{open-cases}
 use Rattle.chains.specs.Chains.{Holding, Did, Chain, stops, goes, Made, answersOf}
-use Rattle.chains.specs.Demands.{reads, Spelt, over, single, asServes, Row, story, lastSlot, slotAfter, Life, Chained, Parting, Passage}
+use Rattle.chains.specs.Demands.{reads, SpeltOut, over, single, asServes, Row, story, lastSlot, slotAfter, Life, Chained, Parting, Passage}
 use Rattle.chains.specs.Demands.{HasPassage, PassageLives, tale, lastOf, laterLast, ByteBound, SentInTime, SlotOnce, NeverTwice, slotsIn, HasLife}
 use Rattle.chains.proofs.Chains.{did-agrees, chain-from, chain-is-run}
 use Rattle.chains.proofs.Rows.{map-join, at-made, at-on, along, story-said, chain-join, row-from}
@@ -115,7 +115,7 @@ has-passage L c w e q = record {
 -- ---- its moments have their lives
 
 -- a chain of single calls is its own row
-spelt-own : {s e : Holding} (xs : List Single) {said : List Answer} → Chain s (map one xs) said e → Spelt (map one xs) said xs said
+spelt-own : {s e : Holding} (xs : List Single) {said : List Answer} → Chain s (map one xs) said e → SpeltOut (map one xs) said xs said
 spelt-own [] stops = over
 spelt-own (x ∷ xs) (goes {a = a} d rest) = single x a (spelt-own xs rest)
 
@@ -219,7 +219,7 @@ says-done : (b : Board.Board) (o : Opening) → codeOf (told b (step b (open! o)
 says-done b o = open-cases b o (λ u. codeOf (told b (u .out)) ≡ 0 → told b (u .out) ≡ gives 0) (λ code r e. ap gives e) (λ c e. refl)
 
 -- the row of a chain is the rules' row of its calls
-pub spelt-row : (b : Board.Board) {cs : List Call} {told said : List Answer} {xs : List Single} → Spelt cs told xs said → told ≡ answersOf b cs
+pub spelt-row : (b : Board.Board) {cs : List Call} {told said : List Answer} {xs : List Single} → SpeltOut cs told xs said → told ≡ answersOf b cs
     → xs ≡ Runs.row b cs
 unfolding Runs.row answersOf
 spelt-row b over e = refl

@@ -16,14 +16,15 @@ use Rattle.rules.specs.Runs
 use Rattle.rules.specs.Runs.{play, answer, runs, row, recordOf, recordsIn, Story, tells, numberAfter}
 use Rattle.rules.specs.Promises.{OfRun, serves, IsServes}
 use Rattle.rules.proofs.Tidy.{Tidy}
-use Rattle.rules.proofs.Promises.{run-is-row, burst-is-serves}
+use Rattle.rules.proofs.Promises.{play-join, run-is-row, burst-is-serves}
 use Rattle.board.proofs.Sound.{fit-view, sound-one}
 use Rattle.calls.specs.declared.Bursted.{Bursted}
 use Rattle.board.specs.Leaving.{Returned, returned}
 use Rattle.calls.specs.Contract.{BurstOutcome, burstNow, goodBurst, calledServe, calledBurst}
 use Rattle.calls.proofs.Calling
 use Rattle.chains.specs.Chains.{Holding, servedTells, burstTells, Did, byReply, byServe, byBurst, Chain, stops, goes, Made, answersOf}
-use Rattle.chains.specs.Demands.{reads, bytesOf, bytesIn, slotBytes, NotSpent, Unsent, story, Spelt, over, single, asServes, Row, BurstIs, KnownHolding}
+use Rattle.chains.specs.Demands.{reads, bytesOf, bytesIn, slotBytes, NotSpent, Unsent, story, SpeltOut, over, single, asServes, Row, BurstIs}
+use Rattle.chains.specs.Demands.{KnownHolding}
 use Rattle.chains.specs.Demands.{Agrees}
 use Rattle.chains.proofs.Refusals.{serve-tables}
 use Rattle.chains.proofs.Chains.{did-agrees, chain-from, chain-is-run, chain-of-run}
@@ -33,11 +34,6 @@ use Rattle.chains.proofs.Chains.{did-agrees, chain-from, chain-is-run, 
 pub map-join : {A B : Type 0} (f : A → B) (xs ys : List A) → map f (xs ++ ys) ≡ map f xs ++ map f ys
 map-join f [] ys = refl
 map-join f (x ∷ xs) ys = ap (λ r. f x ∷ r) (map-join f xs ys)
-
-pub play-join : (b : Board.Board) (xs ys : List Single) → play (play b xs) ys ≡ play b (xs ++ ys)
-unfolding play
-play-join b [] ys = refl
-play-join b (x ∷ xs) ys = play-join (step b x .next) xs ys
 
 -- ---- a holding of a chain
 
@@ -134,7 +130,7 @@ unfolding bytesIn sum
 bytes-sent [] said = omega arith
 bytes-sent (s ∷ rest) said = omega (arith, bytes-sent rest said)
 
-pub spelt-bytes : {cs : List Call} {told said : List Answer} {xs : List Single} → Spelt cs told xs said → bytesIn told ≡ bytesIn said
+pub spelt-bytes : {cs : List Call} {told said : List Answer} {xs : List Single} → SpeltOut cs told xs said → bytesIn told ≡ bytesIn said
 unfolding bytesIn
 spelt-bytes over = refl
 spelt-bytes (single x a rest) = ap (λ (n : ℕ). bytesOf a + n) (spelt-bytes rest)

@@ -98,22 +98,22 @@ NotSpent (a ∷ told) = (codeOf a ≢ 11) × NotSpent told
 -- single calls that it comes to: in place of each burst as many serving calls as its count, each of which sends, and
 -- whose bytes are the burst's.
 
-pub data Spelt : List Call → List Answer → List Single → List Answer → Type 0 where
-  over : Spelt [] [] [] []
+pub data SpeltOut : List Call → List Answer → List Single → List Answer → Type 0 where
+  over : SpeltOut [] [] [] []
   single : {cs : List Call} {told said : List Answer} {xs : List Single} (x : Single) (a : Answer)
-      → Spelt cs told xs said → Spelt (one x ∷ cs) (a ∷ told) (x ∷ xs) (a ∷ said)
+      → SpeltOut cs told xs said → SpeltOut (one x ∷ cs) (a ∷ told) (x ∷ xs) (a ∷ said)
   asServes : {cs : List Call} {told said : List Answer} {xs : List Single} (bytes : ℕ) (list : List ℕ) (r : Bursted)
       (sent : List Sent)
       → length sent ≡ r .count → sum (λ (s : Sent). charged (s .bytes)) sent ≡ r .bytes .0
-      → Spelt cs told xs said
-      → Spelt (burst! bytes list ∷ cs) (burstTells r ∷ told) (serves (length sent) ++ xs) (map sends sent ++ said)
+      → SpeltOut cs told xs said
+      → SpeltOut (burst! bytes list ∷ cs) (burstTells r ∷ told) (serves (length sent) ++ xs) (map sends sent ++ said)
 
 -- Both chains go from the same value to the same value. (What happens within a burst is read in the second, of which
 -- each part is a chain.)
 pub record Row (s : Holding) (cs : List Call) (told : List Answer) (xs : List Single) (said : List Answer)
     (e : Holding) : Type 0 where
   pub chain : Chain s cs told e
-  pub spelt : Spelt cs told xs said
+  pub spelt : SpeltOut cs told xs said
   pub singles : Chain s (map one xs) said e
 
 -- Every part of a chain from a done making has its row.

@@ -1,4 +1,4 @@
-// One field of a log played: what it says is done on the engine's arrays, and its line is put in front of a buffer. The
+// One field of a log played: what it says is done on the engine's arrays, and its line is put at the front of a buffer. The
 // board is not tested here: whoever goes from field to field tests it once, and each step leaves it good.
 ghost use mathlib.Core.Path.{_≡_};
 ghost use mathlib.Core.Bool.{false};
@@ -133,7 +133,7 @@ fn play_serve(
     }
 }
 
-// One field after L: what it says is done, and its line is put in front of the buffer. The contract names what stands
+// One field after L: what it says is done, and its line is put at the front of the buffer. The contract names what stands
 // in memory at entry once, as `before`.
 pub fn play_field(
     event: Event,

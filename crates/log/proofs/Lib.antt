@@ -1,3 +1,4 @@
+-- The laws of this crate, for those that stand on it.
 pub mod Numbers
 pub mod Fields
 pub mod Stages

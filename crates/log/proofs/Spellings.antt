@@ -20,7 +20,7 @@ use Rattle.log.specs.declared.End.{End}
 use Rattle.log.specs.declared.End.the-variants.{Whole as whole}
 use Rattle.log.specs.declared.Next.the-variants.{Ends}
 use Rattle.log.specs.Rows.{WholeField, nextAt, readLog, Reads}
-use Rattle.log.specs.Spelling.{bytesOf, Operand, operandsOf, valueOf, widthOf, Fit, fieldOf, valueAt, SaysIf}
+use Rattle.log.specs.Spelling.{bytesOf, Operand, operandsOf, valueOf, widthOf, InWidth, fieldOf, valueAt, SaysIf}
 use Rattle.log.specs.Spelling.{Says, AllBytes, Spelt, logOf, AllSay, AllInTurn, withOffsets}
 use Rattle.log.specs.Laws.{FieldBack, FieldOnly, LogBack, LogOnly}
 use Rattle.log.proofs.Fields.{differ, FrameIs, made-whole, whole-is, framed-fits, fits-framed}
@@ -52,23 +52,23 @@ number-back (suc w) x pre rest h =
 -- ---- the numbers of a value
 
 -- they stand one after another from an offset on
-abbrev pub Holds : List ℕ → ℕ → List Operand → Type 0
-Holds s at [] = Unit {0}
-Holds s at (o ∷ os) = (numberAt s at (o .width) ≡ o .number) × Holds s (at + o .width) os
+abbrev pub StandsAt : List ℕ → ℕ → List Operand → Type 0
+StandsAt s at [] = Unit {0}
+StandsAt s at (o ∷ os) = (numberAt s at (o .width) ≡ o .number) × StandsAt s (at + o .width) os
 
-pub value-back : (os : List Operand) (pre rest : List ℕ) → Fit os → Holds (pre ++ (valueOf os ++ rest)) (length pre) os
+pub value-back : (os : List Operand) (pre rest : List ℕ) → InWidth os → StandsAt (pre ++ (valueOf os ++ rest)) (length pre) os
 value-back [] pre rest f = tt
 value-back (o ∷ os) pre rest f =
     let w = o .width in
     let x = o .number in
     let on : length (pre ++ bytesOf w x) ≡ length pre + w = length-append pre (bytesOf w x) ∙ omega (arith, bytes-length w x) in
-    let later : Holds ((pre ++ bytesOf w x) ++ (valueOf os ++ rest)) (length (pre ++ bytesOf w x)) os = value-back os (pre ++ bytesOf w x) rest (f .1) in
+    let later : StandsAt ((pre ++ bytesOf w x) ++ (valueOf os ++ rest)) (length (pre ++ bytesOf w x)) os = value-back os (pre ++ bytesOf w x) rest (f .1) in
     let all : (bytesOf w x ++ valueOf os) ++ rest ≡ bytesOf w x ++ (valueOf os ++ rest) = append-assoc (bytesOf w x) (valueOf os) rest in
     let split : pre ++ (bytesOf w x ++ (valueOf os ++ rest)) ≡ (pre ++ bytesOf w x) ++ (valueOf os ++ rest) =
     sym (append-assoc pre (bytesOf w x) (valueOf os ++ rest)) in
     rw all (number-back w x pre (valueOf os ++ rest) (f .0), rw (split, ← on) later)
 
-value-held : (value pre rest : List ℕ) (os : List Operand) → value ≡ valueOf os → Fit os → Holds (pre ++ (value ++ rest)) (length pre) os
+value-held : (value pre rest : List ℕ) (os : List Operand) → value ≡ valueOf os → InWidth os → StandsAt (pre ++ (value ++ rest)) (length pre) os
 value-held value pre rest os e f = rw e (value-back os pre rest f)
 
 pub value-length : (os : List Operand) → length (valueOf os) ≡ widthOf os
@@ -77,7 +77,7 @@ value-length (o ∷ os) = length-append (bytesOf (o .width) (o .number)) (valueO
 
 -- ---- an event that was written is read back
 
-event-back : (s : List ℕ) (at : ℕ) (e : Event) → isPassed e ≡ false → Holds s at (operandsOf e) → eventOf s (tagOf e) at ≡ e
+event-back : (s : List ℕ) (at : ℕ) (e : Event) → isPassed e ≡ false → StandsAt s at (operandsOf e) → eventOf s (tagOf e) at ≡ e
 unfolding eventOf
 event-back s at (Largest l) p h = rw (h .0)
 event-back s at (Open o) p h = rw (h .0, h .1 .0)
@@ -164,7 +164,7 @@ said-if false e tag value pre rest p h =
     let n : length value ≡ widthOf (operandsOf e) = ap length (h .1 .0) ∙ value-length (operandsOf e) in
     let on : length (pre ++ (tag ∷ bytesOf 2 (length value))) ≡ length pre + 3 =
     length-append pre (tag ∷ bytesOf 2 (length value)) ∙ omega (arith, bytes-length 2 (length value)) in
-    let held : Holds (pre ++ (fieldOf tag value ++ rest)) (length pre + 3) (operandsOf e) =
+    let held : StandsAt (pre ++ (fieldOf tag value ++ rest)) (length pre + 3) (operandsOf e) =
     rw (split-value tag value pre rest, ← on) (value-held value (pre ++ (tag ∷ bytesOf 2 (length value))) rest (operandsOf e) (h .1 .0) (h .1 .1)) in (
       omega (arith, n, event-right e p .1),
       (
@@ -220,7 +220,7 @@ bytes-back (suc w) s at b l =
     let long : w < length (drop at s) = omega (arith, length-drop at s) in
     rw (q, m) (ap₂ (λ (d : List ℕ) (y : ℕ). d ++ (y ∷ [])) (bytes-back w s at b (omega arith)) (sym (getD-drop at s w 0)) ∙ sym (take-suc (drop at s) w 0 long))
 
-value-of : (os : List Operand) (s : List ℕ) (at : ℕ) → ((i : ℕ) → getD s i 0 < 256) → at + widthOf os ≤ length s → Holds s at os
+value-of : (os : List Operand) (s : List ℕ) (at : ℕ) → ((i : ℕ) → getD s i 0 < 256) → at + widthOf os ≤ length s → StandsAt s at os
     → valueOf os ≡ take (widthOf os) (drop at s)
 value-of [] s at b l h = refl
 value-of (o ∷ os) s at b l h =
@@ -229,7 +229,7 @@ value-of (o ∷ os) s at b l h =
     (value-of os s (at + o .width) b (omega arith) (h .1) ∙ ap (take (widthOf os)) (sym (drop-drop (o .width) at s)))
     ∙ sym (take-add (o .width) (widthOf os) (drop at s))
 
-fit-of : (os : List Operand) (s : List ℕ) (at : ℕ) → ((i : ℕ) → getD s i 0 < 256) → Holds s at os → Fit os
+fit-of : (os : List Operand) (s : List ℕ) (at : ℕ) → ((i : ℕ) → getD s i 0 < 256) → StandsAt s at os → InWidth os
 fit-of [] s at b h = tt
 fit-of (o ∷ os) s at b h = (omega (arith, number-lt s at (o .width) b, h .0), fit-of os s (at + o .width) b (h .1))
 
@@ -238,7 +238,7 @@ record Told (s : List ℕ) (at tag n : ℕ) : Type 0 where
   taken : isPassed (eventOf s tag at) ≡ false
   tagged : tag ≡ tagOf (eventOf s tag at)
   sized : n ≡ widthOf (operandsOf (eventOf s tag at))
-  held : Holds s at (operandsOf (eventOf s tag at))
+  held : StandsAt s at (operandsOf (eventOf s tag at))
 
 told : (s : List ℕ) (at tag n : ℕ) → 1 ≤ tag → tag ≤ lastTag → n ≡ lengthOf tag → Told s at tag n
 unfolding eventOf lengthOf

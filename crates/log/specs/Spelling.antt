@@ -44,9 +44,9 @@ widthOf [] = 0
 widthOf (o ∷ os) = o .width + widthOf os
 
 -- Every number fits its bytes.
-abbrev pub Fit : List Operand → Type 0
-Fit [] = Unit {0}
-Fit (o ∷ os) = (o .number < 256 ^ o .width) × Fit os
+abbrev pub InWidth : List Operand → Type 0
+InWidth [] = Unit {0}
+InWidth (o ∷ os) = (o .number < 256 ^ o .width) × InWidth os
 
 -- One tag byte, two length bytes, the value.
 unfoldable pub fieldOf : ℕ → List ℕ → List ℕ
@@ -58,7 +58,7 @@ valueAt s at = take (lengthAt s at) (drop (at + 3) s)
 
 abbrev pub SaysIf : Bool → Event → ℕ → List ℕ → Type 0
 SaysIf true e tag value = ((128 ≤ tag) × (tag < 256)) × (length value < 65536)
-SaysIf false e tag value = (tag ≡ tagOf e) × ((value ≡ valueOf (operandsOf e)) × Fit (operandsOf e))
+SaysIf false e tag value = (tag ≡ tagOf e) × ((value ≡ valueOf (operandsOf e)) × InWidth (operandsOf e))
 
 -- A field of this tag and value says this event. One that is passed over may have any value that its two length bytes
 -- can count.

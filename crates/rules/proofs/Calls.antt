@@ -22,10 +22,11 @@ use Rattle.rules.specs.Choice.{upd, done, leastReady, isNone, goOn, more
 use Rattle.rules.specs.Blocks.{Opening, opened, freeAt, quiet, closed, renamed}
 use Rattle.rules.proofs.Potential.{ahead-join}
 use Rattle.rules.proofs.Orders.{pl, ready}
-use Rattle.rules.proofs.Shape.{Shape, Distinct, names-kept, names-set, named-num, PlaceOk, StandOk, All, all-snoc, LeastIs, least-is, Fit, most-pos}
+use Rattle.rules.proofs.Shape.{Shape, Distinct, names-kept, names-set, named-num, PlaceOk, StandOk, All, all-snoc, LeastIs, least-is, InSize, most-pos}
 use Rattle.rules.proofs.Good.{seatOf, Fine, fine-same, fine-join, fine-open, fine-close, fine-close-quiet}
 use Rattle.rules.proofs.Slot.{serving-ok}
-use Rattle.rules.proofs.Turns.{Good, busy, inLine, slotLeft, most, phi, phi-queued, limit, Keeps, lit, Goes, goes-same, handBy, hand, Bars, bars-same}
+use Rattle.rules.proofs.Turns.{Good, busy, inLine, slotBytesLeft, most, phi, phi-queued, limit, Keeps, lit, Goes, goes-same, handBy, hand, Bars}
+use Rattle.rules.proofs.Turns.{bars-same}
 use Rattle.rules.proofs.Turns.{barBy, barOf, dueTime}
 use Rattle.rules.proofs.Cases.{Nobody, CanOpen, CanRename, CanClose, CanTake, has-at}
 
@@ -33,10 +34,10 @@ use Rattle.rules.proofs.Cases.{Nobody, CanOpen, CanRename, CanClose, Ca
 seat-same : (x y : Place) → x .share ≡ y .share → x .stand ≡ y .stand → seatOf x ≡ seatOf y
 seat-same x y e f = λ i. record { share = e i; ord = isQueued (f i); ready = readyNum (f i) }
 
-pub slotLeft-same : (l l′ : List Place) (s : Option ℕ) → ((q : ℕ) → pl l′ q .stand ≡ pl l q .stand) → slotLeft l′ s ≡ slotLeft l s
-unfolding slotLeft
-slotLeft-same l l′ none e = refl
-slotLeft-same l l′ (some q) e = rw (e q)
+pub slotBytesLeft-same : (l l′ : List Place) (s : Option ℕ) → ((q : ℕ) → pl l′ q .stand ≡ pl l q .stand) → slotBytesLeft l′ s ≡ slotBytesLeft l s
+unfolding slotBytesLeft
+slotBytesLeft-same l l′ none e = refl
+slotBytesLeft-same l l′ (some q) e = rw (e q)
 
 -- calls that leave the clock, the slot and every stand as they were
 pub keeps-quiet : (L c : ℕ) (l : List Place) (o : ℕ → List ℕ) (s : Option ℕ) (H : ℕ → ℕ) (l′ : List Place) (o′ : ℕ → List ℕ) (H′ : ℕ → ℕ)
@@ -63,7 +64,7 @@ keeps-quiet L c l o s H l′ o′ H′ stands both g = record { good = g; stays 
         goes-same b (record { out = done; next = nb }) q refl (shares q w) (ap₂ (dueTime c) (shares q w) (stands q)) (ap₂ handBy (both q w .1) (stands q))
 
     same : (q : ℕ) → inLine (pl l q .stand) ≡ true → phi nb q ≡ phi b q
-    same q w = rw (slotLeft-same l l′ s stands, seat-same (pl l′ q) (pl l q) (shares q w) (stands q), stands q)
+    same q w = rw (slotBytesLeft-same l l′ s stands, seat-same (pl l′ q) (pl l q) (shares q w) (stands q), stands q)
 
     stays : (q : ℕ) → inLine (pl l q .stand) ≡ true → false ≡ false
         → (inLine (pl l′ q .stand) ≡ true) × (pl l′ q .share ≡ pl l q .share) × (phi nb q + 0 ≤ phi b q)
@@ -87,15 +88,15 @@ share-out L share lane (queued r) h k = absurd (omega (arith, k .1))
 share-out L share lane (serving n) h k = absurd (omega (arith, k .1))
 
 -- a slot's rest
-left-most : (L c : ℕ) (l : List Place) (o : ℕ → List ℕ) (s : Option ℕ) (H : ℕ → ℕ) → Good (lit L c l o s H) → slotLeft l s ≤ busy s * most L
-unfolding slotLeft most
+left-most : (L c : ℕ) (l : List Place) (o : ℕ → List ℕ) (s : Option ℕ) (H : ℕ → ℕ) → Good (lit L c l o s H) → slotBytesLeft l s ≤ busy s * most L
+unfolding slotBytesLeft most
 left-most L c l o none H g = omega arith
 left-most L c l o (some p) H g =
     omega (arith, serving-ok L (pl l p .share) (pl l p .lane) (pl l p .stand) (g .one p ∙ eqb-yes p p refl) (g .fine .shape .placeOk p .standOk) .3)
 
 pub left-other : (l : List Place) (p : ℕ) (x : Place) (t : Option ℕ) → pl l p .stand ≡ out → ((q : ℕ) → isServing (pl l q .stand) ≡ isAt q t)
-    → slotLeft (set l p x) t ≡ slotLeft l t
-unfolding slotLeft
+    → slotBytesLeft (set l p x) t ≡ slotBytesLeft l t
+unfolding slotBytesLeft
 left-other l p x none was e = refl
 left-other l p x (some q) was e = rw (getD-set-other l p q x freePlace ne)
   where
@@ -106,7 +107,7 @@ pub busy-le : (s : Option ℕ) → busy s ≤ 1
 busy-le none = omega arith
 busy-le (some p) = omega arith
 
-phi-same : (L c : ℕ) (l l′ : List Place) (o o′ : ℕ → List ℕ) (s : Option ℕ) (H H′ : ℕ → ℕ) (q : ℕ) → pl l′ q ≡ pl l q → slotLeft l′ s ≡ slotLeft l s
+phi-same : (L c : ℕ) (l l′ : List Place) (o o′ : ℕ → List ℕ) (s : Option ℕ) (H H′ : ℕ → ℕ) (q : ℕ) → pl l′ q ≡ pl l q → slotBytesLeft l′ s ≡ slotBytesLeft l s
     → phi (lit L c l′ o′ s H′) q ≡ phi (lit L c l o s H) q
 unfolding phi
 phi-same L c l l′ o o′ s H H′ q e f = rw (e, f)
@@ -153,7 +154,7 @@ keeps-join L c l o s H o′ p x h was is g0 g = record { good = g; stays = stays
 
     new : phi nb p ≤ limit L (blockClass (pl (set l p x) p))
     new = rw (phi-queued nb p (rw (getD-set-same l p x freePlace h) (ap isQueued is)), getD-set-same l p x freePlace h)
-        (ahead-join (most L) (slotLeft (set l p x) s) c (busy s) (seatOf x) (ap readyNum is) (busy-le s) (left-most L c (set l p x) o′ s H g))
+        (ahead-join (most L) (slotBytesLeft (set l p x) s) c (busy s) (seatOf x) (ap readyNum is) (busy-le s) (left-most L c (set l p x) o′ s H g))
 
     comes : (q : ℕ) → inLine (pl (set l p x) q .stand) ≡ true → (inLine (pl l q .stand) ≡ false) ⊎ (false ≡ true)
         → phi nb q ≤ limit L (blockClass (pl (set l p x) q))
@@ -250,7 +251,7 @@ module _ (b : Board) (sh : Shape (b .largest) (b .clock) (b .places) (b .orders)
     more-ok h =
         let k = sh .placeOk p in
         record {
-          items = all-snoc (Fit L) (at b p .lane) r (k .items) (can .least, can .most);
+          items = all-snoc (InSize L) (at b p .lane) r (k .items) (can .least, can .most);
           owed = k .owed;
           most = k .most;
           standOk = stand-more L (at b p .share) (at b p .lane) r (at b p .stand) h (k .standOk);

@@ -16,7 +16,8 @@ use Rattle.rules.specs.Board.{Record, Place, freePlace, blockClass}
 use Rattle.rules.specs.Choice.{upd, leastReady, isNone, release, settle, started}
 use Rattle.rules.specs.Blocks.{Opening, opened}
 use Rattle.rules.proofs.Line.{Seat, free, SeatOk, Bought, Lowest, off}
-use Rattle.rules.proofs.Steps.{Sound, begin-sound, tick-sound, jump-sound, join-sound, open-sound, close-sound, idle-sound, joined, Holds}
+use Rattle.rules.proofs.Steps.{InTime, begin-in-time, tick-in-time, jump-in-time, join-in-time, open-in-time, close-in-time, idle-in-time, joined}
+use Rattle.rules.proofs.Steps.{HeldMore}
 use Rattle.rules.proofs.Orders.{pl, ready, map-set, upd-same, upd-other}
 use Rattle.rules.proofs.Shape.{LeastIs, least-is, PlaceOk, Distinct, Shape, names-set, release-le, release-kept, Chosen, shape-same, joinedAs}
 use Rattle.rules.proofs.Shape.{shape-join, shape-clock, settle-le, shape-begin, shape-other, free-ok}
@@ -30,7 +31,7 @@ seats l = map seatOf l
 pub seat-at : (l : List Place) (i : ℕ) → getD (seats l) i free ≡ seatOf (pl l i)
 seat-at l i = List·getD-map seatOf l i freePlace
 
-pub seat-ok : (l : List Place) (H : ℕ → ℕ) (c d : ℕ) → Sound (seats l) H c d → (i : ℕ) → isQueued (pl l i .stand) ≡ true → SeatOk c d (seatOf (pl l i))
+pub seat-ok : (l : List Place) (H : ℕ → ℕ) (c d : ℕ) → InTime (seats l) H c d → (i : ℕ) → isQueued (pl l i .stand) ≡ true → SeatOk c d (seatOf (pl l i))
 seat-ok l H c d s i e = rw (seat-at l i) at (s .ok i (rw (seat-at l i) e))
 
 length-seats : (l : List Place) → length (seats l) ≡ length l
@@ -44,7 +45,7 @@ sum-seats (x ∷ xs) = omega (arith, sum-seats xs)
 -- THE BOARD, but for its slot. d is 1 while a slot is open
 pub record Fine (L c d : ℕ) (l : List Place) (o : ℕ → List ℕ) (H : ℕ → ℕ) : Type 0 where
   pub shape : Shape L c l o H
-  pub sound : Sound (seats l) H c d
+  pub inTime : InTime (seats l) H c d
 
 -- a change that the orders and the clock don't see
 pub fine-same : {L c d : ℕ} {l : List Place} {o : ℕ → List ℕ} {H : ℕ → ℕ} (p : ℕ) (x : Place) → p < length l → seatOf x ≡ seatOf (pl l p) → Distinct (set l p x)
@@ -53,7 +54,7 @@ pub fine-same : {L c d : ℕ} {l : List Place} {o : ℕ → List ℕ} {H : ℕ �
 fine-same {L} {c} {d} {l} {o} {H} p x h e dis new f =
     record {
       shape = shape-same p x h (ap (λ (s : Seat). s .share) e) (ap (λ (s : Seat). s .ord) e) (ap (λ (s : Seat). s .ready) e) dis new (f .shape);
-      sound = rw (map-set-same seatOf l p x freePlace e) (f .sound);
+      inTime = rw (map-set-same seatOf l p x freePlace e) (f .inTime);
     }
 
 -- a block joins its order
@@ -62,10 +63,10 @@ pub fine-join : {L c d : ℕ} {l : List Place} {o : ℕ → List ℕ} {H : ℕ �
     → Fine L c d l o H
     → Fine L c d (set l p (joinedAs c start lane owed (pl l p))) (upd o (blockClass (pl l p)) (o (blockClass (pl l p)) ++ (p ∷ []))) H
 fine-join {L} {c} {d} {l} {o} {H} p start lane owed h d1 was one new f =
-    record { shape = shape-join p start lane owed h was new (f .shape); sound = rw (map-set seatOf l p (joinedAs c start lane owed (pl l p))) sound }
+    record { shape = shape-join p start lane owed h was new (f .shape); inTime = rw (map-set seatOf l p (joinedAs c start lane owed (pl l p))) inTime }
   where
-    sound : Sound (set (seats l) p (joined c (seatOf (pl l p)))) H c d
-    sound = rw (seat-at l p) at (join-sound (seats l) H c d p d1 (rw (length-seats l) h) (rw (seat-at l p) one) (rw (seat-at l p) was) (f .sound))
+    inTime : InTime (set (seats l) p (joined c (seatOf (pl l p)))) H c d
+    inTime = rw (seat-at l p) at (join-in-time (seats l) H c d p d1 (rw (length-seats l) h) (rw (seat-at l p) one) (rw (seat-at l p) was) (f .inTime))
 
 -- a slot ends, its block being back in its order or out
 pub fine-tick : {L c : ℕ} {l : List Place} {o : ℕ → List ℕ} {H : ℕ → ℕ} → Fine L c 1 l o H → Fine L (suc c) 0 l o (settle l (release c (suc c) H))
@@ -73,22 +74,22 @@ unfolding settle LeastIs
 fine-tick {L} {c} {l} {o} {H} f =
     record {
       shape = shape-clock (suc c) (settle l (release c (suc c) H)) (omega arith) (settle-le c (suc c) l H) (f .shape);
-      sound =
+      inTime =
           go (leastReady l) (least-is l);
     }
   where
-    go : (r : Option ℕ) → LeastIs l r → Sound (seats l) (λ j. cond (isNone r) 0 (release c (suc c) H j)) (suc c) 0
+    go : (r : Option ℕ) → LeastIs l r → InTime (seats l) (λ j. cond (isNone r) 0 (release c (suc c) H j)) (suc c) 0
     go none e =
-        idle-sound (seats l) (λ j. 0) (suc c) 0 (λ i. rw (seat-at l i) (e i)) (omega (arith, f .sound .bought, below-le (λ j. 0) H 17 (λ j a. omega arith)))
-    go (some r) e = tick-sound (seats l) H (release c (suc c) H) c (f .sound) (release-kept c (suc c) H) (release-le c (suc c) H)
+        idle-in-time (seats l) (λ j. 0) (suc c) 0 (λ i. rw (seat-at l i) (e i)) (omega (arith, f .inTime .bought, below-le (λ j. 0) H 17 (λ j a. omega arith)))
+    go (some r) e = tick-in-time (seats l) H (release c (suc c) H) c (f .inTime) (release-kept c (suc c) H) (release-le c (suc c) H)
 
 pub fine-jump : {L c : ℕ} {l : List Place} {o : ℕ → List ℕ} {H : ℕ → ℕ} (t : ℕ) → c ≤ t → ((i : ℕ) → isQueued (pl l i .stand) ≡ true → t ≤ ready l i)
     → Fine L c 0 l o H → Fine L t 0 l o (release c t H)
 fine-jump {L} {c} {l} {o} {H} t h first f =
     record {
       shape = shape-clock t (release c t H) h (release-le c t H) (f .shape);
-      sound =
-          jump-sound (seats l) H (release c t H) c t h firsts (f .sound) (release-le c t H);
+      inTime =
+          jump-in-time (seats l) H (release c t H) c t h firsts (f .inTime) (release-le c t H);
     }
   where
     firsts : (i : ℕ) → (getD (seats l) i free) .ord ≡ true → t ≤ (getD (seats l) i free) .ready
@@ -97,7 +98,7 @@ fine-jump {L} {c} {l} {o} {H} t h first f =
 pub fine-begin : {L c : ℕ} {l : List Place} {o : ℕ → List ℕ} {H : ℕ → ℕ} (k p : ℕ) → Chosen l o c k p → Fine L c 0 l o H
     → Fine L c 1 (set l p (started L (pl l p))) (upd o k (drop 1 (o k))) H
 fine-begin {L} {c} {l} {o} {H} k p ch f =
-    record { shape = shape-begin c k p ch (f .shape); sound = rw (map-set seatOf l p (started L (pl l p))) sound }
+    record { shape = shape-begin c k p ch (f .shape); inTime = rw (map-set seatOf l p (started L (pl l p))) inTime }
   where
     low : Lowest (seats l) c p
     low = record {
@@ -106,8 +107,8 @@ fine-begin {L} {c} {l} {o} {H} k p ch f =
       isLow = λ i e a. rw (seat-at l p, seat-at l i, ← ch .isKind) (ch .isLow i (rw (seat-at l i) at e) (rw (seat-at l i) at a));
     }
 
-    sound : Sound (set (seats l) p (off (seatOf (pl l p)))) H c 1
-    sound = rw (seat-at l p) at (begin-sound (seats l) H c p (f .sound) low)
+    inTime : InTime (set (seats l) p (off (seatOf (pl l p)))) H c 1
+    inTime = rw (seat-at l p) at (begin-in-time (seats l) H c p (f .inTime) low)
 
 -- OPEN
 pub fine-open : {L c d : ℕ} {l : List Place} {o : ℕ → List ℕ} {H : ℕ → ℕ} (p : ℕ) (w : Opening) → p < length l → seatOf (pl l p) ≡ free
@@ -116,8 +117,8 @@ pub fine-open : {L c d : ℕ} {l : List Place} {o : ℕ → List ℕ} {H : ℕ �
 fine-open {L} {c} {d} {l} {o} {H} p w h was dis new room f =
     record {
       shape = shape-other p x H h (ap (λ (t : Seat). t .ord) was) refl dis new (omega arith) (f .shape);
-      sound =
-          rw (map-set seatOf l p x) (open-sound (seats l) H c d p (w .share) (rw (length-seats l) h) (seat-at l p ∙ was) (rw (sum-seats l) room) (f .sound));
+      inTime =
+          rw (map-set seatOf l p x) (open-in-time (seats l) H c d p (w .share) (rw (length-seats l) h) (seat-at l p ∙ was) (rw (sum-seats l) room) (f .inTime));
     }
   where
     x : Place
@@ -134,9 +135,9 @@ fine-close {L} {c} {d} {l} {o} {H} p h was f =
       shape =
           shape-other p freePlace H′ h was refl (names-free l p h (f .shape .names)) (free-ok L (f .shape .least))
           (omega (arith, f .shape .spent, below-one H′ H 17 k (omega (arith, class-le (pl l p .share))) (holds .there), holds .here)) (f .shape);
-      sound =
+      inTime =
           rw (map-set seatOf l p freePlace)
-          (close-sound (seats l) H H′ c d p (rw (length-seats l) h) (rw (seat-at l p) was) (rw (seat-at l p) holds) (f .sound));
+          (close-in-time (seats l) H H′ c d p (rw (length-seats l) h) (rw (seat-at l p) was) (rw (seat-at l p) holds) (f .inTime));
     }
   where
     k : ℕ
@@ -145,7 +146,7 @@ fine-close {L} {c} {d} {l} {o} {H} p h was f =
     H′ : ℕ → ℕ
     H′ = upd H k (H k + pl l p .share)
 
-    holds : Holds H H′ k (pl l p .share)
+    holds : HeldMore H H′ k (pl l p .share)
     holds = record { here = upd-same H k (H k + pl l p .share); there = λ j e. upd-other H k (H k + pl l p .share) j e }
 
 -- and where nobody waits, its share is not held
@@ -156,7 +157,7 @@ fine-close-quiet {L} {c} {d} {l} {o} {H} p h was f =
       shape =
           shape-other p freePlace H h (was p) refl (names-free l p h (f .shape .names)) (free-ok L (f .shape .least)) (omega (arith, f .shape .spent))
           (f .shape);
-      sound = rw (map-set seatOf l p freePlace) (idle-sound (set (seats l) p free) H c d none less);
+      inTime = rw (map-set seatOf l p freePlace) (idle-in-time (set (seats l) p free) H c d none less);
     }
   where
     h′ : p < length (seats l)
@@ -170,4 +171,4 @@ fine-close-quiet {L} {c} {d} {l} {o} {H} p h was f =
         go (no e) = rw (getD-set-other (seats l) p i free free e, seat-at l i) (was i)
 
     less : Bought (set (seats l) p free) H
-    less = omega (arith, f .sound .bought, sum-set (λ t. t .share) free (seats l) p free h′)
+    less = omega (arith, f .inTime .bought, sum-set (λ t. t .share) free (seats l) p free h′)

@@ -1,3 +1,4 @@
+-- The laws and the theorems of this crate, for those that stand on it.
 pub mod Checks
 pub mod Orders
 pub mod Line

@@ -65,7 +65,7 @@ spoilt-not b e = ap not e
 
 -- ---- runs
 
-play-join : (b : Board) (xs ys : List Single) → play (play b xs) ys ≡ play b (xs ++ ys)
+pub play-join : (b : Board) (xs ys : List Single) → play (play b xs) ys ≡ play b (xs ++ ys)
 unfolding play
 play-join b [] ys = refl
 play-join b (x ∷ xs) ys = play-join (step b x .next) xs ys

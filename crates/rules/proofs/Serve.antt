@@ -24,7 +24,8 @@ use Rattle.rules.proofs.Shape.{Chosen, choose, LeastIs, queued-in}
 use Rattle.rules.proofs.Good.{seatOf, Fine, fine-begin, fine-jump, seat-ok}
 use Rattle.rules.proofs.Slot.{one-serves, serving-ok}
 use Rattle.rules.proofs.Cases.{least-of, serve-turns}
-use Rattle.rules.proofs.Turns.{Good, busy, slotLeft, most, still, Keeps, keeps-refuse, Sends, sends, keeps-sent, keeps-send, queued-waits, Timely, dueOf}
+use Rattle.rules.proofs.Turns.{Good, busy, slotBytesLeft, most, still, Keeps, keeps-refuse, Sends, sends, keeps-sent, keeps-send, queued-waits, Timely}
+use Rattle.rules.proofs.Turns.{dueOf}
 use Rattle.rules.proofs.Turns.{hand, handBy, due-queued, givenIn, front-pos}
 
 release-now : (c : ℕ) (H : ℕ → ℕ) → release c c H ≡ H
@@ -43,7 +44,7 @@ fine-to {L} {c} {l} {o} {H} r least f = go (split r c)
 
 still-free : (b : Board) (x : Place) → b .slot ≡ none → ahead (most (b .largest)) (b .clock) 0 (seatOf x) ≤ still b x
 still-free b x e =
-    subst (λ (s : Option ℕ). ahead (most (b .largest)) (b .clock) 0 (seatOf x) ≤ slotLeft (b .places) s + ahead (most (b .largest)) (b .clock) (busy s)
+    subst (λ (s : Option ℕ). ahead (most (b .largest)) (b .clock) 0 (seatOf x) ≤ slotBytesLeft (b .places) s + ahead (most (b .largest)) (b .clock) (busy s)
     (seatOf x)) (sym e) (omega arith)
 
 hand-queued : (x : Place) → isQueued (x .stand) ≡ true → hand x ≡ x .deficit
@@ -95,8 +96,8 @@ module _ (b : Board) (r : ℕ) (free : b .slot ≡ none) (least : LeastIs (b .pl
   clock1 = refl
 
   -- what is left of the new slot is at most 3 L - 1 bytes
-  left1 : slotLeft (begin b t .places) (some p) ≤ most (b .largest)
-  unfolding t k p begin slotLeft most
+  left1 : slotBytesLeft (begin b t .places) (some p) ≤ most (b .largest)
+  unfolding t k p begin slotBytesLeft most
   left1 =
       omega (
         arith,
@@ -110,16 +111,16 @@ module _ (b : Board) (r : ℕ) (free : b .slot ≡ none) (least : LeastIs (b .pl
       omega (
         arith,
         still-free b (at b q) free,
-        ahead-begin (most (b .largest)) (slotLeft (begin b t .places) (some p)) t (seatOf (at b q)) ok left1,
+        ahead-begin (most (b .largest)) (slotBytesLeft (begin b t .places) (some p)) t (seatOf (at b q)) ok left1,
         ahead-jump (most (b .largest)) (b .clock) t 0 (seatOf (at b q)) (omega arith),
       )
     where
       ok : SeatOk t 1 (seatOf (at b q))
-      ok = rw (same1 q e) at (seat-ok (begin b t .places) (begin b t .held) t 1 (good1 .fine .sound) q (rw (same1 q e) i))
+      ok = rw (same1 q e) at (seat-ok (begin b t .places) (begin b t .held) t 1 (good1 .fine .inTime) q (rw (same1 q e) i))
 
   -- the chosen block, as its slot begins: its ready time is in the interval that t is in
   seat0 : SeatOk t 0 (seatOf (at b p))
-  seat0 = seat-ok (b .places) (release (b .clock) t (b .held)) t 0 (fine0 .sound) p (chosen .isQ)
+  seat0 = seat-ok (b .places) (release (b .clock) t (b .held)) t 0 (fine0 .inTime) p (chosen .isQ)
 
   timely : Timely b p t
   timely = record { inSlot = λ e. absurd (true≢false (sym (ap isNone free) ∙ e)); begins = λ _. rw due (chosen .isDue, omega (arith, seat0 .fresh), sym is) }

@@ -103,11 +103,11 @@ StandOk L share lane (queued r) = (1 ≤ length lane) × (1 ≤ share)
 StandOk L share lane (serving n) = (1 ≤ length lane) × (1 ≤ share) × (charge (getD lane 0 noRecord) * 65536 ≤ n) × (n < 3 * largestCharge L * 65536)
 
 -- a record has 1 to L bytes
-abbrev pub Fit : ℕ → Record → Type 0
-Fit L y = (1 ≤ y .bytes) × (y .bytes ≤ L)
+abbrev pub InSize : ℕ → Record → Type 0
+InSize L y = (1 ≤ y .bytes) × (y .bytes ≤ L)
 
 -- so its charge is at least one byte and at most the largest charge
-pub fit-charge : (L : ℕ) (y : Record) → Fit L y → (1 ≤ charge y) × (charge y ≤ largestCharge L)
+pub fit-charge : (L : ℕ) (y : Record) → InSize L y → (1 ≤ charge y) × (charge y ≤ largestCharge L)
 unfolding charge charged largestCharge
 fit-charge L y f = (omega arith, omega arith)
 
@@ -116,7 +116,7 @@ unfolding charged largestCharge
 most-pos L h = omega arith
 
 pub record PlaceOk (L : ℕ) (x : Place) : Type 0 where
-  pub items : All (Fit L) (x .lane)
+  pub items : All (InSize L) (x .lane)
   pub owed : x .deficit < largestCharge L * 65536
   pub most : x .share ≤ 65536
   pub standOk : StandOk L (x .share) (x .lane) (x .stand)
@@ -288,7 +288,7 @@ started-ok L x c1 e ok =
     q = queued-ok L (x .share) (x .lane) (x .stand) e (ok .standOk)
 
     small : charge (getD (x .lane) 0 noRecord) ≤ largestCharge L
-    small = fit-charge L (getD (x .lane) 0 noRecord) (all-front (Fit L) noRecord (x .lane) (q .0) (ok .items)) .1
+    small = fit-charge L (getD (x .lane) 0 noRecord) (all-front (InSize L) noRecord (x .lane) (q .0) (ok .items)) .1
 
     fits : charge (getD (x .lane) 0 noRecord) * 65536 ≤ x .deficit + creditOf L (x .share)
     fits = omega (arith, small, credit-least L (x .share) (q .1))

@@ -18,7 +18,7 @@ use Rattle.lanes.proofs.Lanes.{depth-positive}
 use Rattle.rules.specs.Board.{Record, noRecord, charge, Stand, out, queued, serving, Place, freePlace, front, onward, depth}
 use Rattle.rules.specs.Choice.{leftOf, emptied, short, going, more}
 use Rattle.rules.proofs.Orders.{pl}
-use Rattle.rules.proofs.Shape.{All, all-rest, all-front, StandOk, Fit, PlaceOk, named-num, Shape, most-pos, fit-charge}
+use Rattle.rules.proofs.Shape.{All, all-rest, all-front, StandOk, InSize, PlaceOk, named-num, Shape, most-pos, fit-charge}
 
 pub ring-on : (x : Place) → onward x < depth x
 unfolding onward
@@ -85,7 +85,7 @@ module _ (L c : ℕ) (l : List Place) (o : ℕ → List ℕ) (H : ℕ → ℕ) (
     pub going-ok : PlaceOk L (going (pl l p))
     unfolding StandOk
     going-ok = record {
-      items = all-rest (Fit L) (pl l p .lane) (sh .placeOk p .items);
+      items = all-rest (InSize L) (pl l p .lane) (sh .placeOk p .items);
       owed = omega (arith, most-pos L (sh .least));
       most = sh .placeOk p .most;
       standOk = (rw (length-drop 1 (pl l p .lane)) (omega arith), facts .1, fits, omega (arith, facts .3));
@@ -118,7 +118,7 @@ module _ (L c : ℕ) (l : List Place) (o : ℕ → List ℕ) (H : ℕ → ℕ) (
     unfolding StandOk
     short-ok = record {
       items = rest;
-      owed = omega (arith, lacks, fit-charge L (getD (drop 1 (pl l p .lane)) 0 noRecord) (all-front (Fit L) noRecord (drop 1 (pl l p .lane)) long rest) .1);
+      owed = omega (arith, lacks, fit-charge L (getD (drop 1 (pl l p .lane)) 0 noRecord) (all-front (InSize L) noRecord (drop 1 (pl l p .lane)) long rest) .1);
       most = sh .placeOk p .most;
       standOk = (long, facts .1);
       brief = rw (length-drop 1 (pl l p .lane)) (omega (arith, sh .placeOk p .brief));
@@ -127,8 +127,8 @@ module _ (L c : ℕ) (l : List Place) (o : ℕ → List ℕ) (H : ℕ → ℕ) (
       named = isNamed;
     }
       where
-        rest : All (Fit L) (drop 1 (pl l p .lane))
-        rest = all-rest (Fit L) (pl l p .lane) (sh .placeOk p .items)
+        rest : All (InSize L) (drop 1 (pl l p .lane))
+        rest = all-rest (InSize L) (pl l p .lane) (sh .placeOk p .items)
 
         long : 1 ≤ length (drop 1 (pl l p .lane))
         long = rw (length-drop 1 (pl l p .lane)) (omega arith)

@@ -21,9 +21,9 @@ use Rattle.rules.specs.Blocks.{opened, freeAt, renamed, closed}
 use Rattle.rules.specs.Spoilt.{isServing, isAt}
 use Rattle.rules.specs.Calls.{Single, open!, record!, serve!, step, told}
 use Rattle.rules.specs.Runs.{bytesAt, slotBytes}
-use Rattle.rules.proofs.Turns.{slotLeft, most}
+use Rattle.rules.proofs.Turns.{slotBytesLeft, most}
 use Rattle.rules.proofs.Slot.{serving-ok, serving-in}
-use Rattle.rules.proofs.Calls.{lane-out, share-out, set-field, slotLeft-same, left-other}
+use Rattle.rules.proofs.Calls.{lane-out, share-out, set-field, slotBytesLeft-same, left-other}
 use Rattle.rules.proofs.Tidy.{Tidy, tidy-begin}
 use Rattle.rules.proofs.TidyCalls.{tidy-step}
 use Rattle.rules.proofs.Cases.{CanTake, Begins, call-cases}
@@ -31,7 +31,7 @@ use Rattle.rules.proofs.Shape.{LeastIs, least-is}
 
 -- what may still be told of the slot that begins, began or will begin at t
 allowed : ℕ → ℕ → List Place → Option ℕ → ℕ → ℕ
-allowed t clock l slot L = cond (ltb t clock) 0 (cond (eqb clock t && not (isNone slot)) (slotLeft l slot) (most L))
+allowed t clock l slot L = cond (ltb t clock) 0 (cond (eqb clock t && not (isNone slot)) (slotBytesLeft l slot) (most L))
 
 abbrev allow : ℕ → Board → ℕ
 allow t b = allowed t (b .clock) (b .places) (b .slot) (b .largest)
@@ -46,7 +46,7 @@ module _ (t clock : ℕ) (l : List Place) (slot : Option ℕ) (L : ℕ) where
   before h = rw (leb-no (suc t) clock (omega arith), eqb-no clock t (λ e. omega arith))
 
 -- the slot is open at t
-during : (t clock : ℕ) (l : List Place) (p L : ℕ) → clock ≡ t → allowed t clock l (some p) L ≡ slotLeft l (some p)
+during : (t clock : ℕ) (l : List Place) (p L : ℕ) → clock ≡ t → allowed t clock l (some p) L ≡ slotBytesLeft l (some p)
 unfolding allowed
 during t clock l p L e = rw (leb-no (suc t) clock (omega arith), eqb-yes clock t e)
 
@@ -55,15 +55,15 @@ ahead-of : (t clock : ℕ) (l : List Place) (L : ℕ) → clock ≤ t → allowe
 unfolding allowed
 ahead-of t clock l L h = rw (leb-no (suc t) clock (omega arith)) (go (eqb clock t))
   where
-    go : (u : Bool) → cond (u && false) (slotLeft l none) (most L) ≡ most L
+    go : (u : Bool) → cond (u && false) (slotBytesLeft l none) (most L) ≡ most L
     go true = refl
     go false = refl
 
 -- what the slot has left, in whole bytes
 left-is : (b : Board) (p : ℕ) → Tidy b → b .slot ≡ some p
-    → (charge (front (at b p)) ≤ slotLeft (b .places) (some p)) × (slotLeft (b .places) (some p) ≤ most (b .largest))
+    → (charge (front (at b p)) ≤ slotBytesLeft (b .places) (some p)) × (slotBytesLeft (b .places) (some p) ≤ most (b .largest))
     × (charge (front (at b p)) * 65536 ≤ leftOf (at b p .stand))
-unfolding slotLeft most
+unfolding slotBytesLeft most
 left-is b p g e = (omega (arith, ok .2), omega (arith, ok .3), ok .2)
   where
     isS : isServing (at b p .stand) ≡ true
@@ -73,12 +73,12 @@ left-is b p g e = (omega (arith, ok .2), omega (arith, ok .3), ok .2)
         × (leftOf (at b p .stand) < 3 * largestCharge (b .largest) * 65536)
     ok = serving-ok (b .largest) (at b p .share) (at b p .lane) (at b p .stand) isS (g .shape .placeOk p .standOk)
 
-slot-left-set : (l : List Place) (p : ℕ) (x : Place) → p < length l → slotLeft (set l p x) (some p) ≡ leftOf (x .stand) / 65536
-unfolding slotLeft
+slot-left-set : (l : List Place) (p : ℕ) (x : Place) → p < length l → slotBytesLeft (set l p x) (some p) ≡ leftOf (x .stand) / 65536
+unfolding slotBytesLeft
 slot-left-set l p x h = ap (λ (y : Place). leftOf (y .stand) / 65536) (getD-set-same l p x freePlace h)
 
-left-now : (l : List Place) (p : ℕ) → slotLeft l (some p) ≡ leftOf (getD l p freePlace .stand) / 65536
-unfolding slotLeft
+left-now : (l : List Place) (p : ℕ) → slotBytesLeft l (some p) ≡ leftOf (getD l p freePlace .stand) / 65536
+unfolding slotBytesLeft
 left-now l p = refl
 
 lt-of-ne : (a b : ℕ) → a ≤ b → (a ≡ b → ⊥) → a < b
@@ -118,7 +118,7 @@ send-allow t b p g e = go (leb (length (at b p .lane)) 1) (ltb (leftAfter (at b 
     h64 : p < length (b .places)
     h64 = serving-in (b .places) p (g .one p ∙ ap (isAt p) e ∙ eqb-yes p p refl)
 
-    rest : slotLeft (set (b .places) p (going (at b p))) (some p) ≡ leftAfter (at b p) / 65536
+    rest : slotBytesLeft (set (b .places) p (going (at b p))) (some p) ≡ leftAfter (at b p) / 65536
     rest = slot-left-set (b .places) p (going (at b p)) h64
 
     open! : w + allowed t c (set (b .places) p (going (at b p))) (b .slot) (b .largest) ≤ allow t b
@@ -177,7 +177,7 @@ begin-allow t b r s p g c gb = rw (ap (λ (z : Option ℕ). allowed t (b .clock)
 
 -- the calls that send nothing leave the slot's rest
 still : (t : ℕ) (b nb : Board) → nb .clock ≡ b .clock → nb .slot ≡ b .slot → nb .largest ≡ b .largest
-    → slotLeft (nb .places) (b .slot) ≡ slotLeft (b .places) (b .slot) → allow t nb ≡ allow t b
+    → slotBytesLeft (nb .places) (b .slot) ≡ slotBytesLeft (b .places) (b .slot) → allow t nb ≡ allow t b
 unfolding allowed
 still t b nb c s L e = rw (c, s, L, e)
 
@@ -189,8 +189,9 @@ module _ (t : ℕ) (b : Board) (g : Tidy b) where
   abbrev Pays : Single → Turn → Type 0
   Pays x u = bytesAt t (told b (u .out)) + allow t (u .next) ≤ allow t b
 
-  same : (p : ℕ) (y : Place) → p < length (b .places) → y .stand ≡ at b p .stand → slotLeft (set (b .places) p y) (b .slot) ≡ slotLeft (b .places) (b .slot)
-  same p y h e = slotLeft-same (b .places) (set (b .places) p y) (b .slot) (λ q. set-field (λ (x : Place). x .stand) (b .places) p y h e q)
+  same : (p : ℕ) (y : Place) → p < length (b .places) → y .stand ≡ at b p .stand
+      → slotBytesLeft (set (b .places) p y) (b .slot) ≡ slotBytesLeft (b .places) (b .slot)
+  same p y h e = slotBytesLeft-same (b .places) (set (b .places) p y) (b .slot) (λ q. set-field (λ (x : Place). x .stand) (b .places) p y h e q)
 
   inside : (p : ℕ) → p < 64 → p < length (b .places)
   inside p h = omega (arith, g .shape .all64)
@@ -256,7 +257,7 @@ allow-most : (t : ℕ) (b : Board) → Tidy b → allow t b ≤ most (b .largest
 unfolding allowed
 allow-most t b g = go (ltb t (b .clock)) (eqb (b .clock) t) (b .slot) refl
   where
-    go : (u v : Bool) (s : Option ℕ) → b .slot ≡ s → cond u 0 (cond (v && not (isNone s)) (slotLeft (b .places) s) (most (b .largest))) ≤ most (b .largest)
+    go : (u v : Bool) (s : Option ℕ) → b .slot ≡ s → cond u 0 (cond (v && not (isNone s)) (slotBytesLeft (b .places) s) (most (b .largest))) ≤ most (b .largest)
     go true v s e = omega arith
     go false true (some p) e = left-is b p g e .1
     go false true none e = le-refl (most (b .largest))

@@ -25,7 +25,7 @@ use Rattle.rules.specs.Spoilt.{freeIsZero, heldWhileWaiting, standsByLan
 use Rattle.rules.specs.Spoilt.{readyInRange, neverFalling, slotOf, slotInTime, clauses, unspoilt, clockInRange}
 use Rattle.rules.specs.Blocks.{quiet}
 use Rattle.rules.proofs.Orders.{ready, Rising}
-use Rattle.rules.proofs.Shape.{All, Fit, StandOk, PlaceOk, SeatP, Distinct, free-ok, queued-in, listed-in, named-num}
+use Rattle.rules.proofs.Shape.{All, InSize, StandOk, PlaceOk, SeatP, Distinct, free-ok, queued-in, listed-in, named-num}
 use Rattle.rules.proofs.Slot.{serving-in}
 use Rattle.rules.proofs.Turns.{busy}
 use Rattle.rules.proofs.Calls.{lane-out}
@@ -33,7 +33,7 @@ use Rattle.rules.proofs.Tidy.{Tidy}
 
 -- ---- a place
 
-d-lengths : (L : ℕ) (l : List Record) → Decides (lengthsIn L l) (All (Fit L) l)
+d-lengths : (L : ℕ) (l : List Record) → Decides (lengthsIn L l) (All (InSize L) l)
 unfolding lengthsIn All
 d-lengths L [] = record { yes = λ e. tt; no = λ e. refl }
 d-lengths L (r ∷ rs) = d-and (d-and (d-leb 1 (r .bytes)) (d-leb (r .bytes) L)) (d-lengths L rs)

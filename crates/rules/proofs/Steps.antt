@@ -18,14 +18,14 @@ use Rattle.rules.proofs.Line.{Seat, free, class, pend, pend-yes, pend-o
 use Rattle.rules.proofs.Line.{Bought, Lowest, off, begun, begin-fits, tick-fits, deadline, ok-other, in-reach}
 use Rattle.rules.proofs.Line
 
-pub record Sound (l : List Seat) (H : ℕ → ℕ) (c d : ℕ) : Type 0 where
+pub record InTime (l : List Seat) (H : ℕ → ℕ) (c d : ℕ) : Type 0 where
   pub ok : (i : ℕ) → Ok c d (getD l i free)
   pub fits : (k : ℕ) → k ≤ 16 → Fits l H c d k
   pub bought : Bought l H
 
 -- a slot begins
-pub begin-sound : (l : List Seat) (H : ℕ → ℕ) (c p : ℕ) → Sound l H c 0 → Lowest l c p → Sound (begun l p) H c 1
-begin-sound l H c p s low = record { ok = λ i. deadline (begun l p) H c i fits (oks i); fits = fits; bought = bought }
+pub begin-in-time : (l : List Seat) (H : ℕ → ℕ) (c p : ℕ) → InTime l H c 0 → Lowest l c p → InTime (begun l p) H c 1
+begin-in-time l H c p s low = record { ok = λ i. deadline (begun l p) H c i fits (oks i); fits = fits; bought = bought }
   where
     h : p < length l
     h = in-reach l p (low .isIn)
@@ -40,8 +40,8 @@ begin-sound l H c p s low = record { ok = λ i. deadline (begun l p) H c i fits 
     bought = omega (arith, s .bought, sum-set (λ t. t .share) free l p (off (getD l p free)) h)
 
 -- a slot ends: the clock goes on by one
-pub tick-sound : (l : List Seat) (H H′ : ℕ → ℕ) (c : ℕ) → Sound l H c 1 → Kept c (suc c) H H′ → ((j : ℕ) → H′ j ≤ H j) → Sound l H′ (suc c) 0
-tick-sound l H H′ c s kept less =
+pub tick-in-time : (l : List Seat) (H H′ : ℕ → ℕ) (c : ℕ) → InTime l H c 1 → Kept c (suc c) H H′ → ((j : ℕ) → H′ j ≤ H j) → InTime l H′ (suc c) 0
+tick-in-time l H H′ c s kept less =
     record { ok = oks; fits = λ k a. tick-fits l H H′ c k (s .ok) kept (s .fits k a); bought = omega (arith, s .bought, below-le H′ H 17 (λ j _. less j)) }
   where
     oks : (i : ℕ) → Ok (suc c) 0 (getD l i free)
@@ -55,9 +55,9 @@ tick-sound l H H′ c s kept less =
         }
 
 -- nothing is pending: the clock goes to a time that is no later than any ready time
-pub jump-sound : (l : List Seat) (H H′ : ℕ → ℕ) (c c′ : ℕ) → c ≤ c′ → ((i : ℕ) → (getD l i free) .ord ≡ true → c′ ≤ (getD l i free) .ready)
-    → Sound l H c 0 → ((j : ℕ) → H′ j ≤ H j) → Sound l H′ c′ 0
-jump-sound l H H′ c c′ le first s less = record { ok = oks; fits = fits; bought = omega (arith, s .bought, below-le H′ H 17 (λ j _. less j)) }
+pub jump-in-time : (l : List Seat) (H H′ : ℕ → ℕ) (c c′ : ℕ) → c ≤ c′ → ((i : ℕ) → (getD l i free) .ord ≡ true → c′ ≤ (getD l i free) .ready)
+    → InTime l H c 0 → ((j : ℕ) → H′ j ≤ H j) → InTime l H′ c′ 0
+jump-in-time l H H′ c c′ le first s less = record { ok = oks; fits = fits; bought = omega (arith, s .bought, below-le H′ H 17 (λ j _. less j)) }
   where
     oks : (i : ℕ) → Ok c′ 0 (getD l i free)
     oks i e =
@@ -96,9 +96,9 @@ room-share k c d s t e = rw e
 abbrev pub joined : ℕ → Seat → Seat
 joined c s = record { share = s .share; ord = true; ready = nextStart (class s) c }
 
-pub join-sound : (l : List Seat) (H : ℕ → ℕ) (c d p : ℕ) → d ≤ 1 → p < length l → 1 ≤ (getD l p free) .share → (getD l p free) .ord ≡ false
-    → Sound l H c d → Sound (set l p (joined c (getD l p free))) H c d
-join-sound l H c d p d1 h one was s =
+pub join-in-time : (l : List Seat) (H : ℕ → ℕ) (c d p : ℕ) → d ≤ 1 → p < length l → 1 ≤ (getD l p free) .share → (getD l p free) .ord ≡ false
+    → InTime l H c d → InTime (set l p (joined c (getD l p free))) H c d
+join-in-time l H c d p d1 h one was s =
     record { ok = ok-other l c d p new h (s .ok) (λ e. okNew); fits = fits; bought = omega (arith, s .bought, sum-set (λ t. t .share) free l p new h) }
   where
     old : Seat
@@ -136,9 +136,9 @@ join-sound l H c d p d1 h one was s =
 abbrev pub openedAt : ℕ → Seat
 openedAt n = record { share = n; ord = false; ready = 0 }
 
-pub open-sound : (l : List Seat) (H : ℕ → ℕ) (c d p n : ℕ) → p < length l → getD l p free ≡ free → sum (λ s. s .share) l + below H 17 + n ≤ 65536
-    → Sound l H c d → Sound (set l p (openedAt n)) H c d
-open-sound l H c d p n h was room-left s =
+pub open-in-time : (l : List Seat) (H : ℕ → ℕ) (c d p n : ℕ) → p < length l → getD l p free ≡ free → sum (λ s. s .share) l + below H 17 + n ≤ 65536
+    → InTime l H c d → InTime (set l p (openedAt n)) H c d
+open-in-time l H c d p n h was room-left s =
     record {
       ok = ok-other l c d p new h (s .ok) (λ e. absurd (false≢true e));
       fits = fits;
@@ -161,15 +161,15 @@ open-sound l H c d p n h was room-left s =
             go (inr x) = room-high k c d free x
 
 -- a block closes: its share is held by its class
-pub record Holds (H H′ : ℕ → ℕ) (k n : ℕ) : Type 0 where
+pub record HeldMore (H H′ : ℕ → ℕ) (k n : ℕ) : Type 0 where
   pub here : H′ k ≡ H k + n
   pub there : (j : ℕ) → j ≢ k → H′ j ≡ H j
 
-pub close-sound : (l : List Seat) (H H′ : ℕ → ℕ) (c d p : ℕ) → p < length l → (getD l p free) .ord ≡ false
-    → Holds H H′ (class (getD l p free)) ((getD l p free) .share)
-    → Sound l H c d → Sound (set l p free) H′ c d
+pub close-in-time : (l : List Seat) (H H′ : ℕ → ℕ) (c d p : ℕ) → p < length l → (getD l p free) .ord ≡ false
+    → HeldMore H H′ (class (getD l p free)) ((getD l p free) .share)
+    → InTime l H c d → InTime (set l p free) H′ c d
 unfolding hroom
-close-sound l H H′ c d p h was hold s = record { ok = ok-other l c d p free h (s .ok) (λ e. absurd (false≢true e)); fits = fits; bought = bought }
+close-in-time l H H′ c d p h was hold s = record { ok = ok-other l c d p free h (s .ok) (λ e. absurd (false≢true e)); fits = fits; bought = bought }
   where
     old : Seat
     old = getD l p free
@@ -207,8 +207,8 @@ close-sound l H H′ c d p h was hold s = record { ok = ok-other l c d p free h 
         moved (inr x) = omega (arith, room-high k c d old x, below-ext (hroom c d H′) (hroom c d H) (suc k) (λ j y. there j (omega arith)))
 
 -- nobody waits: nothing is held, and the shares may be anything that can be bought
-pub idle-sound : (l : List Seat) (H : ℕ → ℕ) (c d : ℕ) → ((i : ℕ) → (getD l i free) .ord ≡ false) → Bought l H → Sound l H c d
-idle-sound l H c d none bought =
+pub idle-in-time : (l : List Seat) (H : ℕ → ℕ) (c d : ℕ) → ((i : ℕ) → (getD l i free) .ord ≡ false) → Bought l H → InTime l H c d
+idle-in-time l H c d none bought =
     record {
       ok = λ i e. absurd (false≢true (sym (none i) ∙ e));
       fits =

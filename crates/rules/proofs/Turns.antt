@@ -23,7 +23,7 @@ use Rattle.rules.specs.Choice.{refuse}
 use Rattle.rules.proofs.Line.{Seat}
 use Rattle.rules.proofs.Potential.{ahead, ahead-tick, ahead-join}
 use Rattle.rules.proofs.Orders.{pl, ready}
-use Rattle.rules.proofs.Shape.{names-kept, PlaceOk, StandOk, all-front, Fit, fit-charge}
+use Rattle.rules.proofs.Shape.{names-kept, PlaceOk, StandOk, all-front, InSize, fit-charge}
 use Rattle.rules.proofs.Slot.{one-serves, serving-not-queued}
 use Rattle.rules.proofs.Good.{seatOf, Fine, fine-same, fine-join, fine-tick}
 use Rattle.rules.proofs.Slot
@@ -42,16 +42,16 @@ inLine (queued r) = true
 inLine (serving n) = true
 
 -- the bytes of others that the open slot may still send
-unfoldable pub slotLeft : List Place → Option ℕ → ℕ
-slotLeft l none = 0
-slotLeft l (some q) = leftOf (pl l q .stand) / 65536
+unfoldable pub slotBytesLeft : List Place → Option ℕ → ℕ
+slotBytesLeft l none = 0
+slotBytesLeft l (some q) = leftOf (pl l q .stand) / 65536
 
 unfoldable pub most : ℕ → ℕ
 most L = 3 * largestCharge L - 1
 
 -- what may still be sent of others before the front record of place p
 abbrev pub still : Board → Place → ℕ
-still b x = slotLeft (b .places) (b .slot) + ahead (most (b .largest)) (b .clock) (busy (b .slot)) (seatOf x)
+still b x = slotBytesLeft (b .places) (b .slot) + ahead (most (b .largest)) (b .clock) (busy (b .slot)) (seatOf x)
 
 unfoldable pub phi : Board → ℕ → ℕ
 phi b p = cond (isQueued (at b p .stand)) (still b (at b p)) 0
@@ -389,7 +389,7 @@ module _ (L c : ℕ) (l : List Place) (o : ℕ → List ℕ) (H : ℕ → ℕ) (
     going-ok = Slot.going-ok L c l o H p (g .fine .shape) (g .one) more fits
 
     sends-going : Sends (lit L c l o (some p) H) (lit L c (set l p (going (pl l p))) o (some p) H) p (charge (front (pl l p))) c 0
-    unfolding slotLeft
+    unfolding slotBytesLeft
     sends-going = record {
       good =
           record {
@@ -421,7 +421,7 @@ module _ (L c : ℕ) (l : List Place) (o : ℕ → List ℕ) (H : ℕ → ℕ) (
   ch-left = omega (arith, facts .2)
 
   sends-emptied : Sends (lit L c l o (some p) H) (ended (lit L c l o (some p) H) p (emptied (pl l p)) o) p (charge (front (pl l p))) c 0
-  unfolding slotLeft ended
+  unfolding slotBytesLeft ended
   sends-emptied = record {
     good =
         record {
@@ -453,7 +453,7 @@ module _ (L c : ℕ) (l : List Place) (o : ℕ → List ℕ) (H : ℕ → ℕ) (
     sends-short : Sends (lit L c l o (some p) H)
         (ended (lit L c l o (some p) H) p (short c (pl l p)) (upd o (blockClass (pl l p)) (o (blockClass (pl l p)) ++ (p ∷ [])))) p
         (charge (front (pl l p))) c 0
-    unfolding slotLeft ended
+    unfolding slotBytesLeft ended
     sends-short = record {
       good = record {
         fine =
@@ -525,7 +525,7 @@ lane-some L share lane (serving n) e h = h .0
 pub front-pos : (b : Board) (p : ℕ) → Good b → inLine (at b p .stand) ≡ true → 1 ≤ charge (front (at b p))
 front-pos b p g w =
     fit-charge (b .largest) (front (at b p))
-    (all-front (Fit (b .largest)) noRecord (at b p .lane)
+    (all-front (InSize (b .largest)) noRecord (at b p .lane)
     (lane-some (b .largest) (at b p .share) (at b p .lane) (at b p .stand) w (g .fine .shape .placeOk p .standOk)) (g .fine .shape .placeOk p .items)) .0
 
 pub keeps-send : (b : Board) (p : ℕ) → b .slot ≡ some p → Good b → Keeps b (send false b p)

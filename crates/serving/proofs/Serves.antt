@@ -27,7 +27,7 @@ use Rattle.rules.specs.Choice.{isNone, Out, refused, done, taken, Sending, send
 use Rattle.rules.specs.Choice.{short, going, ended, goOn, sendFrom, send, begin, lowest, chosen, serve}
 use Rattle.rules.specs.Spoilt.{count, inClass}
 use Rattle.rules.proofs.Orders.{pl, upd-other, in-head, count-head}
-use Rattle.rules.proofs.Shape.{LeastIs, least-is, Chosen, choose, all-front, release-le, queued-in, Fit as record-fit}
+use Rattle.rules.proofs.Shape.{LeastIs, least-is, Chosen, choose, all-front, release-le, queued-in, InSize}
 use Rattle.rules.proofs.Slot.{serving-ok}
 use Rattle.rules.proofs.Turns.{busy}
 use Rattle.rules.proofs.Tidy.{Tidy, tidy-send, tidy-begin}
@@ -72,7 +72,7 @@ module _ (m : Board.Board) (fit : Fit m) (ids lens : List ℕ) (holds : Holds m 
 
 -- a waiting record is no longer than L
 short-front : (m : Board.Board) → Fit m → (p : ℕ) → 1 ≤ length (at m p .lane) → front (at m p) .bytes ≤ m .largest
-short-front m fit p h = all-front (record-fit (m .largest)) noRecord (at m p .lane) h (fit .tidy .shape .placeOk p .items) .1
+short-front m fit p h = all-front (InSize (m .largest)) noRecord (at m p .lane) h (fit .tidy .shape .placeOk p .items) .1
 
 -- ---- A send from the open slot, with what it reads named
 sent-eq : (shares lens : List ℕ) (p : ℕ) (e : Engine) (st n s : ℕ) → getD (e .starts) p 0 ≡ st → getD (e .counts) p 0 ≡ n → getD shares p 0 ≡ s

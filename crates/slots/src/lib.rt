@@ -79,7 +79,7 @@ fn advance(
     set
 }
 
-// Whether class k stays pending when the first block of its order left it.
+// The pending classes when the first block of class k's order left it: k stays if the next one is due.
 fn still_pending(
     set: u32,
     k: usize,
@@ -101,7 +101,7 @@ fn still_pending(
     set
 }
 
-// Whether class k stays active when a block that was in no order waits no more.
+// The active classes when a block of class k that was in no order waits no more: k stays if its order has a block.
 fn still_active(set: u32, k: usize, heads: &[u8; CLASSES]) -> u32
     requires { ⌜ k < 17 ⌝ }
     ensures { λ r. ⌜ r ≡ stillActive set k (now (heads .entry)) ⌝ }

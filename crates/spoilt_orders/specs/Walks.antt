@@ -31,7 +31,8 @@ unfoldable pub blockInRange : ℕ → ℕ → ℕ → ℕ → ℕ → ℕ → �
 blockInRange k start slot least p share count ready =
     inOrder p count slot && (ofClass k share && readyInRange k start least ready)
 
--- no order has this length: the walk met a link out of range, did not end, or ended elsewhere than at the tail
+-- no order has this length: the walk met a link out of range or a block that may not stand there, did not end, or
+-- ended elsewhere than at the tail
 abbrev pub noOrder : ℕ
 noOrder = 65
 

@@ -1,5 +1,5 @@
-// The rules of the places, for the spoilt test: numbers, shares, rings, deficits and zeros. Each function decides one
-// clause and asks nothing of its caller.
+// The rules of the places, for the spoilt test: numbers, shares, rings, deficits and zeros. Each clause is
+// decided by one function, and none asks anything of its caller.
 ghost use mathlib.Core.Path.{_≡_};
 ghost use Rattle.base.specs.Sums.{oneIf};
 ghost use Rattle.spoilt_places.specs.Ranges.{sizeInRange, timesFound, numberApart, numbersApart};

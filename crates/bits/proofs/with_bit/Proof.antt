@@ -1,3 +1,4 @@
+-- `bits::with_bit` meets its contract: the shifted 1 is 2^k (shl-one), and the rest is the definition. Assumes nothing.
 use Rattle.bits.proofs.Bits.{shl-one}
 use Rattle.bits.specs.Sets.{withBit}
 use borrow.Author.Needs.{needs}

@@ -1,3 +1,5 @@
+-- `bits::without_bit` meets its contract: the shifted 1 is 2^k (shl-one), and no more is taken away than the set has
+-- (and-le-l). Assumes nothing.
 use Rattle.bits.proofs.Bits.{shl-one}
 use Rattle.bits.specs.Sets.{withoutBit}
 use lib.Bits.{and-le-l}

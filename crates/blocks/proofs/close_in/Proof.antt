@@ -1,3 +1,5 @@
+-- `blocks::close_in` meets its contract: each refusal by its test, in turn; the place that is found is one of the 64
+-- (found-at), and its block has a share (found-bought). Assumes nothing.
 use Rattle.finding.proofs.Finding.{found-at, found-bought}
 use Rattle.blocks.specs.Blocks.{closedIn}
 use borrow.Author.Tests.{lt-ltb, le-ltb}

@@ -1,3 +1,5 @@
+-- `blocks::hold_in` meets its contract: where a class is active the share is added to its class's sum, which is one of
+-- the seventeen (class-le) and fits; else nothing changes. Assumes nothing.
 use Rattle.blocks.specs.Blocks.{heldWith}
 use Rattle.units.proofs.Classes.{class-le}
 use borrow.Author.Tests.{eq-eqb, ne-eqb}

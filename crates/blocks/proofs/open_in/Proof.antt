@@ -1,3 +1,5 @@
+-- `blocks::open_in` meets its contract: each refusal by its test, in turn; a free place that is found is one of the 64
+-- (free-in). Assumes nothing.
 use Rattle.finding.proofs.Finding.{free-in}
 use Rattle.blocks.specs.Blocks.{openedIn}
 use borrow.Author.Tests.{eq-eqb, ne-eqb, lt-ltb, le-ltb}

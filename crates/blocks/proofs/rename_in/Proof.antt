@@ -1,3 +1,5 @@
+-- `blocks::rename_in` meets its contract: each refusal by its test, in turn; the place that is found is one of the 64
+-- (found-at). Assumes nothing.
 use Rattle.finding.proofs.Finding.{found-at}
 use Rattle.blocks.specs.Blocks.{renamedIn}
 use borrow.Author.Tests.{eq-eqb, ne-eqb}

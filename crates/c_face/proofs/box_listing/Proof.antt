@@ -1,4 +1,5 @@
--- `c_face::box_listing` meets its contract. What is written up to a piece, and what is left, is the listing; the rest of the log gets shorter. Assumes nothing.
+-- `c_face::box_listing` meets its contract. What is written up to a piece, and what is left, is the listing; the rest
+-- of the log gets shorter. Assumes nothing.
 use denote.Ref.{now}
 use borrow.Author.Needs.{needs}
 use native.Mathlib.Omega.{arith}

@@ -1,3 +1,5 @@
+-- `calls::burst` meets its contract: a code but 0 that comes before all others refuses the burst (early-burst); else
+-- the value is known, and what the rules say is the promise (burst-known). Assumes nothing.
 use Rattle.calls.proofs.Calling.{early-burst, burst-known}
 use borrow.Author.Needs.{needs}
 use Rattle.calls.proofs.burst.Statement.{statement}

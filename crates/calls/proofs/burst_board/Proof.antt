@@ -1,4 +1,5 @@
--- `calls::burst_board` meets its contract: what a burst gives from each round on is what it gives from the first. Assumes nothing.
+-- `calls::burst_board` meets its contract: what a burst gives from each round on is what it gives from the first.
+-- Assumes nothing.
 use mathlib.Core.Path.{_≡_, refl, sym, _∙_}
 use Prim.Native.Nat.{_-_, _≤_, _<_}
 use native.Mathlib.Omega.{arith}

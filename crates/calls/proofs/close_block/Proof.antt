@@ -1,4 +1,5 @@
--- `calls::close_block` meets its contract, by the law of a closing on a board that is known to be good. Assumes nothing.
+-- `calls::close_block` meets its contract, by the law of a closing on a board that is known to be good.
+-- Assumes nothing.
 use Rattle.blocks.proofs.Answers.{close-needs, close-known}
 use borrow.Author.Needs.{needs}
 use Rattle.calls.proofs.close_block.Statement.{statement}

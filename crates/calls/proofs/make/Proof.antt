@@ -1,3 +1,5 @@
+-- `calls::make` meets its contract: each refusal by its test, in turn, the tables' lengths by their laws (ids-wrong,
+-- lens-wrong, none-wrong); a done making is what `make_in` leaves. Assumes nothing.
 use Rattle.board.proofs.Tables.{ids-wrong, lens-wrong, none-wrong}
 use Rattle.calls.specs.Promises.{made}
 use Rattle.rules.specs.Calls.{make}

@@ -1,4 +1,5 @@
--- `calls::open_block` meets its contract, by the law of an opening on a board that is known to be good. Assumes nothing.
+-- `calls::open_block` meets its contract, by the law of an opening on a board that is known to be good.
+-- Assumes nothing.
 use Rattle.blocks.proofs.Answers.{open-known}
 use borrow.Author.Needs.{needs}
 use Rattle.calls.proofs.open_block.Statement.{statement}

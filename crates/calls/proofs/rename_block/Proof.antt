@@ -1,4 +1,5 @@
--- `calls::rename_block` meets its contract, by the law of a rename on a board that is known to be good. Assumes nothing.
+-- `calls::rename_block` meets its contract, by the law of a rename on a board that is known to be good.
+-- Assumes nothing.
 use Rattle.blocks.proofs.Answers.{rename-known}
 use borrow.Author.Needs.{needs}
 use Rattle.calls.proofs.rename_block.Statement.{statement}

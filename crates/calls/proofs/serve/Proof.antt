@@ -1,3 +1,5 @@
+-- `calls::serve` meets its contract: a code but 0 that comes before all others refuses the call (early-serve); else the
+-- value is known, and what the rules say is the promise (serve-known). Assumes nothing.
 use Rattle.calls.proofs.Calling.{early-serve, serve-known}
 use borrow.Author.Needs.{needs}
 use Rattle.calls.proofs.serve.Statement.{statement}

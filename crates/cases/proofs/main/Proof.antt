@@ -1,4 +1,5 @@
--- `cases::main` is safe and ends. The measure is the number of turns that are left; from turn to turn the tables stay lendable. Assumes nothing.
+-- `cases::main` is safe and ends. The measure is the number of turns that are left; from turn to turn the tables stay
+-- lendable. Assumes nothing.
 use borrow.Author.Needs.{needs}
 use Rattle.cases.specs.Tables.{Lendable}
 use Rattle.cases.proofs.main.Statement.{statement}

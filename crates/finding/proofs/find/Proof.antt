@@ -1,3 +1,5 @@
+-- `finding::find` meets its contract: each return is the law of finding for the tests that led there (find-none,
+-- find-unknown, find-open). Assumes nothing.
 use Rattle.finding.proofs.Finding.{find-none, find-unknown, find-open}
 use borrow.Author.Needs.{needs}
 use Rattle.finding.proofs.find.Statement.{statement}

@@ -1,3 +1,5 @@
+-- `finding::lowest_free` meets its contract: by definition the lowest free place is the first one with the number 0.
+-- Assumes nothing.
 use Rattle.finding.specs.Finding.{lowestFree}
 use borrow.Author.Needs.{needs}
 use Rattle.finding.proofs.lowest_free.Statement.{statement}

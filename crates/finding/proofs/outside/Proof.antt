@@ -1,3 +1,4 @@
+-- `finding::outside` meets its contract: one return for each test of the definition. Assumes nothing.
 use borrow.Author.Tests.{eq-eqb, ne-eqb}
 use Rattle.finding.proofs.outside.Statement.{statement}
 use Rattle.finding.proofs.outside.Tie as tie

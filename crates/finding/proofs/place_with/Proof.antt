@@ -1,3 +1,5 @@
+-- `finding::place_with` meets its contract: the loop keeps that no place below i has the number, so that the first one
+-- found is the least, and 64 where none is (least-found, least-none). Assumes nothing.
 use denote.Ref.{now}
 use mathlib.Core.Path.{_≡_, sym, _∙_}
 use mathlib.Core.Bool.{false}

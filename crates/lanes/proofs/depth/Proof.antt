@@ -1,3 +1,4 @@
+-- `lanes::depth` meets its contract: the constant is the definition's. Assumes nothing.
 use mathlib.Core.Path.{refl}
 use Rattle.lanes.specs.Lanes.{laneDepth}
 use Rattle.lanes.proofs.depth.Statement.{statement}

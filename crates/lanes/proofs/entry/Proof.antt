@@ -1,3 +1,5 @@
+-- `lanes::entry` meets its contract: it is the ring's entry, as first entry and depth are the lane's, and it lies in
+-- the tables (lane-inside). Assumes nothing.
 use native.Mathlib.Omega.{arith}
 use borrow.Author.Needs.{needs}
 use Rattle.lanes.proofs.Lanes.{depth-positive, lane-inside}

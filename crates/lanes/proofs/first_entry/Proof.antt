@@ -1,3 +1,5 @@
+-- `lanes::first_entry` meets its contract: the product is the definition, and fits, since the place is one of the 64.
+-- Assumes nothing.
 use mathlib.Core.Path.{refl}
 use borrow.Author.Needs.{needs}
 use Rattle.lanes.specs.Lanes.{laneDepth, laneFirst}

@@ -1,3 +1,4 @@
+-- `lanes::onward` meets its contract: the ring's depth is the lane's, which is not 0 (depth-positive). Assumes nothing.
 use native.Mathlib.Omega.{arith}
 use borrow.Author.Needs.{needs}
 use Rattle.lanes.proofs.Lanes.{depth-positive}

@@ -1,3 +1,5 @@
+-- `lanes::ring_entry` meets its contract: the sum is the definition, and fits, since the remainder is below the depth
+-- (mod-lt). Assumes nothing.
 use mathlib.Core.Path.{refl}
 use Prim.Native.Nat.{_+_}
 use native.Mathlib.Nat.{mod-lt}

@@ -1,3 +1,5 @@
+-- `lanes::ring_on` meets its contract: the remainder is the definition, and fits, since it is below the depth (mod-lt).
+-- Assumes nothing.
 use mathlib.Core.Path.{refl}
 use Prim.Native.Nat.{_+_}
 use native.Mathlib.Nat.{mod-lt}

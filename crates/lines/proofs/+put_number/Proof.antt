@@ -1,5 +1,5 @@
--- `lines::put_number` meets its contract. A number of several digits is the one without its last digit, and that digit; the number falls at
--- each call. Assumes nothing.
+-- `lines::put_number` meets its contract. A number of several digits is the one without its last digit, and that digit;
+-- the number falls at each call. Assumes nothing.
 use mathlib.Core.Path.{ap}
 use mathlib.Core.List.{_∷_, []}
 use Prim.Native.Nat.{ℕ, _/_, _<_}

@@ -1,4 +1,5 @@
--- `listing::read_log` is safe and ends, and its answer lies within the log's room: each turn takes up a byte or more of it. Assumes nothing.
+-- `listing::read_log` is safe and ends, and its answer lies within the log's room: each turn takes up a byte or more of
+-- it. Assumes nothing.
 use mathlib.Core.Path.{_≡_, sym}
 use Prim.Native.Nat.{_-_, _≤_}
 use lib.ListN.{length}

@@ -1,4 +1,5 @@
--- `listing::write_listing` is safe and ends. From piece to piece the state is not refused, and the rest of the log gets shorter. Assumes nothing.
+-- `listing::write_listing` is safe and ends. From piece to piece the state is not refused, and the rest of the log gets
+-- shorter. Assumes nothing.
 use denote.Ref.{now}
 use mathlib.Core.Path.{_≡_, sym, _∙_}
 use Prim.Native.Nat.{_-_, _≤_}

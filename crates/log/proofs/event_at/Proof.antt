@@ -1,4 +1,5 @@
--- `log::event_at` meets its contract. One arm for each tag; the length that the tag asks gives each number its room. Assumes nothing.
+-- `log::event_at` meets its contract. One arm for each tag; the length that the tag asks gives each number its room.
+-- Assumes nothing.
 use native.Mathlib.Omega.{arith}
 use borrow.Author.Tests.{ne-eqb}
 use Rattle.log.specs.Format.{lengthOf, eventOf}

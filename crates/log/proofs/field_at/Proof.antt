@@ -1,4 +1,5 @@
--- `log::field_at` meets its contract. Each return is the law of the field for the tests that led there. Assumes nothing.
+-- `log::field_at` meets its contract. Each return is the law of the field for the tests that led there.
+-- Assumes nothing.
 use mathlib.Core.Path.{sym, ap, _∙_}
 use denote.Ref.{now}
 use native.Mathlib.Omega.{arith}

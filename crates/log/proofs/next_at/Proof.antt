@@ -10,42 +10,31 @@ is-long-requires c κs = search needs
 
 returns : tie.Need-returns
 returns c =
-    let at-is-long-1 = c .before in
-    let at-if1 = c .if1 in
-    let at-is-long = at-is-long-1 .is-long in
-    found-long _ _ _ (sym (at-is-long .ensures) ∙ at-if1 .taken)
+    let at-is-long = c .before in
+    found-long _ _ _ (sym (at-is-long .is-long .ensures) ∙ c .if1 .taken)
 
 at-end-requires : tie.Need-at-end-requires
 at-end-requires c κs = search needs
 
 returns-2 : tie.Need-returns-2
 returns-2 c =
-    let at-at-end-1 = c .before in
-    let at-if1-2 = at-at-end-1 .before in
-    let at-is-long-3 = at-if1-2 .before in
-    let at-if2 = c .if2 in
-    let at-at-end = at-at-end-1 .at-end in
-    let at-if1 = at-if1-2 .if1 in
-    let at-is-long = at-is-long-3 .is-long in
-    found-end _ _ _ (sym (at-is-long .ensures) ∙ at-if1 .left) (sym (at-at-end .ensures) ∙ at-if2 .taken)
+    let at-at-end = c .before in
+    let at-if1 = at-at-end .before in
+    let at-is-long = at-if1 .before in
+    found-end _ _ _ (sym (at-is-long .is-long .ensures) ∙ at-if1 .if1 .left) (sym (at-at-end .at-end .ensures) ∙ c .if2 .taken)
 
 field-at-requires : tie.Need-field-at-requires
 field-at-requires c κs = search needs
 
 returns-3 : tie.Need-returns-3
 returns-3 c =
-    let at-if2-1 = c .before in
-    let at-at-end-2 = at-if2-1 .before in
-    let at-if1-3 = at-at-end-2 .before in
-    let at-is-long-4 = at-if1-3 .before in
-    let at-field-at = c .field-at in
-    let at-if2 = at-if2-1 .if2 in
-    let at-at-end = at-at-end-2 .at-end in
-    let at-if1 = at-if1-3 .if1 in
-    let at-is-long = at-is-long-4 .is-long in
-    let short = sym (at-is-long .ensures) ∙ at-if1 .left in
-    let goes = sym (at-at-end .ensures) ∙ at-if2 .left in
-    at-field-at .ensures ∙ found-field _ _ _ short goes
+    let at-if2 = c .before in
+    let at-at-end = at-if2 .before in
+    let at-if1 = at-at-end .before in
+    let at-is-long = at-if1 .before in
+    let short = sym (at-is-long .is-long .ensures) ∙ at-if1 .if1 .left in
+    let goes = sym (at-at-end .at-end .ensures) ∙ at-if2 .if2 .left in
+    c .field-at .ensures ∙ found-field _ _ _ short goes
 
 pub next-at-spec : {M : Type 1} → statement M
 next-at-spec =

@@ -1,4 +1,5 @@
--- `player::first_piece` meets its contract. The first field is L, of which the board is made, or the listing is one line. Assumes nothing.
+-- `player::first_piece` meets its contract. The first field is L, of which the board is made, or the listing is one
+-- line. Assumes nothing.
 use mathlib.Core.Path.{sym, _∙_}
 use native.Mathlib.Omega.{arith}
 use Rattle.player.proofs.Pieces.{code-tables, is-largest, not-largest, first-none, first-last, first-made, first-ends}

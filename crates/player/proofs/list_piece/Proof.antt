@@ -1,4 +1,5 @@
--- `player::list_piece` meets its contract. A state that is not refused goes on from its first field, or from the field after the last. Assumes nothing.
+-- `player::list_piece` meets its contract. A state that is not refused goes on with the log's first field, or with the
+-- field after those that were played. Assumes nothing.
 use mathlib.Core.Path.{sym, _∙_}
 use Rattle.player.proofs.Pieces.{refused-piece, done-piece}
 use borrow.Author.Needs.{needs}

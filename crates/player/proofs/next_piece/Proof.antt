@@ -1,5 +1,5 @@
--- `player::next_piece` meets its contract. What is written up to a field, and the listing from it on, is what was left at the beginning; the rest of the
--- log gets shorter. Assumes nothing.
+-- `player::next_piece` meets its contract. What is written up to a field, and the listing from it on, is what was left
+-- at the beginning; the rest of the log gets shorter. Assumes nothing.
 use mathlib.Core.Path.{refl, sym, _∙_}
 use Prim.Native.Nat.{_-_}
 use native.Mathlib.Omega.{arith}

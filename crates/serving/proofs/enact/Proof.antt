@@ -1,3 +1,5 @@
+-- `serving::enact` meets its contract: what `open_slot` leaves is what `send` asks, and the two, one after the other,
+-- are the definition. Assumes nothing.
 use Rattle.slots.specs.Slots.{opened}
 use Rattle.serving.specs.Serving.{enacted}
 use borrow.Author.Needs.{needs}

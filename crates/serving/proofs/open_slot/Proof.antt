@@ -1,3 +1,5 @@
+-- `serving::open_slot` meets its contract: an open slot serves on; where none is open one begins, in the class of the
+-- place's share. Assumes nothing.
 use Rattle.slots.specs.Slots.{openedSlot}
 use borrow.Author.Tests.{eq-eqb, ne-eqb}
 use borrow.Author.Needs.{needs}

@@ -1,3 +1,6 @@
+-- `serving::serve_within` meets its contract: each return is the case of a serve for the tests that led there
+-- (within-stop, within-full, within-long, within-done), and the lane that is read lies in the table (can-read).
+-- Assumes nothing.
 use Rattle.serving.proofs.Cases.{within-stop, within-full, within-long, within-done, can-read}
 use native.Mathlib.Omega.{arith}
 use mathlib.Core.Path.{sym, _∙_}

@@ -1,3 +1,5 @@
+-- `slots::advance` meets its contract: the loop keeps that the classes from k on make of what it has what all seventeen
+-- make of what was given (turn-on, turn-stop, turn-out). Assumes nothing.
 use mathlib.Core.Path.{_≡_, refl, sym, _∙_}
 use mathlib.Core.Logic.{⊎-elim}
 use Prim.Native.Nat.{_-_, _≤_}

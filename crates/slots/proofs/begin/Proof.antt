@@ -1,3 +1,5 @@
+-- `slots::begin` meets its contract: its steps, one after the other, are the definition's; a class is at most 16
+-- (class-le), and deficit and credit fit in one number (credit-under). Assumes nothing.
 use Rattle.slots.proofs.Cases.{set-bound}
 use Rattle.slots.specs.Slots.{Links, leftLinks, beganAt}
 use Rattle.rules.proofs.Shape.{most-pos}

@@ -1,3 +1,5 @@
+-- `slots::choose` meets its contract: each return by the tests that led there; that the chosen class has a first block
+-- is what it asks (CanChoose). Assumes nothing.
 use Rattle.slots.specs.Slots.{choice}
 use borrow.Author.Tests.{eq-eqb, ne-eqb, le-leb, lt-leb}
 use borrow.Author.Needs.{needs}

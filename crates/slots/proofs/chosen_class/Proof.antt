@@ -1,3 +1,4 @@
+-- `slots::chosen_class` meets its contract: it is the lowest class of the set that the test picks. Assumes nothing.
 use borrow.Author.Tests.{eq-eqb, ne-eqb}
 use Rattle.slots.specs.Slots.{chosenClass}
 use borrow.Author.Needs.{needs}

@@ -1,3 +1,5 @@
+-- `slots::end_empty` meets its contract: its steps, one after the other, are the definition's, whether a class stays
+-- active or none does. Assumes nothing.
 use Rattle.slots.specs.Slots.{endedEmpty}
 use borrow.Author.Tests.{eq-eqb, ne-eqb}
 use mathlib.Core.Logic.{⊎-elim}

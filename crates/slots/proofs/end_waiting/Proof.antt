@@ -1,3 +1,5 @@
+-- `slots::end_waiting` meets its contract: its steps, one after the other, are the definition's; every other need is
+-- found by search. Assumes nothing.
 use Rattle.slots.specs.Slots.{endedWaiting}
 use borrow.Author.Needs.{needs}
 use Rattle.slots.proofs.end_waiting.Statement.{statement}

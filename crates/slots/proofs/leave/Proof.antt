@@ -1,3 +1,5 @@
+-- `slots::leave` meets its contract: where no block stands behind the order is empty; else that one is the first.
+-- Assumes nothing.
 use borrow.Author.Tests.{eq-eqb, ne-eqb}
 use Rattle.slots.specs.Slots.{leftLinks}
 use borrow.Author.Needs.{needs}

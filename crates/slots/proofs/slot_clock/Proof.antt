@@ -1,3 +1,5 @@
+-- `slots::slot_clock` meets its contract: where no class is pending it is the next start; else the clock as it is.
+-- Assumes nothing.
 use borrow.Author.Tests.{eq-eqb, ne-eqb}
 use Rattle.slots.specs.Slots.{slotClock}
 use borrow.Author.Needs.{needs}

@@ -1,3 +1,5 @@
+-- `slots::still_active` meets its contract: where the order has no block the class leaves the set; else the set is as
+-- it was. Assumes nothing.
 use borrow.Author.Tests.{eq-eqb, ne-eqb}
 use Rattle.slots.specs.Slots.{stillActive}
 use borrow.Author.Needs.{needs}

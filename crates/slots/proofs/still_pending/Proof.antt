@@ -1,3 +1,5 @@
+-- `slots::still_pending` meets its contract: one return for each test of the definition; the first link is a place, as
+-- is asked. Assumes nothing.
 use borrow.Author.Tests.{eq-eqb, ne-eqb, lt-ltb, le-ltb}
 use Rattle.slots.specs.Slots.{stillPending}
 use borrow.Author.Needs.{needs}

@@ -1,3 +1,5 @@
+-- `spoilt::early` meets its contract: the tables' lengths by their tests; then the computed test finds the code
+-- (early-by), and a value that is given 0 is known (known-by). Assumes nothing.
 use mathlib.Core.Path.{sym, _∙_}
 use mathlib.Core.Bool.{true, false}
 use native.Mathlib.Omega.{arith}

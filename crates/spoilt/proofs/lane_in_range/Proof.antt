@@ -1,3 +1,5 @@
+-- `spoilt::lane_in_range` meets its contract: the loop keeps that the first j waiting lengths are in range, and the
+-- first that is not ends it (all-more, all-stop). Assumes nothing.
 use mathlib.Core.Bool.{true}
 use mathlib.Core.Path.{_∙_, _≡_, ap, sym}
 use Prim.Native.Nat.{_-_, _≤_, ℕ}

@@ -1,3 +1,5 @@
+-- `spoilt::lanes_in_range` meets its contract: the loop keeps that the lanes below place p are in range, and the first
+-- that is not ends it (all-more, all-stop). Assumes nothing.
 use mathlib.Core.Bool.{true}
 use mathlib.Core.Path.{_∙_, _≡_, sym}
 use Prim.Native.Nat.{_-_, _≤_}

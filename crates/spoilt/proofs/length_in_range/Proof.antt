@@ -1,3 +1,5 @@
+-- `spoilt::length_in_range` meets its contract: one return for each test of the definition; a length that is not 0 is 1
+-- or more. Assumes nothing.
 use native.Mathlib.Omega.{arith}
 use borrow.Author.Tests.{le-leb, lt-leb}
 use Rattle.spoilt.specs.Test.{lengthInRange}

@@ -1,3 +1,5 @@
+-- `spoilt::slot_in_range` meets its contract: one return for each case of the definition; a mark of 1 to 64 is a
+-- place's, whose front entry lies in the table. Assumes nothing.
 use borrow.Author.Needs.{needs}
 use borrow.Author.Tests.{eq-eqb, le-leb, lt-leb, ne-eqb}
 use Rattle.spoilt.specs.Test.{slotInRange}

@@ -1,3 +1,5 @@
+-- `spoilt::slot_open` meets its contract: one return for each test of the definition; three times the charge of L fits,
+-- since L is below 2^32. Assumes nothing.
 use native.Mathlib.Omega.{arith}
 use borrow.Author.Needs.{needs}
 use borrow.Author.Tests.{eq-eqb, le-leb, le-ltb, lt-leb, lt-ltb, ne-eqb}

@@ -1,3 +1,5 @@
+-- `spoilt::sound` meets its contract: one return for each test of the definition, in its order; the first one gives the
+-- table of lengths the 2,048 entries that lanes and slot ask (and-right). Assumes nothing.
 use mathlib.Core.Path.{_∙_, sym}
 use lib.Dec.{eqb}
 use lib.ListN.{length}

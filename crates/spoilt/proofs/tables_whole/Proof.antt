@@ -1,3 +1,4 @@
+-- `spoilt::tables_whole` meets its contract: one return for each test of the definition. Assumes nothing.
 use borrow.Author.Tests.{eq-eqb, ne-eqb}
 use Rattle.spoilt.proofs.tables_whole.Statement.{statement}
 use Rattle.spoilt.proofs.tables_whole.Tie as tie

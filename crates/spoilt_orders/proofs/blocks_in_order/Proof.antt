@@ -1,3 +1,5 @@
+-- `spoilt_orders::blocks_in_order` meets its contract: the loop keeps that it has counted the places below p whose
+-- blocks are in an order, which are p at most (below-none, below-more). Assumes nothing.
 use mathlib.Core.Path.{_∙_, _≡_, ap, sym}
 use Prim.Native.Nat.{_-_, _≤_}
 use native.Mathlib.Omega.{arith}

@@ -1,3 +1,5 @@
+-- `spoilt_orders::class_pending` meets its contract: one return for each test of the definition; a link of 1 to 64 is a
+-- place's. Assumes nothing.
 use borrow.Author.Needs.{needs}
 use borrow.Author.Tests.{eq-eqb, le-leb, lt-leb, ne-eqb}
 use Rattle.spoilt_orders.specs.Walks.{classPending}

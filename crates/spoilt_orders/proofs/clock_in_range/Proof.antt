@@ -1,3 +1,4 @@
+-- `spoilt_orders::clock_in_range` meets its contract: the test is the definition. Assumes nothing.
 use mathlib.Core.Path.{refl}
 use Rattle.spoilt_orders.specs.Walks.{clockInRange}
 use Rattle.spoilt_orders.proofs.clock_in_range.Statement.{statement}

@@ -1,3 +1,5 @@
+-- `spoilt_orders::of_class` meets its contract: one return for each test of the definition; share x 2^k fits
+-- (scaled-fits). Assumes nothing.
 use native.Mathlib.Omega.{arith}
 use borrow.Author.Needs.{needs}
 use borrow.Author.Tests.{le-leb, lt-leb}

@@ -1,3 +1,6 @@
+-- `spoilt_orders::order_length` meets its contract: the loop keeps that the walk from here, with the steps that are
+-- left, gives what the walk from the head gives; a step and each end by its law (walk-on, walk-end, walk-long,
+-- walk-far, walk-refused). Assumes nothing.
 use mathlib.Core.Bool.{Bool, cond}
 use mathlib.Core.Path.{_∙_, _≡_, ap, refl, sym}
 use Prim.Native.Nat.{_-_, _≤_}

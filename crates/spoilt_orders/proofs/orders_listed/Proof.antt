@@ -1,3 +1,6 @@
+-- `spoilt_orders::orders_listed` meets its contract: the loop keeps that the orders below class k have 64 places at
+-- most, and the sum of their lengths (all-more, below-more); the first that is none ends it (all-stop).
+-- Assumes nothing.
 use mathlib.Core.Bool.{true}
 use mathlib.Core.Path.{_∙_, _≡_, ap, sym}
 use Prim.Native.Nat.{_*_, _-_, _^_, _≤_, ℕ}

@@ -1,3 +1,5 @@
+-- `spoilt_orders::ready_in_range` meets its contract: one return for each test of the definition; shifted down and up
+-- again, a time loses what is under 2^k (whole-is). Assumes nothing.
 use mathlib.Core.Path.{_∙_, sym}
 use Prim.Native.Nat.{_<_, _^_}
 use native.Mathlib.Omega.{arith}

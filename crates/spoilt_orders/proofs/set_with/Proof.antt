@@ -1,3 +1,5 @@
+-- `spoilt_orders::set_with` meets its contract: the set with class k where it belongs to it; else the set as it is.
+-- Assumes nothing.
 use borrow.Author.Needs.{needs}
 use Rattle.spoilt_orders.proofs.set_with.Statement.{statement}
 use Rattle.spoilt_orders.proofs.set_with.Tie as tie

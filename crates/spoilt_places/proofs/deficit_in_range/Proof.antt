@@ -1,3 +1,5 @@
+-- `spoilt_places::deficit_in_range` meets its contract: one return for each test of the definition; L bytes in parts
+-- are the largest record's charge. Assumes nothing.
 use borrow.Author.Needs.{needs}
 use borrow.Author.Tests.{le-ltb, lt-ltb}
 use Rattle.spoilt_places.specs.Ranges.{deficitInRange}

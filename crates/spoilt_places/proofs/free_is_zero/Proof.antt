@@ -1,3 +1,5 @@
+-- `spoilt_places::free_is_zero` meets its contract: one return for each test of the definition, in its order.
+-- Assumes nothing.
 use borrow.Author.Tests.{eq-eqb, le-ltb, lt-ltb, ne-eqb}
 use Rattle.spoilt_places.specs.Ranges.{freeIsZero}
 use Rattle.spoilt_places.proofs.free_is_zero.Statement.{statement}

@@ -1,3 +1,5 @@
+-- `spoilt_places::held_while_waiting` meets its contract: where no class is active it is the test that no share is
+-- held; else there is nothing to test. Assumes nothing.
 use borrow.Author.Needs.{needs}
 use borrow.Author.Tests.{eq-eqb, ne-eqb}
 use Rattle.spoilt_places.specs.Ranges.{heldWhileWaiting}

@@ -1,3 +1,5 @@
+-- `spoilt_places::in_order` meets its contract: one return for each test of the definition; the slot's mark is compared
+-- as a link there and as a place here (link-as, no-link). Assumes nothing.
 use borrow.Author.Needs.{needs}
 use borrow.Author.Tests.{eq-eqb, ne-eqb}
 use Rattle.spoilt_places.proofs.Links.{link-as, no-link}

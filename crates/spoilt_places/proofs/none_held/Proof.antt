@@ -1,3 +1,5 @@
+-- `spoilt_places::none_held` meets its contract: the loop keeps that no share is held below class k, and the first that
+-- is ends it (all-more, all-stop). Assumes nothing.
 use mathlib.Core.Bool.{true}
 use mathlib.Core.Path.{_≡_, sym}
 use Prim.Native.Nat.{_-_, _≤_}

@@ -1,3 +1,5 @@
+-- `spoilt_places::number_apart` meets its contract: 0 may stand anywhere; of any other number the places are counted.
+-- Assumes nothing.
 use borrow.Author.Needs.{needs}
 use borrow.Author.Tests.{eq-eqb, ne-eqb}
 use Rattle.spoilt_places.specs.Ranges.{numberApart}

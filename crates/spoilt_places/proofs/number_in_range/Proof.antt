@@ -1,3 +1,5 @@
+-- `spoilt_places::number_in_range` meets its contract: the number of an open place is tested; a free one passes.
+-- Assumes nothing.
 use borrow.Author.Tests.{le-ltb, lt-ltb}
 use Rattle.spoilt_places.specs.Ranges.{numberInRange}
 use Rattle.spoilt_places.proofs.number_in_range.Statement.{statement}

@@ -1,3 +1,5 @@
+-- `spoilt_places::ring_in_range` meets its contract: one return for each test of the definition, by the lane's depth.
+-- Assumes nothing.
 use borrow.Author.Needs.{needs}
 use borrow.Author.Tests.{le-ltb, lt-ltb}
 use Rattle.spoilt_places.specs.Ranges.{ringInRange}

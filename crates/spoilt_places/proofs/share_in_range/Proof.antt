@@ -1,3 +1,4 @@
+-- `spoilt_places::share_in_range` meets its contract: the test is the definition. Assumes nothing.
 use mathlib.Core.Path.{refl}
 use Rattle.spoilt_places.specs.Ranges.{shareInRange}
 use Rattle.spoilt_places.proofs.share_in_range.Statement.{statement}

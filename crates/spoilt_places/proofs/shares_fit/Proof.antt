@@ -1,3 +1,5 @@
+-- `spoilt_places::shares_fit` meets its contract: both sums are those of the definition, and together they fit.
+-- Assumes nothing.
 use borrow.Author.Needs.{needs}
 use Rattle.spoilt_places.specs.Ranges.{sharesFit}
 use Rattle.spoilt_places.proofs.shares_fit.Statement.{statement}

@@ -1,3 +1,4 @@
+-- `spoilt_places::size_in_range` meets its contract: one return for each test of the definition. Assumes nothing.
 use borrow.Author.Tests.{le-leb, lt-leb}
 use Rattle.spoilt_places.specs.Ranges.{sizeInRange}
 use Rattle.spoilt_places.proofs.size_in_range.Statement.{statement}

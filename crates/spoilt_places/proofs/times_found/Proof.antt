@@ -1,3 +1,5 @@
+-- `spoilt_places::times_found` meets its contract: the loop keeps that it has counted the places below p that have the
+-- number, which are p at most (below-none, below-more). Assumes nothing.
 use mathlib.Core.Path.{_∙_, _≡_, ap, sym}
 use Prim.Native.Nat.{_-_, _≤_}
 use native.Mathlib.Omega.{arith}

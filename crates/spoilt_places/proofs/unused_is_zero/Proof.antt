@@ -1,3 +1,4 @@
+-- `spoilt_places::unused_is_zero` meets its contract: one return for each test of the definition. Assumes nothing.
 use borrow.Author.Tests.{eq-eqb, ne-eqb}
 use Rattle.spoilt_places.specs.Ranges.{unusedIsZero}
 use Rattle.spoilt_places.proofs.unused_is_zero.Statement.{statement}

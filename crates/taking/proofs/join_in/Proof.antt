@@ -1,3 +1,5 @@
+-- `taking::join_in` meets its contract: where the order is empty the block is its first; else it stands behind the
+-- last. Assumes nothing.
 use mathlib.Core.Logic.{⊎-elim}
 use borrow.Author.Tests.{eq-eqb, ne-eqb}
 use Rattle.taking.specs.Taking.{joinedOrders}

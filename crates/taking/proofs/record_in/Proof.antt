@@ -1,3 +1,5 @@
+-- `taking::record_in` meets its contract: each refusal by its test, in turn; the place that is found is one of the 64
+-- and its block has a share (found-at, found-bought), and the entry of the record lies in the tables. Assumes nothing.
 use Rattle.finding.proofs.Finding.{found-at, found-bought}
 use Rattle.taking.specs.Taking.{recordedIn}
 use borrow.Author.Tests.{lt-leb, le-leb}

@@ -1,3 +1,5 @@
+-- `taking::take_in` meets its contract: the count fits, as the lane is not full (depth-most); where the lane was empty
+-- the block joins the order of its class, which is at most 16 (class-le). Assumes nothing.
 use Prim.Native.Nat.{_≤_}
 use native.Mathlib.Omega.{arith}
 use borrow.Author.Tests.{eq-eqb, ne-eqb}

@@ -1,3 +1,5 @@
+-- `units::charge` meets its contract: the product is the definition, and fits, since the length is below 2^32.
+-- Assumes nothing.
 use native.Mathlib.Omega.{arith}
 use Rattle.units.specs.Credit.{framing, charged, chargeOf}
 use borrow.Author.Needs.{needs}

@@ -1,3 +1,4 @@
+-- `units::charged` meets its contract: the sum is the definition. Assumes nothing.
 use mathlib.Core.Path.{refl}
 use Rattle.units.specs.Credit.{framing, charged}
 use borrow.Author.Needs.{needs}

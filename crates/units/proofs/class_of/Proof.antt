@@ -1,3 +1,6 @@
+-- `units::class_of` meets its contract: the loop keeps that the limit is 2^(16-k) and that the share reaches none above
+-- it (half-power), so that the first one reached gives the class, and 16 is left where none is (least-found,
+-- least-none). Assumes nothing.
 use mathlib.Core.Path.{_≡_, sym, _∙_}
 use mathlib.Core.Bool.{true, false}
 use Prim.Native.Nat.{ℕ, _-_, _^_, _≤_, _<_}

@@ -1,3 +1,4 @@
+-- `units::interval` meets its contract: the shifted 1 is 2^k (shl-exact). Assumes nothing.
 use mathlib.Core.Path.{_∙_}
 use native.Mathlib.Nat.{one-mul}
 use native.Mathlib.Omega.{arith}

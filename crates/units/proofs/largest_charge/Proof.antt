@@ -1,3 +1,4 @@
+-- `units::largest_charge` meets its contract: it is what the largest length is charged. Assumes nothing.
 use Rattle.units.specs.Credit.{largestCharge}
 use borrow.Author.Needs.{needs}
 use Rattle.units.proofs.largest_charge.Statement.{statement}

@@ -1,3 +1,5 @@
+-- `units::next_start` meets its contract: the product is the definition, and fits, since the next start is at most an
+-- interval above the clock (next-fits). Assumes nothing.
 use native.Mathlib.Nat.{div-le-self}
 use native.Mathlib.Omega.{arith}
 use lib.Pow.{pow-pos}

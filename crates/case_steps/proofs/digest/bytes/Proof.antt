@@ -1,4 +1,5 @@
--- `case_steps::digest::bytes` is safe and ends. Assumes nothing.
+-- `case_steps::digest::bytes` is safe and ends: the index stays within the row, and each number of it fits 64 bits.
+-- Assumes nothing.
 use native.Mathlib.Omega.{arith}
 use borrow.Author.Needs.{needs}
 use lib.ListN.{length}

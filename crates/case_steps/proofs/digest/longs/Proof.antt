@@ -1,4 +1,5 @@
--- `case_steps::digest::longs` is safe and ends. Assumes nothing.
+-- `case_steps::digest::longs` is safe and ends: the index stays within the row, and every need is found by search.
+-- Assumes nothing.
 use borrow.Author.Needs.{needs}
 use lib.ListN.{length}
 use Prim.Native.Nat.{_≤_, _-_}

@@ -1,4 +1,5 @@
--- `cases::answers::numbers` is safe and ends. Assumes nothing.
+-- `cases::answers::numbers` is safe and ends: the index is 5 at most, and every need is found by search.
+-- Assumes nothing.
 use borrow.Author.Needs.{needs}
 use Prim.Native.Nat.{_≤_, _-_}
 use Rattle.cases.proofs.answers.numbers.Statement.{statement}

@@ -1,4 +1,5 @@
--- `cases::play::play` meets its contract. The parts of the tables that are lent are as long as the state says. Assumes nothing.
+-- `cases::play::play` meets its contract. The parts of the tables that are lent are as long as the state says.
+-- Assumes nothing.
 use mathlib.Core.Path.{sym}
 use lib.Seq.{length-take-le}
 use borrow.Author.Needs.{needs}

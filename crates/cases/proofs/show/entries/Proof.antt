@@ -1,4 +1,5 @@
--- `cases::show::entries` is safe and ends. Assumes nothing.
+-- `cases::show::entries` is safe and ends: the index is the count at most, and every need is found by search.
+-- Assumes nothing.
 use borrow.Author.Needs.{needs}
 use Prim.Native.Nat.{_≤_, _-_}
 use Rattle.cases.proofs.show.entries.Statement.{statement}

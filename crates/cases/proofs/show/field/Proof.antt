@@ -1,4 +1,5 @@
--- `cases::show::field` is safe and ends. Assumes nothing.
+-- `cases::show::field` is safe and ends: the index is the count at most, and every need is found by search.
+-- Assumes nothing.
 use borrow.Author.Needs.{needs}
 use Prim.Native.Nat.{_≤_, _-_}
 use Rattle.cases.proofs.show.field.Statement.{statement}

@@ -1,4 +1,5 @@
--- `cases::show::fields_from` is safe and ends. Assumes nothing.
+-- `cases::show::fields_from` is safe and ends: the measure is the number of steps that are left, and every need is
+-- found by search. Assumes nothing.
 use borrow.Author.Needs.{needs}
 use Prim.Native.Nat.{_-_}
 use Rattle.cases.proofs.show.fields_from.Statement.{statement}
