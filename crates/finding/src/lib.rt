@@ -1,5 +1,5 @@
-// Finding: what is known of a number, the lowest free place, and the range of a number with an amount. What is done with
-// a block begins here.
+// Finding: what is known of a number, the lowest free place, and the range of a number with an amount. What is done
+// with a block begins here.
 ghost use mathlib.Core.Path.{_≡_};
 ghost use mathlib.Core.Bool.{_||_};
 ghost use Prim.Native.Nat.{_+_, _-_, _<_};
