@@ -14,6 +14,6 @@ module _ {A : Type 0} where
   sum f (x ∷ xs) = f x + sum f xs
 
 -- f 0 + f 1 + .. + f (n - 1)
-unfoldable pub below : (ℕ → ℕ) → ℕ → ℕ
+unfoldable pub below : (f : ℕ → ℕ) (n : ℕ) → ℕ
 below f zero = 0
 below f (suc n) = below f n + f n

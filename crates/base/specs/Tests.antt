@@ -28,11 +28,11 @@ sameList (x ∷ xs) [] = false
 sameList (x ∷ xs) (y ∷ ys) = eqb x y && sameList xs ys
 
 -- the test holds at each number below n
-unfoldable pub allBelow : ℕ → (ℕ → Bool) → Bool
-allBelow zero t = true
-allBelow (suc n) t = allBelow n t && t n
+unfoldable pub allBelow : (n : ℕ) (test : ℕ → Bool) → Bool
+allBelow zero test = true
+allBelow (suc n) test = allBelow n test && test n
 
 -- the first of 0, 1, .., n - 1 that passes the test, and n where none does
-unfoldable pub least : (ℕ → Bool) → ℕ → ℕ
-least t zero = 0
-least t (suc n) = let later = least (λ i. t (suc i)) n in cond (t 0) 0 (suc later)
+unfoldable pub least : (test : ℕ → Bool) (n : ℕ) → ℕ
+least test zero = 0
+least test (suc n) = let later = least (λ i. test (suc i)) n in cond (test 0) 0 (suc later)

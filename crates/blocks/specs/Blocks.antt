@@ -27,15 +27,15 @@ pub record Renaming : Type 0 where
   pub code : ℕ
   pub numbers : List ℕ
 
-abbrev pub renaming : ℕ → List ℕ → Renaming
+abbrev pub renaming : (code : ℕ) (numbers : List ℕ) → Renaming
 renaming code numbers = record { code = code; numbers = numbers }
 
--- the block at place i
-abbrev pub renamedAt : List ℕ → ℕ → ℕ → Renaming
-renamedAt numbers new i =
-    byFound (foundIn numbers new) (λ j. renaming 5 numbers) (renaming 0 (set numbers i new))
+-- the block at place p
+abbrev pub renamedAt : (numbers : List ℕ) (new p : ℕ) → Renaming
+renamedAt numbers new p =
+    byFound (foundIn numbers new) (λ j. renaming 5 numbers) (renaming 0 (set numbers p new))
 
-unfoldable pub renamedIn : List ℕ → ℕ → ℕ → Renaming
+unfoldable pub renamedIn : (numbers : List ℕ) (old new : ℕ) → Renaming
 renamedIn numbers old new =
     cond (eqb new 0) (renaming 4 numbers)
     (byFound (foundIn numbers old) (renamedAt numbers new) (renaming 6 numbers))
@@ -50,11 +50,11 @@ pub record Answered : Type 0 where
   pub code : ℕ
   pub blocks : Blocks
 
-abbrev pub answered : ℕ → Blocks → Answered
+abbrev pub answered : (code : ℕ) → Blocks → Answered
 answered code x = record { code = code; blocks = x }
 
 -- a block opens at place p
-abbrev pub openAt : ℕ → Opening → Blocks → Blocks
+abbrev pub openAt : (p : ℕ) → Opening → Blocks → Blocks
 openAt p o x = blocksNow (set (x .numbers) p (o .number)) (set (x .shares) p (o .share)) (x .starts) (x .held)
 
 unfoldable pub openedIn : Blocks → Opening → Answered
@@ -71,20 +71,20 @@ openedIn x o =
 -- ---- CLOSE
 
 -- a share is held with its class's, unless no class is active
-unfoldable pub heldWith : ℕ → ℕ → List ℕ → List ℕ
+unfoldable pub heldWith : (active share : ℕ) (held : List ℕ) → List ℕ
 heldWith active share held = let k = classOf share in cond (eqb active 0) held (set held k (getD held k 0 + share))
 
--- the block at place i, which has this share, closes
-abbrev pub closeAt : (active share i : ℕ) → Blocks → Blocks
-closeAt active share i x =
-    blocksNow (set (x .numbers) i 0) (set (x .shares) i 0) (set (x .starts) i 0) (heldWith active share (x .held))
+-- the block at place p, which has this share, closes
+abbrev pub closeAt : (active share p : ℕ) → Blocks → Blocks
+closeAt active share p x =
+    blocksNow (set (x .numbers) p 0) (set (x .shares) p 0) (set (x .starts) p 0) (heldWith active share (x .held))
 
-abbrev pub closedAt : (active : ℕ) (counts : List ℕ) → Blocks → ℕ → Answered
-closedAt active counts x i =
-    cond (ltb 0 (getD counts i 0)) (answered 10 x) (answered 0 (closeAt active (getD (x .shares) i 0) i x))
+abbrev pub closedAt : (active : ℕ) (counts : List ℕ) → Blocks → (p : ℕ) → Answered
+closedAt active counts x p =
+    cond (ltb 0 (getD counts p 0)) (answered 10 x) (answered 0 (closeAt active (getD (x .shares) p 0) p x))
 
-unfoldable pub closedIn : (active : ℕ) (counts : List ℕ) → Blocks → ℕ → Answered
-closedIn active counts x n = byFound (foundIn (x .numbers) n) (closedAt active counts x) (answered 6 x)
+unfoldable pub closedIn : (active : ℕ) (counts : List ℕ) → Blocks → (block : ℕ) → Answered
+closedIn active counts x block = byFound (foundIn (x .numbers) block) (closedAt active counts x) (answered 6 x)
 
 -- what must hold of the lists for any number: a place with a number has a share, and the sums fit
 pub record CloseNeeds (numbers shares held : List ℕ) : Type 0 where

@@ -21,7 +21,7 @@ pub record Returned (A : Type 0) : Type 0 where
   pub ids : List ℕ
   pub lens : List ℕ
 
-abbrev pub returned : {A : Type 0} → A → List ℕ → List ℕ → Returned A
+abbrev pub returned : {A : Type 0} → A → (ids lens : List ℕ) → Returned A
 returned reply ids lens = record { reply = reply; ids = ids; lens = lens }
 
 -- Every promise equates what is returned with a function of what was given; so no second answer fits it.
@@ -30,18 +30,18 @@ NoSecondAnswer A =
     (promised : Returned A) (r s : A) (ids lens ids′ lens′ : List ℕ)
     → returned r ids lens ≡ promised → returned s ids′ lens′ ≡ promised → (r ≡ s) × (ids ≡ ids′) × (lens ≡ lens′)
 
-abbrev pub replied : ℕ → struct.Board → Reply
+abbrev pub replied : (code : ℕ) → struct.Board → Reply
 replied code b = record { code = code; board = b }
 
 -- ---- What the rules say, written in memory
 
 -- Taking a record sets one entry in each table, and a making clears both.
-abbrev pub idsAfter : Entries → List ℕ → List ℕ
+abbrev pub idsAfter : Entries → (ids : List ℕ) → List ℕ
 idsAfter kept ids = ids
 idsAfter cleared ids = replicate (length ids) 0
 idsAfter (oneSet e r) ids = set ids e (r .number)
 
-abbrev pub lensAfter : Entries → List ℕ → List ℕ
+abbrev pub lensAfter : Entries → (lens : List ℕ) → List ℕ
 lensAfter kept lens = lens
 lensAfter cleared lens = replicate (length lens) 0
 lensAfter (oneSet e r) lens = set lens e (r .bytes)
@@ -58,7 +58,7 @@ boardAfter b (takes a) next = spelt b next
 boardAfter b (sends s) next = spelt b next
 boardAfter b (bursts r) next = spelt b next
 
-abbrev pub written : struct.Board → List ℕ → List ℕ → Outcome → Returned Reply
+abbrev pub written : struct.Board → (ids lens : List ℕ) → Outcome → Returned Reply
 written b ids lens o =
     returned (replied (codeOf (o .answer)) (boardAfter b (o .answer) (o .board))) (idsAfter (o .entries) ids)
     (lensAfter (o .entries) lens)
@@ -72,5 +72,5 @@ pub record Known (b : struct.Board) (ids lens : List ℕ) : Type 0 where
   pub lens-all : length lens ≡ tableLength
 
 -- open, rename, close and record: what the rules make of the board that is read
-unfoldable pub ruled : struct.Board → List ℕ → List ℕ → Single → Returned Reply
+unfoldable pub ruled : struct.Board → (ids lens : List ℕ) → Single → Returned Reply
 ruled b ids lens x = written b ids lens (done! (view b ids lens) (one x))

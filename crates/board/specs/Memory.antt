@@ -110,7 +110,7 @@ pub record Taking : Type 0 where
   pub counts : List ℕ
   pub orders : Orders
 
-abbrev pub taking : List ℕ → Orders → Taking
+abbrev pub taking : (counts : List ℕ) → Orders → Taking
 taking counts orders = record { counts = counts; orders = orders }
 
 abbrev pub takingOf : Board → Taking

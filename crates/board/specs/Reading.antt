@@ -17,34 +17,34 @@ use Rattle.rules.specs.Spoilt.{readyNum, unspoilt}
 use Rattle.board.specs.declared.Board as struct
 
 -- the values of f at 0, 1, .., n - 1
-unfoldable pub tab : {A : Type 0} → ℕ → (ℕ → A) → List A
+unfoldable pub tab : {A : Type 0} (n : ℕ) (f : ℕ → A) → List A
 tab zero f = []
 tab (suc n) f = f 0 ∷ tab n (λ i. f (suc i))
 
 -- ---- WRITING
 
 -- the link to the first and to the last of a list of places, and to the one behind p
-abbrev pub firstLink : List ℕ → ℕ
+abbrev pub firstLink : (order : List ℕ) → ℕ
 firstLink [] = 0
 firstLink (p ∷ ps) = suc p
 
-unfoldable pub lastLink : List ℕ → ℕ
+unfoldable pub lastLink : (order : List ℕ) → ℕ
 lastLink [] = 0
 lastLink (p ∷ []) = suc p
 lastLink (p ∷ (q ∷ qs)) = lastLink (q ∷ qs)
 
-unfoldable pub behind : ℕ → List ℕ → ℕ
+unfoldable pub behind : (p : ℕ) (order : List ℕ) → ℕ
 behind p [] = 0
 behind p (q ∷ qs) = cond (eqb p q) (firstLink qs) (behind p qs)
 
 -- the slot's mark, and what is left of the slot
-abbrev pub slotLink : Option ℕ → ℕ
+abbrev pub slotLink : (slot : Option ℕ) → ℕ
 slotLink none = 0
 slotLink (some p) = suc p
 
-abbrev pub slotLeft : List Place → Option ℕ → ℕ
-slotLeft l none = 0
-slotLeft l (some p) = leftOf (getD l p freePlace .stand)
+abbrev pub slotLeft : List Place → (slot : Option ℕ) → ℕ
+slotLeft places none = 0
+slotLeft places (some p) = leftOf (getD places p freePlace .stand)
 
 unfoldable pub encode : Board.Board → struct.Board
 encode m =
@@ -70,51 +70,51 @@ encode m =
 -- ---- READING
 
 -- the record in an entry of both tables; the lane of so many records of place p, which is x
-abbrev pub recordAt : List ℕ → List ℕ → ℕ → Record
+abbrev pub recordAt : (ids lens : List ℕ) (e : ℕ) → Record
 recordAt ids lens e = record { number = getD ids e 0; bytes = getD lens e 0 }
 
-unfoldable pub laneOf : List ℕ → List ℕ → ℕ → Place → ℕ → List Record
+unfoldable pub laneOf : (ids lens : List ℕ) (p : ℕ) → Place → (count : ℕ) → List Record
 laneOf ids lens p x count = tab count (λ j. recordAt ids lens (entry p x j))
 
--- where the block of place i stands: out with an empty lane, serving with the slot's mark, else in its class's order
-unfoldable pub standBy : ℕ → ℕ → ℕ → ℕ → ℕ → Stand
-standBy i count slot left ready = cond (eqb count 0) out (cond (eqb slot (suc i)) (serving left) (queued ready))
+-- where the block of place p stands: out with an empty lane, serving with the slot's mark, else in its class's order
+unfoldable pub standBy : (p count slot left ready : ℕ) → Stand
+standBy p count slot left ready = cond (eqb count 0) out (cond (eqb slot (suc p)) (serving left) (queued ready))
 
--- place i without its lane
-unfoldable pub bareOf : struct.Board → ℕ → Place
-bareOf b i =
+-- place p without its lane
+unfoldable pub bareOf : struct.Board → (p : ℕ) → Place
+bareOf b p =
     record {
-      number = getD (b .numbers) i 0;
-      share = getD (b .shares) i 0;
-      start = getD (b .starts) i 0;
+      number = getD (b .numbers) p 0;
+      share = getD (b .shares) p 0;
+      start = getD (b .starts) p 0;
       lane = [];
-      deficit = getD (b .deficits) i 0;
-      stand = standBy i (getD (b .counts) i 0) (b .slot) (b .left .0) (getD (b .ready) i 0);
+      deficit = getD (b .deficits) p 0;
+      stand = standBy p (getD (b .counts) p 0) (b .slot) (b .left .0) (getD (b .ready) p 0);
     }
 
-unfoldable pub placeOf : struct.Board → List ℕ → List ℕ → ℕ → Place
-placeOf b ids lens i =
-    let x = bareOf b i in
+unfoldable pub placeOf : struct.Board → (ids lens : List ℕ) (p : ℕ) → Place
+placeOf b ids lens p =
+    let x = bareOf b p in
     record {
       number = x .number;
       share = x .share;
       start = x .start;
-      lane = laneOf ids lens i x (getD (b .counts) i 0);
+      lane = laneOf ids lens p x (getD (b .counts) p 0);
       deficit = x .deficit;
       stand = x .stand;
     }
 
 -- the places from the link h on, at most n of them
-unfoldable pub follow : List ℕ → ℕ → ℕ → List ℕ
+unfoldable pub follow : (next : List ℕ) (n h : ℕ) → List ℕ
 follow next zero h = []
 follow next (suc n) zero = []
 follow next (suc n) (suc p) = p ∷ follow next n (getD next p 0)
 
-abbrev pub slotBy : ℕ → Option ℕ
+abbrev pub slotBy : (link : ℕ) → Option ℕ
 slotBy zero = none
 slotBy (suc p) = some p
 
-unfoldable pub view : struct.Board → List ℕ → List ℕ → Board.Board
+unfoldable pub view : struct.Board → (ids lens : List ℕ) → Board.Board
 view b ids lens =
     record {
       largest = b .largest;
@@ -126,7 +126,7 @@ view b ids lens =
     }
 
 -- the tables hold the lanes of the board
-abbrev pub Holds : Board.Board → List ℕ → List ℕ → Type 0
+abbrev pub Holds : Board.Board → (ids lens : List ℕ) → Type 0
 Holds m ids lens = (i : ℕ) → at m i .lane ≡ laneOf ids lens i (at m i) (length (at m i .lane))
 
 -- what the arrays' types say of every value
@@ -170,10 +170,10 @@ alikeInEach a b =
     ∷ []
 
 -- the value spells a board
-unfoldable pub isSpelt : struct.Board → List ℕ → List ℕ → Bool
+unfoldable pub isSpelt : struct.Board → (ids lens : List ℕ) → Bool
 isSpelt b ids lens = every (alikeInEach (encode (view b ids lens)) b)
 
-unfoldable pub isSound : struct.Board → List ℕ → List ℕ → Bool
+unfoldable pub isSound : struct.Board → (ids lens : List ℕ) → Bool
 isSound b ids lens = isSpelt b ids lens && unspoilt (view b ids lens)
 
 -- They are what they are called.

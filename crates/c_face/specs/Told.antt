@@ -8,10 +8,10 @@ use Rattle.c_face.specs.declared.Sent.{Sent}
 use Rattle.c_face.specs.declared.Total.{Total}
 
 -- a serve's answer: its code, what was sent, and the board
-abbrev pub servedOf : ℕ → Sent → Board → Served
+abbrev pub servedOf : (code : ℕ) → Sent → Board → Served
 servedOf code s b =
     record { code = code; block = s .block; number = s .number; length = s .length; clock = s .clock; board = b }
 
 -- a burst's answer: its code, the total, and the board
-abbrev pub burstedOf : ℕ → Total → Board → Bursted
+abbrev pub burstedOf : (code : ℕ) → Total → Board → Bursted
 burstedOf code t b = burstReply (t .count) (t .bytes) code b

@@ -15,15 +15,15 @@ use Rattle.board.specs.Leaving.{Returned, written}
 -- ---- A call on any value: 3, then 2, then what the rules say
 
 -- what is lent: the tables' lengths, and the board that the value spells, or none where it spells none
-abbrev pub lent : struct.Board → List ℕ → List ℕ → Lent
+abbrev pub lent : struct.Board → (ids lens : List ℕ) → Lent
 lent b ids lens =
     let board = cond (isSpelt b ids lens) (some (view b ids lens)) none in
     record { numbers = length ids; lengths = length lens; board = board }
 
-unfoldable pub called : struct.Board → List ℕ → List ℕ → Single → Returned Reply
+unfoldable pub called : struct.Board → (ids lens : List ℕ) → Single → Returned Reply
 called b ids lens x = written b ids lens (call (lent b ids lens) (one x))
 
 -- ---- A making is lent no board; where it is refused, it gives the board of all zeros
 
-unfoldable pub made : List ℕ → List ℕ → ℕ → Returned Reply
+unfoldable pub made : (ids lens : List ℕ) (L : ℕ) → Returned Reply
 made ids lens L = written (encode (fresh 0)) ids lens (make (length ids) (length lens) L)

@@ -24,7 +24,7 @@ use Rattle.calls.specs.Contract.{calledServe, calledBurst}
 -- a call's lines of the table, from the top down: a code, and when it is given
 pub data Lines : Type 1 where
   last : Lines
-  line : ℕ → Type 0 → Lines → Lines
+  line : (code : ℕ) → Type 0 → Lines → Lines
 
 abbrev pub Iff : Type 0 → Type 0 → Type 0
 Iff A B = (A → B) × (B → A)

@@ -81,7 +81,7 @@ bytesIn [] = 0
 bytesIn (a ∷ told) = bytesOf a + bytesIn told
 
 -- the bytes that were sent in the slot that began at clock t
-unfoldable pub slotBytes : ℕ → List Answer → ℕ
+unfoldable pub slotBytes : (t : ℕ) → List Answer → ℕ
 slotBytes t [] = 0
 slotBytes t (a ∷ told) = bytesAt t a + slotBytes t told
 
@@ -174,13 +174,13 @@ story st (x ∷ xs) [] = st
 story st (x ∷ xs) (a ∷ said) = story (tells (st .closed) st x a) xs said
 
 -- the clock of the last send that is told, which is that of its slot
-abbrev pub slotAfter : Option ℕ → Answer → Option ℕ
+abbrev pub slotAfter : (last : Option ℕ) → Answer → Option ℕ
 slotAfter last (gives code) = last
 slotAfter last (takes a) = last
 slotAfter last (sends s) = some (s .clock)
 slotAfter last (bursts r) = last
 
-unfoldable pub lastSlot : Option ℕ → List Answer → Option ℕ
+unfoldable pub lastSlot : (last : Option ℕ) → List Answer → Option ℕ
 lastSlot last [] = last
 lastSlot last (a ∷ said) = lastSlot (slotAfter last a) said
 
@@ -306,7 +306,7 @@ pub data ComesToFront (st : Story) : Single → Answer → Type 0 where
   nextUp : (a : Answer) → isFor (st .number) a ≡ true → st .taken ≢ st .sent ++ recordOf a → ComesToFront st serve! a
 
 -- No answer names the block that had n first: it is followed through its renames.
-unfoldable pub Unsent : ℕ → List Single → List Answer → Type 0
+unfoldable pub Unsent : (n : ℕ) → List Single → List Answer → Type 0
 Unsent n [] said = Unit {0}
 Unsent n (x ∷ xs) [] = Unit {0}
 Unsent n (x ∷ xs) (a ∷ said) = (isFor n a ≡ false) × Unsent (numberAfter n x a) xs said
@@ -349,19 +349,19 @@ BurstSends = (L : ℕ) (given : Opening) (st : Story) (last : Option ℕ) (s f g
 -- ---- Slots, as the answers tell them: a send begins a slot if its clock is not that of the send before it, of
 -- whichever block
 
-abbrev pub isNew : Option ℕ → ℕ → Bool
-isNew none t = true
-isNew (some u) t = not (eqb u t)
+abbrev pub isNew : (last : Option ℕ) (clock : ℕ) → Bool
+isNew none clock = true
+isNew (some last) clock = not (eqb last clock)
 
 -- the answer tells that a slot of the block that has n begins; at a clock from lo up to, but not at, hi
-abbrev pub beginsSlot : ℕ → Option ℕ → Answer → Bool
+abbrev pub beginsSlot : (n : ℕ) (last : Option ℕ) → Answer → Bool
 beginsSlot n last a = isNew last (clockOf a) && isFor n a
 
-abbrev pub beginsIn : ℕ → ℕ → ℕ → Option ℕ → Answer → Bool
+abbrev pub beginsIn : (lo hi n : ℕ) (last : Option ℕ) → Answer → Bool
 beginsIn lo hi n last a = beginsSlot n last a && leb lo (clockOf a) && ltb (clockOf a) hi
 
 -- how many slots of the block that has n first begin from lo up to hi, until it is closed
-unfoldable pub slotsIn : ℕ → ℕ → ℕ → Option ℕ → List Single → List Answer → ℕ
+unfoldable pub slotsIn : (lo hi n : ℕ) (last : Option ℕ) → List Single → List Answer → ℕ
 slotsIn lo hi n last [] said = 0
 slotsIn lo hi n last (x ∷ xs) [] = 0
 slotsIn lo hi n last (x ∷ xs) (a ∷ said) =

@@ -23,7 +23,7 @@ pub record Memory : Type 0 where
   pub lens : List ℕ
   pub sent : ℕ
 
-abbrev pub memory : struct.Board → List ℕ → List ℕ → ℕ → Memory
+abbrev pub memory : struct.Board → (ids lens : List ℕ) (sent : ℕ) → Memory
 memory board ids lens sent = record { board = board; ids = ids; lens = lens; sent = sent }
 
 -- as the listing's definition reads it

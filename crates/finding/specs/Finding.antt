@@ -10,22 +10,22 @@ use Rattle.finding.specs.declared.Found.{Found}
 use Rattle.finding.specs.declared.Found.the-variants.{OpenAt, Unknown}
 
 -- the first place with this number, or 64
-unfoldable pub placeWith : List ℕ → ℕ → ℕ
-placeWith numbers n = least (λ i. eqb (getD numbers i 0) n) 64
+unfoldable pub placeWith : (numbers : List ℕ) (number : ℕ) → ℕ
+placeWith numbers number = least (λ i. eqb (getD numbers i 0) number) 64
 
 -- what is known of a number; a free place has number 0, which is no block's
-abbrev pub foundAt : Bool → ℕ → Found
+abbrev pub foundAt : (found : Bool) (p : ℕ) → Found
 foundAt true p = OpenAt p
 foundAt false p = Unknown
 
-unfoldable pub foundIn : List ℕ → ℕ → Found
-foundIn numbers n = foundAt (not (eqb n 0 || eqb (placeWith numbers n) 64)) (placeWith numbers n)
+unfoldable pub foundIn : (numbers : List ℕ) (number : ℕ) → Found
+foundIn numbers number = foundAt (not (eqb number 0 || eqb (placeWith numbers number) 64)) (placeWith numbers number)
 
 -- by what is known of a number
-abbrev pub byFound : {A : Type 0} → Found → (ℕ → A) → A → A
+abbrev pub byFound : {A : Type 0} → Found → (isOpen : ℕ → A) (isUnknown : A) → A
 byFound (OpenAt p) isOpen isUnknown = isOpen p
 byFound Unknown isOpen isUnknown = isUnknown
 
 -- the lowest free place, or 64
-unfoldable pub lowestFree : List ℕ → ℕ
+unfoldable pub lowestFree : (numbers : List ℕ) → ℕ
 lowestFree numbers = placeWith numbers 0

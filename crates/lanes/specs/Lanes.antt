@@ -19,7 +19,7 @@ unfoldable pub laneDepth : ℕ
 laneDepth = 32
 
 -- Place p has entries 32p to 32p+31, used as a ring.
-unfoldable pub laneFirst : ℕ → ℕ
+unfoldable pub laneFirst : (p : ℕ) → ℕ
 laneFirst p = laneDepth * p
 
 -- The j-th record from the front, counting from 0, is at 32p + (start + j) mod 32.
@@ -27,5 +27,5 @@ abbrev pub laneEntry : (p start j : ℕ) → ℕ
 laneEntry p start j = ringEntry (laneFirst p) laneDepth start j
 
 -- A send moves the start on by one, mod 32.
-abbrev pub laneOn : ℕ → ℕ
+abbrev pub laneOn : (start : ℕ) → ℕ
 laneOn start = ringOn laneDepth start

@@ -32,35 +32,35 @@ abbrev pub longWord : List ℕ
 longWord = 108 ∷ 111 ∷ 110 ∷ 103 ∷ []
 
 -- open BLOCK CODE
-unfoldable pub openLine : ℕ → ℕ → List ℕ
+unfoldable pub openLine : (block code : ℕ) → List ℕ
 openLine block code = lineOf openWord (block ∷ code ∷ [])
 
 -- close BLOCK CODE
-unfoldable pub closeLine : ℕ → ℕ → List ℕ
+unfoldable pub closeLine : (block code : ℕ) → List ℕ
 closeLine block code = lineOf closeWord (block ∷ code ∷ [])
 
 -- name OLD NEW CODE
-unfoldable pub nameLine : ℕ → ℕ → ℕ → List ℕ
+unfoldable pub nameLine : (old new code : ℕ) → List ℕ
 nameLine old new code = lineOf nameWord (old ∷ new ∷ code ∷ [])
 
 -- in RECORD CODE
-unfoldable pub inLine : ℕ → ℕ → List ℕ
+unfoldable pub inLine : (number code : ℕ) → List ℕ
 inLine number code = lineOf inWord (number ∷ code ∷ [])
 
 -- out BLOCK RECORD LENGTH CLOCK
-unfoldable pub outLine : ℕ → ℕ → ℕ → ℕ → List ℕ
+unfoldable pub outLine : (block number length clock : ℕ) → List ℕ
 outLine block number length clock = lineOf outWord (block ∷ number ∷ length ∷ clock ∷ [])
 
 -- A refused serve is out - CODE.
-unfoldable pub refusedLine : ℕ → List ℕ
+unfoldable pub refusedLine : (code : ℕ) → List ℕ
 refusedLine code = lineOf refusedWord (code ∷ [])
 
 -- end CLOCK BYTES WAITING
-unfoldable pub endLine : ℕ → ℕ → ℕ → List ℕ
+unfoldable pub endLine : (clock bytes waiting : ℕ) → List ℕ
 endLine clock bytes waiting = lineOf endWord (clock ∷ bytes ∷ waiting ∷ [])
 
 -- broken OFFSET
-unfoldable pub brokenLine : ℕ → List ℕ
+unfoldable pub brokenLine : (offset : ℕ) → List ℕ
 brokenLine offset = lineOf brokenWord (offset ∷ [])
 
 -- long

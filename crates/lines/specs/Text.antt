@@ -8,13 +8,13 @@ use lib.Dec.{ltb}
 use lib.ListN.{length, take, drop}
 use lib.Seq.{sets}
 
--- Numbers are decimal with no zero in front: the last digits of n, of which there are at most f.
-unfoldable pub decimalIn : ℕ → ℕ → List ℕ
+-- Numbers are decimal with no zero in front: the last digits of n, of which there are at most so many.
+unfoldable pub decimalIn : (most n : ℕ) → List ℕ
 decimalIn zero n = []
-decimalIn (suc f) n = cond (ltb n 10) ((48 + n % 10) ∷ []) (decimalIn f (n / 10) ++ ((48 + n % 10) ∷ []))
+decimalIn (suc most) n = cond (ltb n 10) ((48 + n % 10) ∷ []) (decimalIn most (n / 10) ++ ((48 + n % 10) ∷ []))
 
 -- A number has no more digits than one more than itself.
-unfoldable pub decimal : ℕ → List ℕ
+unfoldable pub decimal : (n : ℕ) → List ℕ
 decimal n = decimalIn (suc n) n
 
 -- Back from a text: every byte of it is a digit; none but 0 itself has a zero in front; and the number that the digits
@@ -27,12 +27,12 @@ abbrev pub Plain : List ℕ → Type 0
 Plain [] = ⊥
 Plain (d ∷ ds) = (48 < d) ⊎ ((d ≡ 48) × (ds ≡ []))
 
-unfoldable pub numberOn : ℕ → List ℕ → ℕ
+unfoldable pub numberOn : (before : ℕ) (digits : List ℕ) → ℕ
 numberOn before [] = before
 numberOn before (d ∷ ds) = numberOn (before * 10 + (d - 48)) ds
 
-abbrev pub numberOf : List ℕ → ℕ
-numberOf ds = numberOn 0 ds
+abbrev pub numberOf : (digits : List ℕ) → ℕ
+numberOf digits = numberOn 0 digits
 
 -- Each number after a space, which is byte 32.
 unfoldable pub columns : List ℕ → List ℕ
@@ -40,7 +40,7 @@ columns [] = []
 columns (n ∷ ns) = 32 ∷ (decimal n ++ columns ns)
 
 -- A line is a word and its numbers, and ends with one byte 10.
-unfoldable pub lineOf : List ℕ → List ℕ → List ℕ
+unfoldable pub lineOf : (word numbers : List ℕ) → List ℕ
 lineOf word numbers = word ++ (columns numbers ++ (10 ∷ []))
 
 -- The text stands in the list from an offset on, all else is as it was, and next is the offset after it.

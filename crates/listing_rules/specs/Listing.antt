@@ -65,7 +65,7 @@ abbrev pub waiting : Board → ℕ
 waiting b = sum (λ (x : Place). length (x .lane)) (b .places)
 
 -- the last line, with the numbers that `end` shows
-abbrev pub lastOf : ℕ → ℕ → ℕ → End → List ℕ
+abbrev pub lastOf : (clock sent waits : ℕ) → End → List ℕ
 lastOf clock sent waits whole = endLine clock sent waits
 lastOf clock sent waits (broken offset) = brokenLine offset
 lastOf clock sent waits long = longLine
@@ -79,9 +79,9 @@ linesOf p [] e = lastLine p e
 linesOf p (f ∷ fs) e = fieldLine p (f .event) ++ linesOf (played p (f .event)) fs e
 
 -- the listing of what follows an offset
-abbrev pub listingFrom : Playing → List ℕ → ℕ → Stage → List ℕ
+abbrev pub listingFrom : Playing → (log : List ℕ) (at : ℕ) → Stage → List ℕ
 listingFrom p log at stage = linesOf p (readFrom log at stage .fields) (readFrom log at stage .ends)
 
 -- THE LISTING
-unfoldable pub listingOf : List ℕ → List ℕ
+unfoldable pub listingOf : (log : List ℕ) → List ℕ
 listingOf log = linesOf unmade (readLog log .fields) (readLog log .ends)

@@ -16,26 +16,26 @@ use Rattle.log.specs.declared.Frame.{Frame}
 use Rattle.log.specs.declared.Frame.the-variants.{Framed, Cut}
 
 -- Numbers are high byte first: the number of n bytes at an offset.
-unfoldable pub numberAt : List ℕ → ℕ → ℕ → ℕ
-numberAt s at zero = 0
-numberAt s at (suc n) = numberAt s at n * 256 + getD s (at + n) 0
+unfoldable pub numberAt : (log : List ℕ) (at n : ℕ) → ℕ
+numberAt log at zero = 0
+numberAt log at (suc n) = numberAt log at n * 256 + getD log (at + n) 0
 
 -- A field: one tag byte, two length bytes (high first), the value.
-abbrev pub tagAt : List ℕ → ℕ → ℕ
-tagAt s at = getD s at 0
+abbrev pub tagAt : (log : List ℕ) (at : ℕ) → ℕ
+tagAt log at = getD log at 0
 
-abbrev pub lengthAt : List ℕ → ℕ → ℕ
-lengthAt s at = numberAt s (at + 1) 2
+abbrev pub lengthAt : (log : List ℕ) (at : ℕ) → ℕ
+lengthAt log at = numberAt log (at + 1) 2
 
 -- All the field's bytes are there; else it is cut.
-unfoldable pub isFramed : List ℕ → ℕ → Bool
-isFramed s at = leb 3 (length s - at) && leb (lengthAt s at) (length s - at - 3)
+unfoldable pub isFramed : (log : List ℕ) (at : ℕ) → Bool
+isFramed log at = leb 3 (length log - at) && leb (lengthAt log at) (length log - at - 3)
 
-unfoldable pub frameAt : List ℕ → ℕ → Frame
-frameAt s at = cond (isFramed s at) (Framed (tagAt s at) (lengthAt s at)) Cut
+unfoldable pub frameAt : (log : List ℕ) (at : ℕ) → Frame
+frameAt log at = cond (isFramed log at) (Framed (tagAt log at) (lengthAt log at)) Cut
 
 -- Tag 6, two bytes. Tag 1, eight. Tag 2, four. Tag 3, eight. Tag 4, ten. Tag 5, none.
-unfoldable pub lengthOf : ℕ → ℕ
+unfoldable pub lengthOf : (tag : ℕ) → ℕ
 lengthOf tag =
     cond (eqb tag 6) 2
     (cond (eqb tag 1) 8
@@ -49,18 +49,18 @@ abbrev pub lastTag : ℕ
 lastTag = 6
 
 -- Tags 128 to 255, any length. Another tag, or a wrong length, is none of the log's.
-unfoldable pub rightLength : ℕ → ℕ → Bool
-rightLength tag n = leb 128 tag || (leb 1 tag && (leb tag lastTag && eqb n (lengthOf tag)))
+unfoldable pub rightLength : (tag len : ℕ) → Bool
+rightLength tag len = leb 128 tag || (leb 1 tag && (leb tag lastTag && eqb len (lengthOf tag)))
 
 -- Tag 6: L. Tag 1: open, block and share. Tag 2: close. Tag 3: rename, old and new. Tag 4: record, block, number,
 -- length. Tag 5: serve once. Tags 128 to 255 are passed over.
-unfoldable pub eventOf : List ℕ → ℕ → ℕ → Event
-eventOf s tag at =
-    cond (eqb tag 6) (Largest (numberAt s at 2))
-    (cond (eqb tag 1) (Open (record { number = numberAt s at 4; share = numberAt s (at + 4) 4 }))
-    (cond (eqb tag 2) (Close (numberAt s at 4))
-    (cond (eqb tag 3) (Rename (numberAt s at 4) (numberAt s (at + 4) 4))
-    (cond (eqb tag 4) (Arrive (numberAt s at 4) (numberAt s (at + 4) 4) (numberAt s (at + 8) 2))
+unfoldable pub eventOf : (log : List ℕ) (tag at : ℕ) → Event
+eventOf log tag at =
+    cond (eqb tag 6) (Largest (numberAt log at 2))
+    (cond (eqb tag 1) (Open (record { number = numberAt log at 4; share = numberAt log (at + 4) 4 }))
+    (cond (eqb tag 2) (Close (numberAt log at 4))
+    (cond (eqb tag 3) (Rename (numberAt log at 4) (numberAt log (at + 4) 4))
+    (cond (eqb tag 4) (Arrive (numberAt log at 4) (numberAt log (at + 4) 4) (numberAt log (at + 8) 2))
     (cond (eqb tag 5) Serve
     Passed)))))
 
@@ -101,19 +101,20 @@ inTurn Passed stage = pastL stage
 
 -- A field is whole, or it ends the reading: a cut field, another tag or a wrong length, a missing or second L or one
 -- outside its range.
-unfoldable pub isWhole : List ℕ → ℕ → Stage → Bool
-isWhole s at stage =
+unfoldable pub isWhole : (log : List ℕ) (at : ℕ) → Stage → Bool
+isWhole log at stage =
     every
-    (isFramed s at
-    ∷ rightLength (tagAt s at) (lengthAt s at)
-    ∷ inTurn (eventOf s (tagAt s at) (at + 3)) stage
+    (isFramed log at
+    ∷ rightLength (tagAt log at) (lengthAt log at)
+    ∷ inTurn (eventOf log (tagAt log at) (at + 3)) stage
     ∷ [])
 
 -- The log goes on with a whole field. The broken offset is that of the field's first byte.
-unfoldable pub fieldAt : List ℕ → ℕ → Stage → Next
-fieldAt s at stage =
-    cond (isWhole s at stage) (GoesOn (eventOf s (tagAt s at) (at + 3)) (at + 3 + lengthAt s at)) (Ends (broken at))
+unfoldable pub fieldAt : (log : List ℕ) (at : ℕ) → Stage → Next
+fieldAt log at stage =
+    cond (isWhole log at stage) (GoesOn (eventOf log (tagAt log at) (at + 3)) (at + 3 + lengthAt log at))
+    (Ends (broken at))
 
 -- A log over 32,768 bytes gives the one line `long`.
-unfoldable pub isLong : ℕ → Bool
-isLong n = ltb 32768 n
+unfoldable pub isLong : (len : ℕ) → Bool
+isLong len = ltb 32768 len

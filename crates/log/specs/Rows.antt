@@ -32,16 +32,16 @@ abbrev pub andThen : WholeField → Reading → Reading
 andThen f r = record { fields = f ∷ r .fields; ends = r .ends }
 
 -- The log ends whole where its last field ends, and only after L: an empty log has no L.
-unfoldable pub atEnd : List ℕ → ℕ → Stage → Bool
-atEnd s at stage = pastL stage && eqb at (length s)
+unfoldable pub atEnd : (log : List ℕ) (at : ℕ) → Stage → Bool
+atEnd log at stage = pastL stage && eqb at (length log)
 
 -- THE END OF A LOG: whether it ends at an offset, in a stage, and how; or else the field there. A log over 32,768 bytes
 -- is long wherever this is asked. No other definition asks how a log ends, or for its whole length.
-unfoldable pub nextAt : List ℕ → ℕ → Stage → Next
-nextAt s at stage =
-    cond (isLong (length s)) (Ends long)
-    (cond (atEnd s at stage) (Ends whole)
-    (fieldAt s at stage))
+unfoldable pub nextAt : (log : List ℕ) (at : ℕ) → Stage → Next
+nextAt log at stage =
+    cond (isLong (length log)) (Ends long)
+    (cond (atEnd log at stage) (Ends whole)
+    (fieldAt log at stage))
 
 -- That is the end of a long log.
 abbrev pub endsLong : Next → Bool
@@ -51,41 +51,41 @@ endsLong (Ends (broken n)) = false
 endsLong (Ends long) = true
 
 -- A whole field is followed by the reading from its end, in the stage after it.
-abbrev pub follow : (ℕ → Stage → Reading) → ℕ → Stage → Next → Reading
+abbrev pub follow : (rest : ℕ → Stage → Reading) (at : ℕ) → Stage → Next → Reading
 follow rest at stage (GoesOn e next) =
     andThen (record { offset = at; event = e; next = next }) (rest next (stageAfter stage e))
 follow rest at stage (Ends e) = only e
 
 -- The reading from an offset on, of at most n fields and the end.
-unfoldable pub readUpTo : ℕ → List ℕ → ℕ → Stage → Reading
-readUpTo zero s at stage = only (broken at)
-readUpTo (suc n) s at stage = follow (readUpTo n s) at stage (nextAt s at stage)
+unfoldable pub readUpTo : (n : ℕ) (log : List ℕ) (at : ℕ) → Stage → Reading
+readUpTo zero log at stage = only (broken at)
+readUpTo (suc n) log at stage = follow (readUpTo n log) at stage (nextAt log at stage)
 
 -- A log has fewer fields than bytes.
-unfoldable pub readFrom : List ℕ → ℕ → Stage → Reading
-readFrom s at stage = readUpTo (suc (length s)) s at stage
+unfoldable pub readFrom : (log : List ℕ) (at : ℕ) → Stage → Reading
+readFrom log at stage = readUpTo (suc (length log)) log at stage
 
-unfoldable pub readLog : List ℕ → Reading
-readLog s = readFrom s 0 BeforeL
+unfoldable pub readLog : (log : List ℕ) → Reading
+readLog log = readFrom log 0 BeforeL
 
 -- The same without a count, as what holds of a reading: these fields with this end are the log's from an offset on.
-abbrev pub Reads : List ℕ → ℕ → Stage → List WholeField → End → Type 0
-Reads s at stage [] e = nextAt s at stage ≡ Ends e
-Reads s at stage (f ∷ fs) e =
+abbrev pub Reads : (log : List ℕ) (at : ℕ) → Stage → List WholeField → End → Type 0
+Reads log at stage [] e = nextAt log at stage ≡ Ends e
+Reads log at stage (f ∷ fs) e =
     (f .offset ≡ at)
-    × ((nextAt s at stage ≡ GoesOn (f .event) (f .next))
-    × Reads s (f .next) (stageAfter stage (f .event)) fs e)
+    × ((nextAt log at stage ≡ GoesOn (f .event) (f .next))
+    × Reads log (f .next) (stageAfter stage (f .event)) fs e)
 
-abbrev pub IsReading : List ℕ → Reading → Type 0
-IsReading s r = Reads s 0 BeforeL (r .fields) (r .ends)
+abbrev pub IsReading : (log : List ℕ) → Reading → Type 0
+IsReading log r = Reads log 0 BeforeL (r .fields) (r .ends)
 
 -- Each field begins where the one before ended, and has bytes of its own.
-abbrev pub InRow : ℕ → List WholeField → Type 0
+abbrev pub InRow : (at : ℕ) → List WholeField → Type 0
 InRow at [] = Unit {0}
 InRow at (f ∷ fs) = (f .offset ≡ at) × ((at < f .next) × InRow (f .next) fs)
 
 -- The offset after the last of the fields.
-abbrev pub endOf : ℕ → List WholeField → ℕ
+abbrev pub endOf : (at : ℕ) → List WholeField → ℕ
 endOf at [] = at
 endOf at (f ∷ fs) = endOf (f .next) fs
 

@@ -11,9 +11,9 @@ use Rattle.log.specs.declared.Event.{Event}
 use Rattle.log.specs.declared.Event.the-variants.{Largest, Open, Close, Rename, Arrive, Serve, Passed}
 
 -- The number in a width of bytes, high byte first.
-unfoldable pub bytesOf : ℕ → ℕ → List ℕ
-bytesOf zero x = []
-bytesOf (suc w) x = bytesOf w (x / 256) ++ (x % 256 ∷ [])
+unfoldable pub bytesOf : (width number : ℕ) → List ℕ
+bytesOf zero number = []
+bytesOf (suc width) number = bytesOf width (number / 256) ++ (number % 256 ∷ [])
 
 -- A number of a value, and how many bytes it has.
 pub record Operand : Type 0 where
@@ -21,8 +21,8 @@ pub record Operand : Type 0 where
   pub number : ℕ
 
 infix 70 _in-bytes_
-abbrev pub _in-bytes_ : ℕ → ℕ → Operand
-_in-bytes_ x w = record { width = w; number = x }
+abbrev pub _in-bytes_ : (number width : ℕ) → Operand
+_in-bytes_ number width = record { width = width; number = number }
 
 -- The numbers of each event, in the order of the value's bytes.
 abbrev pub operandsOf : Event → List Operand
@@ -49,20 +49,20 @@ InWidth [] = Unit {0}
 InWidth (o ∷ os) = (o .number < 256 ^ o .width) × InWidth os
 
 -- One tag byte, two length bytes, the value.
-unfoldable pub fieldOf : ℕ → List ℕ → List ℕ
+unfoldable pub fieldOf : (tag : ℕ) (value : List ℕ) → List ℕ
 fieldOf tag value = tag ∷ (bytesOf 2 (length value) ++ value)
 
 -- The value of the field at an offset of a log.
-abbrev pub valueAt : List ℕ → ℕ → List ℕ
-valueAt s at = take (lengthAt s at) (drop (at + 3) s)
+abbrev pub valueAt : (log : List ℕ) (at : ℕ) → List ℕ
+valueAt log at = take (lengthAt log at) (drop (at + 3) log)
 
-abbrev pub SaysIf : Bool → Event → ℕ → List ℕ → Type 0
+abbrev pub SaysIf : (passed : Bool) → Event → (tag : ℕ) (value : List ℕ) → Type 0
 SaysIf true e tag value = ((128 ≤ tag) × (tag < 256)) × (length value < 65536)
 SaysIf false e tag value = (tag ≡ tagOf e) × ((value ≡ valueOf (operandsOf e)) × InWidth (operandsOf e))
 
 -- A field of this tag and value says this event. One that is passed over may have any value that its two length bytes
 -- can count.
-abbrev pub Says : Event → ℕ → List ℕ → Type 0
+abbrev pub Says : Event → (tag : ℕ) (value : List ℕ) → Type 0
 Says e tag value = SaysIf (isPassed e) e tag value
 
 -- Every number of the list is a byte.
@@ -90,7 +90,7 @@ AllInTurn stage [] = pastL stage ≡ true
 AllInTurn stage (x ∷ xs) = (inTurn (x .event) stage ≡ true) × AllInTurn (stageAfter stage (x .event)) xs
 
 -- The fields with their offsets, from an offset on.
-abbrev pub withOffsets : ℕ → List Spelt → List WholeField
+abbrev pub withOffsets : (at : ℕ) → List Spelt → List WholeField
 withOffsets at [] = []
 withOffsets at (x ∷ xs) =
     let next = at + length (fieldOf (x .tag) (x .value)) in

@@ -26,23 +26,23 @@ abbrev pub readTo : State → ℕ
 readTo s = cond (pastL (s .stage)) (s .at) 0
 
 -- what of the listing is still to be written
-unfoldable pub restOf : List ℕ → State → List ℕ → List ℕ → List ℕ
+unfoldable pub restOf : (log : List ℕ) → State → (ids lens : List ℕ) → List ℕ
 restOf log s ids lens =
     let m = memory (s .board) ids lens (s .sent .0) in
     cond (pastL (s .stage)) (listingFrom (reads m) log (s .at) (s .stage)) (listingOf log)
 
 -- the same after a piece; after the last one nothing
-unfoldable pub restAfter : List ℕ → Piece → List ℕ → List ℕ → List ℕ
+unfoldable pub restAfter : (log : List ℕ) → Piece → (ids lens : List ℕ) → List ℕ
 restAfter log r ids lens = cond (r .over) [] (restOf log (r .state) ids lens)
 
 -- A table of another length is 3. After L, a long log, bytes sent of which there are too many for the offset, or a
 -- spoilt board is 2: no piece leaves such a state.
-abbrev pub unfit : List ℕ → State → List ℕ → List ℕ → Bool
+abbrev pub unfit : (log : List ℕ) → State → (ids lens : List ℕ) → Bool
 unfit log s ids lens =
     endsLong (nextAt log (s .at) (s .stage))
     || (ltb (s .at) (s .sent .0 / 65536) || not (isSound (s .board) ids lens))
 
-unfoldable pub pieceCode : List ℕ → State → List ℕ → List ℕ → ℕ
+unfoldable pub pieceCode : (log : List ℕ) → State → (ids lens : List ℕ) → ℕ
 pieceCode log s ids lens =
     cond (wrongTables (length ids) (length lens)) 3 (cond (pastL (s .stage)) (cond (unfit log s ids lens) 2 0) 0)
 
@@ -54,11 +54,11 @@ pub record CanGoOn (log : List ℕ) (s : State) (ids lens : List ℕ) : Type 0 w
   pub good : KnownMemory (memory (s .board) ids lens (s .sent .0))
 
 -- A refusal writes nothing and gives the state back.
-abbrev pub refusedPiece : ℕ → State → Piece
+abbrev pub refusedPiece : (code : ℕ) → State → Piece
 refusedPiece code s = record { code = code; used = 0; over = true; state = s }
 
 -- the last piece
-abbrev pub endedPiece : ℕ → State → Piece
+abbrev pub endedPiece : (used : ℕ) → State → Piece
 endedPiece used s = record { code = 0; used = used; over = true; state = s }
 
 -- what a piece that is not refused does
@@ -82,7 +82,7 @@ pub record PieceOf (log : List ℕ) (s : State) (ids lens out : List ℕ) (r : P
 -- ---- The whole listing
 
 -- Pieces one after the other, each given what the one before left, up to the last; what they wrote, joined.
-pub data Pieces (log : List ℕ) : State → List ℕ → List ℕ → List ℕ → Type 0 where
+pub data Pieces (log : List ℕ) : State → (ids lens written : List ℕ) → Type 0 where
   last : {s : State} {ids lens : List ℕ} (out : List ℕ) (r : Piece) (ids′ lens′ out′ : List ℕ)
       → PieceOf log s ids lens out r ids′ lens′ out′ → r .over ≡ true → Pieces log s ids lens (take (r .used) out′)
   more : {s : State} {ids lens written : List ℕ} (out : List ℕ) (r : Piece) (ids′ lens′ out′ : List ℕ)

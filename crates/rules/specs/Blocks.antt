@@ -53,14 +53,14 @@ unfoldable pub openBlock : Board → Opening → Turn
 openBlock b o = guarded b (openChecks b o) (record { out = done; next = goOn b (freeAt b) (opened o) })
 
 -- Rename changes the number only. Lane, share, order, deficit and an open slot stay.
-abbrev pub renamed : ℕ → Place → Place
-renamed n x =
-    record { number = n; share = x .share; start = x .start; lane = x .lane; deficit = x .deficit; stand = x .stand }
+abbrev pub renamed : (new : ℕ) → Place → Place
+renamed new x =
+    record { number = new; share = x .share; start = x .start; lane = x .lane; deficit = x .deficit; stand = x .stand }
 
 abbrev pub renameChecks : Board → (old new : ℕ) → List Check
 renameChecks b old new = check 4 (numberOutside new) ∷ check 6 (noneHas b old) ∷ check 5 (someHas b new) ∷ []
 
-unfoldable pub renameBlock : Board → ℕ → ℕ → Turn
+unfoldable pub renameBlock : Board → (old new : ℕ) → Turn
 renameBlock b old new =
     let p = whereIs b old in
     guarded b (renameChecks b old new) (record { out = done; next = goOn b p (renamed new (at b p)) })
@@ -72,7 +72,7 @@ quiet b = isNone (b .slot) && isNone (leastReady (b .places))
 -- Close needs an empty lane. The place is free at once. The share is held with its class's, unless none waits.
 -- Held shares of one class all go at the same clock, the next start of the class above the present one, so one number a
 -- class is enough.
-unfoldable pub closed : Board → ℕ → Board
+unfoldable pub closed : Board → (p : ℕ) → Board
 closed b p =
     record {
       largest = b .largest;
@@ -85,8 +85,8 @@ closed b p =
           (upd (b .held) (blockClass (at b p)) (b .held (blockClass (at b p)) + at b p .share));
     }
 
-abbrev pub closeChecks : Board → (n : ℕ) → List Check
-closeChecks b n = check 6 (noneHas b n) ∷ check 10 (waits (at b (whereIs b n))) ∷ []
+abbrev pub closeChecks : Board → (block : ℕ) → List Check
+closeChecks b block = check 6 (noneHas b block) ∷ check 10 (waits (at b (whereIs b block))) ∷ []
 
-unfoldable pub closeBlock : Board → ℕ → Turn
-closeBlock b n = guarded b (closeChecks b n) (record { out = done; next = closed b (whereIs b n) })
+unfoldable pub closeBlock : Board → (block : ℕ) → Turn
+closeBlock b block = guarded b (closeChecks b block) (record { out = done; next = closed b (whereIs b block) })

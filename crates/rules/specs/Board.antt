@@ -33,8 +33,8 @@ charge x = charged (x .bytes)
 -- many parts left.
 pub data Stand : Type 0 where
   out : Stand
-  queued : ℕ → Stand
-  serving : ℕ → Stand
+  queued : (ready : ℕ) → Stand
+  serving : (left : ℕ) → Stand
 
 -- A place: the block's number and share, the ring's start, the lane from its front on, the deficit in parts, where the
 -- block stands.
@@ -64,7 +64,7 @@ pub record Board : Type 0 where
   pub slot : Option ℕ
   pub held : ℕ → ℕ
 
-abbrev pub at : Board → ℕ → Place
+abbrev pub at : Board → (p : ℕ) → Place
 at b p = getD (b .places) p freePlace
 
 -- Classes run from 0 to 16: no order and no held share stands above.
@@ -78,11 +78,11 @@ pub record Seventeen (b : Board) : Type 0 where
 abbrev pub depth : Place → ℕ
 depth x = laneDepth
 
-abbrev pub firstEntry : ℕ → Place → ℕ
+abbrev pub firstEntry : (p : ℕ) → Place → ℕ
 firstEntry p x = laneFirst p
 
 -- The j-th record from the front, counting from 0, is at 32p + (start + j) mod 32.
-unfoldable pub entry : ℕ → Place → ℕ → ℕ
+unfoldable pub entry : (p : ℕ) → Place → (j : ℕ) → ℕ
 entry p x j = ringEntry (firstEntry p x) (depth x) (x .start) j
 
 -- A send moves the start on by one, mod 32.
@@ -118,24 +118,24 @@ someWait [] = false
 someWait (x ∷ xs) = waits x || someWait xs
 
 -- A class is active if one of its blocks waits, an open slot's included.
-unfoldable pub anyWaits : ℕ → List Place → Bool
+unfoldable pub anyWaits : (k : ℕ) → List Place → Bool
 anyWaits k [] = false
 anyWaits k (x ∷ xs) = (waits x && eqb k (blockClass x)) || anyWaits k xs
 
-abbrev pub active : Board → ℕ → Bool
+abbrev pub active : Board → (k : ℕ) → Bool
 active b k = anyWaits k (b .places)
 
 -- A block in an order is pending if its ready time is at most the clock; a class is pending if a block in its order is.
-abbrev pub dueBy : ℕ → Stand → Bool
-dueBy t out = false
-dueBy t (queued ready) = leb ready t
-dueBy t (serving left) = false
+abbrev pub dueBy : (clock : ℕ) → Stand → Bool
+dueBy clock out = false
+dueBy clock (queued ready) = leb ready clock
+dueBy clock (serving left) = false
 
-unfoldable pub anyDue : List Place → ℕ → List ℕ → Bool
-anyDue l t [] = false
-anyDue l t (p ∷ ps) = dueBy t (getD l p freePlace .stand) || anyDue l t ps
+unfoldable pub anyDue : List Place → (clock : ℕ) (order : List ℕ) → Bool
+anyDue places clock [] = false
+anyDue places clock (p ∷ ps) = dueBy clock (getD places p freePlace .stand) || anyDue places clock ps
 
-abbrev pub pending : Board → ℕ → Bool
+abbrev pub pending : Board → (k : ℕ) → Bool
 pending b k = anyDue (b .places) (b .clock) (b .orders k)
 
 -- Free share = 65,536 - shares of open blocks - held shares.
@@ -146,6 +146,6 @@ abbrev pub freeShare : Board → ℕ
 freeShare b = 65536 - spent b
 
 -- ---- A fresh board: every place free, clock 0, that L.
-unfoldable pub fresh : ℕ → Board
+unfoldable pub fresh : (L : ℕ) → Board
 fresh L =
     record { largest = L; clock = 0; places = replicate 64 freePlace; orders = λ k. []; slot = none; held = λ j. 0 }

@@ -17,7 +17,7 @@ pub record Burst : Type 0 where
   pub next : Board
 
 -- it stops here
-abbrev pub stopped : Board → ℕ → Burst
+abbrev pub stopped : Board → (code : ℕ) → Burst
 stopped b code = record { count = 0; total = 0; code = code; numbers = []; next = b }
 
 -- one more record is sent before the rest
@@ -41,7 +41,7 @@ noRoom b (sent s) = stopped b 14
 
 -- It has room: 1 and 11; then 13 where the next record exceeds the bytes remaining; else that record is sent, and the
 -- burst goes on.
-abbrev pub withRoom : Board → ℕ → Out → Burst → Burst
+abbrev pub withRoom : Board → (bytes : ℕ) → Out → Burst → Burst
 withRoom b bytes (refused code) rest = stopped b code
 withRoom b bytes done rest = stopped b 14
 withRoom b bytes (taken a) rest = stopped b 14
@@ -55,7 +55,7 @@ chargeNext (taken a) = 0
 chargeNext (sent s) = charge (s .front)
 
 -- a number of bytes, and a list with room for so many records
-unfoldable pub burst : Board → ℕ → ℕ → Burst
+unfoldable pub burst : Board → (bytes room : ℕ) → Burst
 burst b bytes zero = noRoom b (serve b .out)
 burst b bytes (suc room) =
     let rest = burst (serve b .next) (bytes - chargeNext (serve b .out)) room in withRoom b bytes (serve b .out) rest

@@ -17,9 +17,9 @@ use Rattle.rules.specs.Spoilt.{spoilt}
 -- the single calls that may follow a making
 pub data Single : Type 0 where
   open! : Opening → Single
-  rename! : ℕ → ℕ → Single
-  close! : ℕ → Single
-  record! : ℕ → Record → Single
+  rename! : (old new : ℕ) → Single
+  close! : (block : ℕ) → Single
+  record! : (block : ℕ) → Record → Single
   serve! : Single
 
 unfoldable pub step : Board → Single → Turn
@@ -32,7 +32,7 @@ step b serve! = serve b
 -- a single call, or a burst with a number of bytes and a lent list
 pub data Call : Type 0 where
   one : Single → Call
-  burst! : ℕ → List ℕ → Call
+  burst! : (bytes : ℕ) (list : List ℕ) → Call
 
 -- ---- What the caller is told
 
@@ -55,7 +55,7 @@ pub record Bursted : Type 0 where
 
 -- A refusal returns its code and no other number.
 pub data Answer : Type 0 where
-  gives : ℕ → Answer
+  gives : (code : ℕ) → Answer
   takes : Took → Answer
   sends : Sent → Answer
   bursts : Bursted → Answer
@@ -87,7 +87,7 @@ pub record Lent : Type 0 where
 pub data Entries : Type 0 where
   kept : Entries
   cleared : Entries
-  oneSet : ℕ → Record → Entries
+  oneSet : (entry : ℕ) → Record → Entries
 
 -- a call's lent list is empty but for a burst's
 pub record Outcome : Type 0 where
@@ -101,7 +101,7 @@ listOf (one x) = []
 listOf (burst! bytes list) = list
 
 -- a lent table hasn't 2,048 entries
-abbrev pub wrongTables : ℕ → ℕ → Bool
+abbrev pub wrongTables : (numbers lengths : ℕ) → Bool
 wrongTables numbers lengths = not (eqb numbers tableLength && eqb lengths tableLength)
 
 -- the entry that a taken record is written to
@@ -138,10 +138,10 @@ done! b (burst! bytes list) =
       list = burst b bytes (length list) .numbers ++ drop (length (burst b bytes (length list) .numbers)) list;
     }
 
-abbrev pub refusedBy : Lent → Call → ℕ → Outcome
+abbrev pub refusedBy : Lent → Call → (code : ℕ) → Outcome
 refusedBy lent c code = record { answer = gives code; board = lent .board; entries = kept; list = listOf c }
 
-abbrev pub unlessSpoilt : Lent → Call → Bool → Board → Outcome
+abbrev pub unlessSpoilt : Lent → Call → (spoilt : Bool) → Board → Outcome
 unlessSpoilt lent c true b = refusedBy lent c 2
 unlessSpoilt lent c false b = done! b c
 
@@ -149,7 +149,7 @@ abbrev pub byBoard : Lent → Call → Option Board → Outcome
 byBoard lent c none = refusedBy lent c 2
 byBoard lent c (some b) = unlessSpoilt lent c (spoilt b) b
 
-abbrev pub byTables : Lent → Call → Bool → Outcome
+abbrev pub byTables : Lent → Call → (wrong : Bool) → Outcome
 byTables lent c true = refusedBy lent c 3
 byTables lent c false = byBoard lent c (lent .board)
 
@@ -159,13 +159,13 @@ call lent c = byTables lent c (wrongTables (lent .numbers) (lent .lengths))
 
 -- ---- Making a board: codes 3, 4. A refused making gives the spoilt board of all zeros; a done one clears both tables.
 
-abbrev pub refusedMaking : ℕ → Outcome
+abbrev pub refusedMaking : (code : ℕ) → Outcome
 refusedMaking code = record { answer = gives code; board = some (fresh 0); entries = kept; list = [] }
 
-abbrev pub makeBy : Bool → Bool → ℕ → Outcome
+abbrev pub makeBy : (wrong outside : Bool) (L : ℕ) → Outcome
 makeBy true outside L = refusedMaking 3
 makeBy false true L = refusedMaking 4
 makeBy false false L = record { answer = gives 0; board = some (fresh L); entries = cleared; list = [] }
 
-unfoldable pub make : ℕ → ℕ → ℕ → Outcome
+unfoldable pub make : (numbers lengths L : ℕ) → Outcome
 make numbers lengths L = makeBy (wrongTables numbers lengths) (not (leb 64 L && leb L 2048)) L

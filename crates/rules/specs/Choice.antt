@@ -32,7 +32,7 @@ pub record Sending : Type 0 where
 
 pub data Out : Type 0 where
   -- refused, with this code
-  refused : ℕ → Out
+  refused : (code : ℕ) → Out
   done : Out
   taken : Taken → Out
   sent : Sending → Out
@@ -42,7 +42,7 @@ pub record Turn : Type 0 where
   pub next : Board
 
 -- A refusal leaves the board as it was.
-abbrev pub refuse : Board → ℕ → Turn
+abbrev pub refuse : Board → (code : ℕ) → Turn
 refuse b code = record { out = refused code; next = b }
 
 -- A line of the table: a code, and whether its condition holds.
@@ -50,7 +50,7 @@ pub record Check : Type 0 where
   pub code : ℕ
   pub holds : Bool
 
-abbrev pub check : (code : ℕ) → Bool → Check
+abbrev pub check : (code : ℕ) (holds : Bool) → Check
 check code holds = record { code = code; holds = holds }
 
 -- Checks go down the table: the first that holds refuses with its code; where none holds the turn is done.
@@ -61,45 +61,45 @@ guarded b (c ∷ cs) t = cond (c .holds) (refuse b (c .code)) (guarded b cs t)
 -- ---- The open block with a number: what each caller does with an open number and with an unknown one
 
 pub data Found : Type 0 where
-  openAt : ℕ → Found
+  openAt : (p : ℕ) → Found
   unknown : Found
 
-unfoldable pub whereIs : Board → ℕ → ℕ
-whereIs b n = least (λ p. isOpen (at b p) && eqb n (at b p .number)) 64
+unfoldable pub whereIs : Board → (block : ℕ) → ℕ
+whereIs b block = least (λ p. isOpen (at b p) && eqb block (at b p .number)) 64
 
 -- an open block has the number (of a rename's new number: itself included)
-abbrev pub someHas : Board → (n : ℕ) → Bool
-someHas b n = ltb (whereIs b n) 64
+abbrev pub someHas : Board → (block : ℕ) → Bool
+someHas b block = ltb (whereIs b block) 64
 
-abbrev pub foundAt : Bool → ℕ → Found
+abbrev pub foundAt : (found : Bool) (p : ℕ) → Found
 foundAt true p = openAt p
 foundAt false p = unknown
 
-abbrev pub find : Board → ℕ → Found
-find b n = foundAt (someHas b n) (whereIs b n)
+abbrev pub find : Board → (block : ℕ) → Found
+find b block = foundAt (someHas b block) (whereIs b block)
 
-abbrev pub byFound : {A : Type 0} → Found → (ℕ → A) → A → A
+abbrev pub byFound : {A : Type 0} → Found → (isOpen : ℕ → A) (isUnknown : A) → A
 byFound (openAt p) isOpen isUnknown = isOpen p
 byFound unknown isOpen isUnknown = isUnknown
 
 -- ---- Conditions of the table on a number
 
 -- outside its range: any 32-bit number but 0
-abbrev pub numberOutside : (n : ℕ) → Bool
-numberOutside n = eqb n 0
+abbrev pub numberOutside : (number : ℕ) → Bool
+numberOutside number = eqb number 0
 
 -- no open block has that number
-abbrev pub noneHas : Board → (n : ℕ) → Bool
-noneHas b n = not (someHas b n)
+abbrev pub noneHas : Board → (block : ℕ) → Bool
+noneHas b block = not (someHas b block)
 
 -- ---- Small steps
 
 -- the function f, with v at k
-unfoldable pub upd : {A : Type 0} → (ℕ → A) → ℕ → A → ℕ → A
+unfoldable pub upd : {A : Type 0} (f : ℕ → A) (k : ℕ) (v : A) (j : ℕ) → A
 upd f k v j = cond (eqb j k) v (f j)
 
 -- one place of the board changed
-abbrev pub goOn : Board → ℕ → Place → Board
+abbrev pub goOn : Board → (p : ℕ) → Place → Board
 goOn b p x =
     record {
       largest = b .largest;
@@ -111,7 +111,7 @@ goOn b p x =
     }
 
 -- place p, now x, joins the end of its class's order
-abbrev pub joining : Board → ℕ → Place → Board
+abbrev pub joining : Board → (p : ℕ) → Place → Board
 joining b p x =
     record {
       largest = b .largest;
@@ -130,10 +130,10 @@ more x r = moved x (x .start) (x .lane ++ (r ∷ [])) (x .deficit) (x .stand)
 
 -- If the lane was empty, the block joins the end of its class's order, with ready time the next start of its class
 -- above the present clock.
-abbrev pub joins : ℕ → Place → Record → Place
+abbrev pub joins : (clock : ℕ) → Place → Record → Place
 joins clock x r = moved x (x .start) (r ∷ []) (x .deficit) (queued (nextStart (blockClass x) clock))
 
-unfoldable pub takenIn : Board → ℕ → Record → Board
+unfoldable pub takenIn : Board → (p : ℕ) → Record → Board
 takenIn b p r =
     cond (leb (length (at b p .lane)) 0) (joining b p (joins (b .clock) (at b p) r)) (goOn b p (more (at b p) r))
 
@@ -151,21 +151,22 @@ lengthOutside b bytes = eqb bytes 0 || ltb (b .largest) bytes
 abbrev pub laneFull : Place → Bool
 laneFull x = leb (depth x) (length (x .lane))
 
-abbrev pub recordChecks : Board → (n : ℕ) → Record → List Check
-recordChecks b n r =
-    check 4 (numberOutside n || lengthOutside b (r .bytes))
-    ∷ check 6 (noneHas b n)
-    ∷ check 9 (laneFull (at b (whereIs b n)))
+abbrev pub recordChecks : Board → (block : ℕ) → Record → List Check
+recordChecks b block r =
+    check 4 (numberOutside block || lengthOutside b (r .bytes))
+    ∷ check 6 (noneHas b block)
+    ∷ check 9 (laneFull (at b (whereIs b block)))
     ∷ []
 
-unfoldable pub takeRecord : Board → ℕ → Record → Turn
-takeRecord b n r = guarded b (recordChecks b n r) (tookAt b (whereIs b n) r)
+unfoldable pub takeRecord : Board → (block : ℕ) → Record → Turn
+takeRecord b block r = guarded b (recordChecks b block r) (tookAt b (whereIs b block) r)
 
 -- ---- 5. A slot that began at t ends
 
--- A held share goes when the clock, moving from c to d, reaches the next start of its class above c,
-unfoldable pub release : ℕ → ℕ → (ℕ → ℕ) → ℕ → ℕ
-release c d H j = cond (leb (nextStart j c) d) 0 (H j)
+-- A held share goes when the clock, moving on from one time to another, reaches the next start of its class above
+-- the first,
+unfoldable pub release : (from to : ℕ) (held : ℕ → ℕ) (k : ℕ) → ℕ
+release from to held k = cond (leb (nextStart k from) to) 0 (held k)
 
 -- the least ready time among the blocks in an order, or none
 abbrev pub readyOf : Stand → Option ℕ
@@ -187,17 +188,17 @@ isNone none = true
 isNone (some x) = false
 
 -- or when no block waits: here no slot is open, so none waits when none is in an order.
-unfoldable pub settle : List Place → (ℕ → ℕ) → ℕ → ℕ
-settle l H j = cond (isNone (leastReady l)) 0 (H j)
+unfoldable pub settle : List Place → (held : ℕ → ℕ) (k : ℕ) → ℕ
+settle places held k = cond (isNone (leastReady places)) 0 (held k)
 
--- The clock is t + 1; place p is now x, the orders o.
-unfoldable pub ended : Board → ℕ → Place → (ℕ → List ℕ) → Board
-ended b p x o =
+-- The clock is t + 1; place p is now x, and the orders are these.
+unfoldable pub ended : Board → (p : ℕ) → Place → (orders : ℕ → List ℕ) → Board
+ended b p x orders =
     record {
       largest = b .largest;
       clock = suc (b .clock);
       places = set (b .places) p x;
-      orders = o;
+      orders = orders;
       slot = none;
       held = settle (set (b .places) p x) (release (b .clock) (suc (b .clock)) (b .held));
     }
@@ -219,14 +220,14 @@ emptied x = moved x (onward x) [] 0 out
 
 -- If the new front needs more than is left, the slot ends and the deficit is what is left;
 -- its block still waits, so it joins the end of its class's order with ready time the next start above t.
-abbrev pub short : ℕ → Place → Place
+abbrev pub short : (t : ℕ) → Place → Place
 short t x = moved x (onward x) (drop 1 (x .lane)) (leftAfter x) (queued (nextStart (blockClass x) t))
 
 -- Otherwise the slot stays open.
 abbrev pub going : Place → Place
 going x = moved x (onward x) (drop 1 (x .lane)) 0 (serving (leftAfter x))
 
-unfoldable pub sendFrom : Board → ℕ → Board
+unfoldable pub sendFrom : Board → (p : ℕ) → Board
 sendFrom b p =
     cond (leb (length (at b p .lane)) 1) (ended b p (emptied (at b p)) (b .orders))
     (cond (ltb (leftAfter (at b p)) (charge (getD (drop 1 (at b p .lane)) 0 noRecord) * 65536))
@@ -241,29 +242,29 @@ abbrev pub lostAt : Place → ℕ
 lostAt x = cond (leb (length (x .lane)) 1) (leftAfter x) 0
 
 -- what a send from place p tells, on the board with its slot open
-abbrev pub sending : (began : Bool) → Board → ℕ → Sending
+abbrev pub sending : (began : Bool) → Board → (p : ℕ) → Sending
 sending began b p =
     let x = at b p in
     record { place = p; entry = entry p x 0; front = front x; clock = b .clock; began = began; lost = lostAt x }
 
-unfoldable pub send : (began : Bool) → Board → ℕ → Turn
+unfoldable pub send : (began : Bool) → Board → (p : ℕ) → Turn
 send began b p = record { out = sent (sending began b p); next = sendFrom b p }
 
 -- ---- 3. No slot is open
 
 -- The lowest class with a pending block is taken, and in it the first block of its order.
-unfoldable pub lowest : Board → ℕ → ℕ
+unfoldable pub lowest : Board → (t : ℕ) → ℕ
 lowest b t = least (λ k. anyDue (b .places) t (b .orders k)) 17
 
-abbrev pub chosen : Board → ℕ → ℕ
+abbrev pub chosen : Board → (t : ℕ) → ℕ
 chosen b t = getD (b .orders (lowest b t)) 0 0
 
 -- What is left of the slot is its deficit plus its credit; the deficit then reads 0 until the slot ends.
-abbrev pub started : ℕ → Place → Place
+abbrev pub started : (L : ℕ) → Place → Place
 started L x = moved x (x .start) (x .lane) 0 (serving (x .deficit + creditOf L (x .share)))
 
 -- Its slot begins at that clock; it leaves the order.
-unfoldable pub begin : Board → ℕ → Board
+unfoldable pub begin : Board → (t : ℕ) → Board
 begin b t =
     record {
       largest = b .largest;
@@ -280,7 +281,7 @@ beginChecks t = check 11 (leb (2 ^ 62) t) ∷ []
 
 -- If none is pending, the clock goes to the least ready time among waiting blocks: the slot begins at the later of that
 -- and the clock. Code 1 where no block waits: no slot is open, and none is in an order.
-unfoldable pub serveBy : Board → Option ℕ → Option ℕ → Turn
+unfoldable pub serveBy : Board → (slot ready : Option ℕ) → Turn
 serveBy b (some p) ready = send false b p
 serveBy b none none = refuse b 1
 serveBy b none (some ready) =

@@ -97,7 +97,7 @@ Conserved = (L : ℕ) (b : Board) → OfRun L b → (o : Opening) (after : List 
 -- ---- Demand 3
 
 -- (2^(k+1) - 1) x (3L - 1)
-abbrev pub bound : ℕ → ℕ → ℕ
+abbrev pub bound : (L k : ℕ) → ℕ
 bound L k = (2 ^ suc k - 1) * (3 * largestCharge L - 1)
 
 -- From the moment a record comes to the front of a lane of class k until it is sent, at most that many bytes of other
@@ -146,7 +146,7 @@ NeverTwice =
 
 -- ---- A burst is that many single serving calls
 
-abbrev pub serves : ℕ → List Single
+abbrev pub serves : (n : ℕ) → List Single
 serves n = replicate n serve!
 
 -- why it stopped: the single call that would follow is refused with that code; or the list is full; or the next record

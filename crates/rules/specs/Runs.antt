@@ -58,13 +58,13 @@ bytesIn b [] = 0
 bytesIn b (x ∷ xs) = bytesOf (answer b x) + bytesIn (step b x .next) xs
 
 -- the same of the slot that began at clock t
-abbrev pub bytesAt : ℕ → Answer → ℕ
+abbrev pub bytesAt : (t : ℕ) → Answer → ℕ
 bytesAt t (gives code) = 0
 bytesAt t (takes a) = 0
 bytesAt t (sends s) = cond (eqb (s .clock) t) (charged (s .bytes)) 0
 bytesAt t (bursts r) = 0
 
-unfoldable pub slotBytes : ℕ → Board → List Single → ℕ
+unfoldable pub slotBytes : (t : ℕ) → Board → List Single → ℕ
 slotBytes t b [] = 0
 slotBytes t b (x ∷ xs) = bytesAt t (answer b x) + slotBytes t (step b x .next) xs
 
@@ -101,7 +101,7 @@ abbrev pub isDone : Answer → Bool
 isDone a = eqb (codeOf a) 0
 
 -- the number after a call of the block that had n before it
-abbrev pub numberAfter : ℕ → Single → Answer → ℕ
+abbrev pub numberAfter : (n : ℕ) → Single → Answer → ℕ
 numberAfter n (open! o) a = n
 numberAfter n (rename! old new) a = cond (isDone a && eqb n old) new n
 numberAfter n (close! m) a = n
@@ -109,7 +109,7 @@ numberAfter n (record! m r) a = n
 numberAfter n serve! a = n
 
 -- the call closes the block that has n
-abbrev pub closes : ℕ → Single → Answer → Bool
+abbrev pub closes : (n : ℕ) → Single → Answer → Bool
 closes n (open! o) a = false
 closes n (rename! old new) a = false
 closes n (close! m) a = isDone a && eqb n m
@@ -117,30 +117,30 @@ closes n (record! m r) a = false
 closes n serve! a = false
 
 -- what the call takes in for the block that has n, and what it sends of it
-abbrev pub takenFor : ℕ → Single → Answer → List Record
+abbrev pub takenFor : (n : ℕ) → Single → Answer → List Record
 takenFor n (open! o) a = []
 takenFor n (rename! old new) a = []
 takenFor n (close! m) a = []
 takenFor n (record! m r) a = cond (isDone a && eqb n m) (r ∷ []) []
 takenFor n serve! a = []
 
-abbrev pub isFor : ℕ → Answer → Bool
+abbrev pub isFor : (n : ℕ) → Answer → Bool
 isFor n (gives code) = false
 isFor n (takes a) = false
 isFor n (sends s) = eqb n (s .block)
 isFor n (bursts r) = false
 
-abbrev pub sentFor : ℕ → Answer → List Record
+abbrev pub sentFor : (n : ℕ) → Answer → List Record
 sentFor n a = cond (isFor n a) (recordOf a) []
 
 -- the lane and the share of the open block that has n
-abbrev pub laneOf : Board → ℕ → List Record
+abbrev pub laneOf : Board → (n : ℕ) → List Record
 laneOf b n = byFound (find b n) (λ p. at b p .lane) []
 
-abbrev pub shareOf : Board → ℕ → ℕ
+abbrev pub shareOf : Board → (n : ℕ) → ℕ
 shareOf b n = byFound (find b n) (λ p. at b p .share) 0
 
-abbrev pub classAt : Board → ℕ → ℕ
+abbrev pub classAt : Board → (n : ℕ) → ℕ
 classAt b n = classOf (shareOf b n)
 
 -- the story of a block: its number now, the records taken in and those sent since its opening, and whether it is closed
@@ -150,8 +150,8 @@ pub record Story : Type 0 where
   pub sent : List Record
   pub closed : Bool
 
-abbrev pub begins : ℕ → Story
-begins n = record { number = n; taken = []; sent = []; closed = false }
+abbrev pub begins : (block : ℕ) → Story
+begins block = record { number = block; taken = []; sent = []; closed = false }
 
 abbrev pub goesOn : Story → Single → Answer → Story
 goesOn s x a =
@@ -163,7 +163,7 @@ goesOn s x a =
     }
 
 -- a closed block's story is over: the same number opened again is another block
-abbrev pub tells : Bool → Story → Single → Answer → Story
+abbrev pub tells : (closed : Bool) → Story → Single → Answer → Story
 tells true s x a = s
 tells false s x a = goesOn s x a
 
@@ -172,7 +172,7 @@ story s b [] = s
 story s b (x ∷ xs) = story (tells (s .closed) s x (answer b x)) (step b x .next) xs
 
 -- none of the calls sends from the block that has n
-unfoldable pub Unsent : ℕ → Board → List Single → Type 0
+unfoldable pub Unsent : (n : ℕ) → Board → List Single → Type 0
 Unsent n b [] = Unit {0}
 Unsent n b (x ∷ xs) = (isFor n (answer b x) ≡ false) × Unsent (numberAfter n x (answer b x)) (step b x .next) xs
 
@@ -192,15 +192,15 @@ clockOf (sends s) = s .clock
 clockOf (bursts r) = 0
 
 -- the call begins a slot of the block that has n: no slot was open, and it sends from that block
-abbrev pub beginsSlot : ℕ → Board → Single → Bool
+abbrev pub beginsSlot : (n : ℕ) → Board → Single → Bool
 beginsSlot n b x = isNone (b .slot) && isFor n (answer b x)
 
 -- it begins at a clock from lo up to, but not at, hi
-abbrev pub beginsIn : ℕ → ℕ → ℕ → Board → Single → Bool
+abbrev pub beginsIn : (lo hi n : ℕ) → Board → Single → Bool
 beginsIn lo hi n b x = beginsSlot n b x && leb lo (clockOf (answer b x)) && ltb (clockOf (answer b x)) hi
 
 -- how many slots of the block that has n the calls begin from lo up to hi, until it is closed
-unfoldable pub slotsIn : ℕ → ℕ → ℕ → Board → List Single → ℕ
+unfoldable pub slotsIn : (lo hi n : ℕ) → Board → List Single → ℕ
 slotsIn lo hi n b [] = 0
 slotsIn lo hi n b (x ∷ xs) =
     let later = slotsIn lo hi (numberAfter n x (answer b x)) (step b x .next) xs in
@@ -236,5 +236,5 @@ holds hs b [] = hs
 holds hs b (x ∷ xs) = holds (stillHeld (step b x .next) (hs ++ closing b x (answer b x))) (step b x .next) xs
 
 -- what they hold of class k
-abbrev pub heldOf : ℕ → Hold → ℕ
+abbrev pub heldOf : (k : ℕ) → Hold → ℕ
 heldOf k h = cond (eqb k (h .class)) (h .share) 0

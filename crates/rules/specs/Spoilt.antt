@@ -45,7 +45,7 @@ abbrev pub ringInRange : Place → Bool
 ringInRange x = ltb (x .start) (depth x) && leb (length (x .lane)) (depth x)
 
 -- waiting lengths 1 to L
-unfoldable pub lengthsIn : ℕ → List Record → Bool
+unfoldable pub lengthsIn : (L : ℕ) → List Record → Bool
 lengthsIn L [] = true
 lengthsIn L (r ∷ rs) = (leb 1 (r .bytes) && leb (r .bytes) L) && lengthsIn L rs
 
@@ -61,7 +61,7 @@ isServing (queued ready) = false
 isServing (serving left) = true
 
 -- deficits under L bytes, and 0 for empty lanes and the open slot's block
-abbrev pub deficitInRange : ℕ → Place → Bool
+abbrev pub deficitInRange : (L : ℕ) → Place → Bool
 deficitInRange L x = ltb (x .deficit) (largestCharge L * 65536) && (isQueued (x .stand) || eqb (x .deficit) 0)
 
 -- all not in use 0: a free place
@@ -76,24 +76,24 @@ heldWhileWaiting b = not (quiet b) || allBelow 17 (λ k. eqb (b .held k) 0)
 abbrev pub standsByLane : Place → Bool
 standsByLane x = alike (waits x) (isQueued (x .stand) || isServing (x .stand)) && (not (waits x) || isOpen x)
 
-abbrev pub isAt : ℕ → Option ℕ → Bool
+abbrev pub isAt : (p : ℕ) (slot : Option ℕ) → Bool
 isAt p none = false
 isAt p (some q) = eqb p q
 
 -- how often a place stands in a list
-unfoldable pub count : ℕ → List ℕ → ℕ
+unfoldable pub count : (p : ℕ) (order : List ℕ) → ℕ
 count p [] = 0
 count p (q ∷ qs) = oneIf (eqb p q) + count p qs
 
-abbrev pub inClass : ℕ → Place → Bool
+abbrev pub inClass : (k : ℕ) → Place → Bool
 inClass k x = isQueued (x .stand) && eqb k (blockClass x)
 
-unfoldable pub allPlaces : List ℕ → Bool
+unfoldable pub allPlaces : (order : List ℕ) → Bool
 allPlaces [] = true
 allPlaces (p ∷ ps) = ltb p 64 && allPlaces ps
 
 -- the open slot is a place's
-abbrev pub slotAtPlace : Option ℕ → Bool
+abbrev pub slotAtPlace : (slot : Option ℕ) → Bool
 slotAtPlace none = true
 slotAtPlace (some p) = ltb p 64
 
@@ -110,26 +110,26 @@ readyNum out = 0
 readyNum (queued ready) = ready
 readyNum (serving left) = 0
 
-abbrev pub readyInRange : ℕ → Place → Bool
+abbrev pub readyInRange : (clock : ℕ) → Place → Bool
 readyInRange clock x =
     not (isQueued (x .stand))
     || (eqb (readyNum (x .stand) % 2 ^ blockClass x) 0 && leb (readyNum (x .stand)) (nextStart (blockClass x) clock))
 
-abbrev pub readyAt : List Place → ℕ → ℕ
-readyAt l p = readyNum (getD l p freePlace .stand)
+abbrev pub readyAt : List Place → (p : ℕ) → ℕ
+readyAt places p = readyNum (getD places p freePlace .stand)
 
-unfoldable pub neverFalling : List Place → List ℕ → Bool
-neverFalling l [] = true
-neverFalling l (p ∷ []) = true
-neverFalling l (p ∷ (q ∷ qs)) = leb (readyAt l p) (readyAt l q) && neverFalling l (q ∷ qs)
+unfoldable pub neverFalling : List Place → (order : List ℕ) → Bool
+neverFalling places [] = true
+neverFalling places (p ∷ []) = true
+neverFalling places (p ∷ (q ∷ qs)) = leb (readyAt places p) (readyAt places q) && neverFalling places (q ∷ qs)
 
 -- an open slot's block waits, its front fits what is left, that is under 3L bytes, and the slot's clock is below 2^62
-abbrev pub slotOf : ℕ → Place → Stand → Bool
+abbrev pub slotOf : (L : ℕ) → Place → Stand → Bool
 slotOf L x out = true
 slotOf L x (queued ready) = true
 slotOf L x (serving left) = waits x && (leb (charge (front x) * 65536) left && ltb left (3 * largestCharge L * 65536))
 
-abbrev pub slotInTime : Option ℕ → ℕ → Bool
+abbrev pub slotInTime : (slot : Option ℕ) (clock : ℕ) → Bool
 slotInTime none clock = true
 slotInTime (some p) clock = ltb clock (2 ^ 62)
 

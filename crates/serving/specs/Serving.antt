@@ -20,7 +20,7 @@ use Rattle.serving.specs.declared.Step.{Step}
 
 -- ---- The front record is sent
 
-unfoldable pub sentFrom : List ℕ → List ℕ → ℕ → Engine → Engine
+unfoldable pub sentFrom : (shares lens : List ℕ) (place : ℕ) → Engine → Engine
 sentFrom shares lens place e =
     let start = getD (e .starts) place 0 in
     let count = getD (e .counts) place 0 - 1 in
@@ -44,7 +44,7 @@ sentFrom shares lens place e =
     (record { starts = starts; counts = counts; queues = waiting .queues; now = waiting .now }))
 
 -- what is left of the slot where the lane empties, which is lost
-unfoldable pub lostFrom : List ℕ → ℕ → Engine → ℕ
+unfoldable pub lostFrom : (lens : List ℕ) (place : ℕ) → Engine → ℕ
 lostFrom lens place e =
     let rest = e .now .left .0 - chargeOf (getD lens (laneEntry place (getD (e .starts) place 0) 0) 0) in
     cond (eqb (getD (e .counts) place 0 - 1) 0) rest 0
@@ -59,7 +59,7 @@ pub record CanSend (shares lens : List ℕ) (place : ℕ) (e : Engine) : Type 0 
   pub time : e .now .clock < 2 ^ 62
   pub fits : chargeOf (getD lens (laneEntry place (getD (e .starts) place 0) 0) 0) ≤ e .now .left .0
 
-unfoldable pub enacted : List ℕ → List ℕ → ℕ → ℕ → ℕ → Engine → Engine
+unfoldable pub enacted : (shares lens : List ℕ) (largest place time : ℕ) → Engine → Engine
 enacted shares lens largest place time e = sentFrom shares lens place (opened shares largest place time e)
 
 -- where no slot is open one can begin; and the slot that serves can send
@@ -75,7 +75,7 @@ pub record Within : Type 0 where
   pub counts : List ℕ
   pub queues : Queues
 
-abbrev pub withinNow : Step → List ℕ → List ℕ → List ℕ → List ℕ → List ℕ → List ℕ → List ℕ → List ℕ → Within
+abbrev pub withinNow : Step → (starts counts deficits ready next heads tails held : List ℕ) → Within
 withinNow step starts counts deficits ready next heads tails held =
     record { step = step; starts = starts; counts = counts; queues = queuesNow deficits ready next heads tails held }
 
@@ -96,7 +96,7 @@ pub record Told : Type 0 where
 abbrev pub untold : Told
 untold = record { place = 0; entry = 0; bytes = 0; clock = 0; began = false; lost = 0 }
 
-abbrev pub stepOf : ℕ → Told → After → Step
+abbrev pub stepOf : (code : ℕ) → Told → After → Step
 stepOf code t now =
     record {
       code = code;
@@ -110,15 +110,15 @@ stepOf code t now =
     }
 
 -- nothing is served
-abbrev pub stayed : ℕ → After → Step
+abbrev pub stayed : (code : ℕ) → After → Step
 stayed code now = stepOf code untold now
 
 -- a code and what is told; the rest is the engine's
-abbrev pub withinOf : ℕ → Told → Engine → Within
+abbrev pub withinOf : (code : ℕ) → Told → Engine → Within
 withinOf code t e = record { step = stepOf code t (e .now); starts = e .starts; counts = e .counts; queues = e .queues }
 
 -- the record that is sent from a place in the slot of that clock
-abbrev pub toldOf : List ℕ → List ℕ → ℕ → ℕ → ℕ → Engine → Told
+abbrev pub toldOf : (shares lens : List ℕ) (largest place time : ℕ) → Engine → Told
 toldOf shares lens largest place time e =
     let entry = laneEntry place (getD (e .starts) place 0) 0 in
     record {
@@ -131,7 +131,7 @@ toldOf shares lens largest place time e =
     }
 
 -- codes 1 and 11 as chosen; 14 without room; 13 where the record exceeds the bytes
-abbrev pub servedBy : List ℕ → List ℕ → ℕ → ℕ → ℕ → Engine → Choice → Within
+abbrev pub servedBy : (shares lens : List ℕ) (largest bytes room : ℕ) → Engine → Choice → Within
 servedBy shares lens largest bytes room e (Stop code) = withinOf code untold e
 servedBy shares lens largest bytes room e (Go place time) =
     let told = toldOf shares lens largest place time e in
@@ -139,7 +139,7 @@ servedBy shares lens largest bytes room e (Go place time) =
     (cond (ltb bytes (told .bytes)) (withinOf 13 untold e)
     (withinOf 0 told (enacted shares lens largest place time e)))
 
-unfoldable pub servedWithin : List ℕ → List ℕ → ℕ → ℕ → ℕ → Engine → Within
+unfoldable pub servedWithin : (shares lens : List ℕ) (largest bytes room : ℕ) → Engine → Within
 servedWithin shares lens largest bytes room e = servedBy shares lens largest bytes room e (choiceOf e)
 
 pub record CanServe (shares lens : List ℕ) (largest : ℕ) (e : Engine) : Type 0 where

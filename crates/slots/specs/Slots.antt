@@ -24,33 +24,33 @@ pub record Turned : Type 0 where
   pub pending : ℕ
   pub held : List ℕ
 
-abbrev pub turnedNow : ℕ → List ℕ → Turned
+abbrev pub turnedNow : (pending : ℕ) (held : List ℕ) → Turned
 turnedNow pending held = record { pending = pending; held = held }
 
 -- a start of class k is passed: its held share goes, and it is pending if its order has a block
-abbrev pub passed : ℕ → List ℕ → Turned → Turned
+abbrev pub passed : (k : ℕ) (heads : List ℕ) → Turned → Turned
 passed k heads s = turnedNow (cond (eqb (getD heads k 0) 0) (s .pending) (withBit (s .pending) k)) (set (s .held) k 0)
 
 -- n classes from class k on, up to the first of which no start is passed
-unfoldable pub turnedFrom : ℕ → ℕ → ℕ → ℕ → List ℕ → Turned → Turned
+unfoldable pub turnedFrom : (n k from to : ℕ) (heads : List ℕ) → Turned → Turned
 turnedFrom zero k from to heads s = s
 turnedFrom (suc n) k from to heads s =
     let on = turnedFrom n (k + 1) from to heads (passed k heads s) in
     cond (eqb (from / 2 ^ k) (to / 2 ^ k)) s on
 
-unfoldable pub turned : ℕ → ℕ → List ℕ → Turned → Turned
+unfoldable pub turned : (from to : ℕ) (heads : List ℕ) → Turned → Turned
 turned from to heads s = turnedFrom 17 0 from to heads s
 
 -- ---- The choice
 
 -- the lowest pending class; where none is pending, the lowest active one
-unfoldable pub chosenClass : ℕ → ℕ → ℕ
+unfoldable pub chosenClass : (active pending : ℕ) → ℕ
 chosenClass active pending = lowestBit (cond (eqb pending 0) active pending)
 
-unfoldable pub slotClock : ℕ → ℕ → ℕ → ℕ
+unfoldable pub slotClock : (clock pending k : ℕ) → ℕ
 slotClock clock pending k = cond (eqb pending 0) (nextStart k clock) clock
 
-unfoldable pub choice : ℕ → ℕ → ℕ → ℕ → List ℕ → Choice
+unfoldable pub choice : (clock active pending slot : ℕ) (heads : List ℕ) → Choice
 choice clock active pending slot heads =
     let k = chosenClass active pending in
     let time = slotClock clock pending k in
@@ -73,17 +73,17 @@ pub record Links : Type 0 where
   pub heads : List ℕ
   pub tails : List ℕ
 
-abbrev pub linksNow : List ℕ → List ℕ → List ℕ → Links
+abbrev pub linksNow : (next heads tails : List ℕ) → Links
 linksNow next heads tails = record { next = next; heads = heads; tails = tails }
 
 -- the first of class k's order leaves it
-unfoldable pub leftLinks : ℕ → ℕ → Links → Links
+unfoldable pub leftLinks : (place k : ℕ) → Links → Links
 leftLinks place k l =
     let behind = getD (l .next) place 0 in
     linksNow (set (l .next) place 0) (set (l .heads) k behind) (cond (eqb behind 0) (set (l .tails) k 0) (l .tails))
 
 -- a pending class of which one block went stays pending if the first of its order is ready
-unfoldable pub stillPending : ℕ → ℕ → ℕ → List ℕ → List ℕ → ℕ
+unfoldable pub stillPending : (set k clock : ℕ) (heads ready : List ℕ) → ℕ
 stillPending set k clock heads ready =
     let first = getD heads k 0 in
     cond (eqb first 0) (withoutBit set k) (cond (ltb clock (getD ready (first - 1) 0)) (withoutBit set k) set)
@@ -95,7 +95,7 @@ pub record Beginning : Type 0 where
 abbrev pub beginningNow : Begun → Queues → Beginning
 beginningNow begun queues = record { begun = begun; queues = queues }
 
-unfoldable pub beganAt : List ℕ → ℕ → ℕ → ℕ → ℕ → ℕ → ℕ → Queues → Beginning
+unfoldable pub beganAt : (shares : List ℕ) (largest place k time clock pending : ℕ) → Queues → Beginning
 beganAt shares largest place k time clock pending q =
     let on = turned clock time (q .heads) (turnedNow pending (q .held)) in
     let links = leftLinks place k (linksNow (q .next) (q .heads) (q .tails)) in
@@ -118,12 +118,12 @@ pub record CanBegin (shares : List ℕ) (largest place k : ℕ) (q : Queues) : T
   pub owed : getD (q .deficits) place 0 < 2 ^ 32
 
 -- the slot that serves: the open one, or one that begins
-unfoldable pub openedSlot : List ℕ → ℕ → ℕ → ℕ → ℕ → ℕ → ℕ → ℕ → Queues → Beginning
+unfoldable pub openedSlot : (shares : List ℕ) (largest place time clock pending slot left : ℕ) → Queues → Beginning
 openedSlot shares largest place time clock pending slot left q =
     cond (eqb slot 0) (beganAt shares largest place (classOf (getD shares place 0)) time clock pending q)
     (beginningNow (record { left = record { 0 = left }; pending = pending }) q)
 
-unfoldable pub opened : List ℕ → ℕ → ℕ → ℕ → Engine → Engine
+unfoldable pub opened : (shares : List ℕ) (largest place time : ℕ) → Engine → Engine
 opened shares largest place time e =
     let b =
     openedSlot shares largest place time (e .now .clock) (e .now .pending) (e .now .slot) (e .now .left .0)
@@ -138,7 +138,7 @@ opened shares largest place time e =
 -- ---- A slot ends: the clock is one more
 
 -- a class of which one block waits no more stays active if its order has a block
-unfoldable pub stillActive : ℕ → ℕ → List ℕ → ℕ
+unfoldable pub stillActive : (set k : ℕ) (heads : List ℕ) → ℕ
 stillActive set k heads = cond (eqb (getD heads k 0) 0) (withoutBit set k) set
 
 -- the lane is empty
@@ -146,10 +146,10 @@ pub record EmptyEnd : Type 0 where
   pub now : After
   pub held : List ℕ
 
-abbrev pub emptyEndNow : After → List ℕ → EmptyEnd
+abbrev pub emptyEndNow : After → (held : List ℕ) → EmptyEnd
 emptyEndNow now held = record { now = now; held = held }
 
-unfoldable pub endedEmpty : ℕ → ℕ → ℕ → ℕ → List ℕ → List ℕ → EmptyEnd
+unfoldable pub endedEmpty : (k clock active pending : ℕ) (heads held : List ℕ) → EmptyEnd
 endedEmpty k clock active pending heads held =
     let rest = stillActive active k heads in
     let on = turned clock (clock + 1) heads (turnedNow pending held) in
@@ -163,7 +163,7 @@ pub record WaitingEnd : Type 0 where
 abbrev pub waitingEndNow : After → Queues → WaitingEnd
 waitingEndNow now queues = record { now = now; queues = queues }
 
-unfoldable pub endedWaiting : ℕ → ℕ → ℕ → ℕ → ℕ → ℕ → Queues → WaitingEnd
+unfoldable pub endedWaiting : (place k rest clock active pending : ℕ) → Queues → WaitingEnd
 endedWaiting place k rest clock active pending q =
     let o = joinedOrders (ordersNow (q .next) (q .heads) (q .tails) (q .ready) active) place k (nextStart k clock) in
     let on = turned clock (clock + 1) (o .heads) (turnedNow pending (q .held)) in

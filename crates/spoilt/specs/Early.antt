@@ -8,5 +8,5 @@ use Rattle.board.specs.declared.Board as struct
 use Rattle.board.specs.Reading.{isSound}
 
 -- the code that comes before all others, or 0
-unfoldable pub earlyCode : struct.Board → List ℕ → List ℕ → ℕ
+unfoldable pub earlyCode : struct.Board → (ids lens : List ℕ) → ℕ
 earlyCode b ids lens = cond (wrongTables (length ids) (length lens)) 3 (cond (isSound b ids lens) 0 2)

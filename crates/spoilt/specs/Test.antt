@@ -17,31 +17,31 @@ use Rattle.spoilt_places.specs.Ranges.{sizeInRange, numbersApart, placesInRange
 use Rattle.spoilt_orders.specs.Walks.{ordersListed, activeAsRuled, pendingAsRuled}
 
 -- both lent tables have 2,048 entries
-abbrev pub tablesWhole : List ℕ → List ℕ → Bool
+abbrev pub tablesWhole : (ids lens : List ℕ) → Bool
 tablesWhole ids lens = eqb (length ids) tableLength && eqb (length lens) tableLength
 
 -- ---- A LANE
 
 -- waiting lengths 1 to L
-unfoldable pub lengthInRange : ℕ → ℕ → Bool
+unfoldable pub lengthInRange : (largest len : ℕ) → Bool
 lengthInRange largest len = leb 1 len && leb len largest
 
-unfoldable pub laneInRange : List ℕ → ℕ → ℕ → ℕ → ℕ → Bool
+unfoldable pub laneInRange : (lens : List ℕ) (largest p start count : ℕ) → Bool
 laneInRange lens largest p start count = allBelow count (λ j. lengthInRange largest (getD lens (laneEntry p start j) 0))
 
-unfoldable pub lanesInRange : List ℕ → ℕ → List ℕ → List ℕ → Bool
+unfoldable pub lanesInRange : (lens : List ℕ) (largest : ℕ) (starts counts : List ℕ) → Bool
 lanesInRange lens largest starts counts =
     allBelow 64 (λ p. laneInRange lens largest p (getD starts p 0) (getD counts p 0))
 
 -- ---- THE OPEN SLOT
 
 -- an open slot's block waits, its front fits what is left, that is under 3L bytes, and the slot's clock is below 2^62
-unfoldable pub slotOpen : ℕ → ℕ → ℕ → ℕ → ℕ → Bool
+unfoldable pub slotOpen : (largest clock left count len : ℕ) → Bool
 slotOpen largest clock left count len =
     not (eqb count 0) && (leb (chargeOf len) left && (ltb left (3 * chargeOf largest) && ltb clock (2 ^ 62)))
 
 -- no slot: nothing is left of it; the mark of a slot is a place's
-unfoldable pub slotInRange : List ℕ → ℕ → ℕ → ℕ → ℕ → List ℕ → List ℕ → Bool
+unfoldable pub slotInRange : (lens : List ℕ) (largest clock slot left : ℕ) (starts counts : List ℕ) → Bool
 slotInRange lens largest clock slot left starts counts =
     let p = slot - 1 in
     let front = getD lens (laneEntry p (getD starts p 0) 0) 0 in
@@ -57,7 +57,7 @@ orderRules b =
     ∷ pendingAsRuled (b .pending) (b .clock) (b .ready) (b .heads)
     ∷ []
 
-abbrev pub soundRules : Board → List ℕ → List ℕ → List Bool
+abbrev pub soundRules : Board → (ids lens : List ℕ) → List Bool
 soundRules b ids lens =
     tablesWhole ids lens
     ∷ sizeInRange (b .largest)
@@ -69,7 +69,7 @@ soundRules b ids lens =
     ∷ slotInRange lens (b .largest) (b .clock) (b .slot) (b .left .0) (b .starts) (b .counts)
     ∷ orderRules b
 
-unfoldable pub soundTest : Board → List ℕ → List ℕ → Bool
+unfoldable pub soundTest : Board → (ids lens : List ℕ) → Bool
 soundTest b ids lens = every (soundRules b ids lens)
 
 -- ---- THE LAW: with tables of 2,048 entries it is passed exactly by the values that are not spoilt.

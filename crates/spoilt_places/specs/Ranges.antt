@@ -14,13 +14,13 @@ use Rattle.board.specs.declared.Board.{Board}
 use Rattle.spoilt_places.specs.declared.PlaceNow.{PlaceNow}
 
 -- L in range
-unfoldable pub sizeInRange : ℕ → Bool
+unfoldable pub sizeInRange : (largest : ℕ) → Bool
 sizeInRange largest = leb 64 largest && leb largest 2048
 
 -- ---- A PLACE
 
 -- what the arrays of a board say of place p
-abbrev pub placeNow : Board → ℕ → PlaceNow
+abbrev pub placeNow : Board → (p : ℕ) → PlaceNow
 placeNow b p =
     record {
       number = getD (b .numbers) p 0;
@@ -33,13 +33,13 @@ placeNow b p =
     }
 
 -- open block numbers distinct: a number but 0 stands at one place only
-unfoldable pub timesFound : List ℕ → ℕ → ℕ
-timesFound numbers n = below (λ q. oneIf (eqb (getD numbers q 0) n)) 64
+unfoldable pub timesFound : (numbers : List ℕ) (number : ℕ) → ℕ
+timesFound numbers number = below (λ q. oneIf (eqb (getD numbers q 0) number)) 64
 
-unfoldable pub numberApart : List ℕ → ℕ → Bool
-numberApart numbers n = eqb n 0 || eqb (timesFound numbers n) 1
+unfoldable pub numberApart : (numbers : List ℕ) (number : ℕ) → Bool
+numberApart numbers number = eqb number 0 || eqb (timesFound numbers number) 1
 
-unfoldable pub numbersApart : List ℕ → Bool
+unfoldable pub numbersApart : (numbers : List ℕ) → Bool
 numbersApart numbers = allBelow 64 (λ p. numberApart numbers (getD numbers p 0))
 
 -- and in range
@@ -55,11 +55,11 @@ unfoldable pub ringInRange : PlaceNow → Bool
 ringInRange x = ltb (x .start) laneDepth && leb (x .count) laneDepth
 
 -- the block of place p is in its class's order: it waits, and it has not the open slot
-unfoldable pub inOrder : ℕ → ℕ → ℕ → Bool
+unfoldable pub inOrder : (p count slot : ℕ) → Bool
 inOrder p count slot = not (eqb count 0) && not (eqb slot (p + 1))
 
 -- deficits under L bytes, and 0 for empty lanes and the open slot's block
-unfoldable pub deficitInRange : ℕ → Bool → PlaceNow → Bool
+unfoldable pub deficitInRange : (largest : ℕ) (queued : Bool) → PlaceNow → Bool
 deficitInRange largest queued x = ltb (x .deficit .0) (chargeOf largest) && (queued || eqb (x .deficit .0) 0)
 
 -- all not in use 0: a free place; a ready time and a link outside an order
@@ -68,10 +68,10 @@ freeIsZero x =
     ltb 0 (x .share)
     || (eqb (x .number) 0 && (eqb (x .start) 0 && (eqb (x .count) 0 && eqb (x .deficit .0) 0)))
 
-unfoldable pub unusedIsZero : Bool → PlaceNow → Bool
+unfoldable pub unusedIsZero : (queued : Bool) → PlaceNow → Bool
 unusedIsZero queued x = queued || (eqb (x .ready) 0 && eqb (x .next) 0)
 
-abbrev pub placeRules : ℕ → ℕ → ℕ → PlaceNow → List Bool
+abbrev pub placeRules : (largest slot p : ℕ) → PlaceNow → List Bool
 placeRules largest slot p x =
     numberInRange x
     ∷ shareInRange x
@@ -81,7 +81,7 @@ placeRules largest slot p x =
     ∷ unusedIsZero (inOrder p (x .count) slot) x
     ∷ []
 
-unfoldable pub placeInRange : ℕ → ℕ → ℕ → PlaceNow → Bool
+unfoldable pub placeInRange : (largest slot p : ℕ) → PlaceNow → Bool
 placeInRange largest slot p x = every (placeRules largest slot p x)
 
 unfoldable pub placesInRange : Board → Bool
@@ -90,12 +90,12 @@ placesInRange b = allBelow 64 (λ p. placeInRange (b .largest) (b .slot) p (plac
 -- ---- SHARES
 
 -- open plus held shares at most 65,536
-unfoldable pub sharesFit : List ℕ → List ℕ → Bool
+unfoldable pub sharesFit : (shares held : List ℕ) → Bool
 sharesFit shares held = leb (totalOf shares + totalOf held) 65536
 
 -- held shares 0 if none waits: no class is active
-unfoldable pub noneHeld : List ℕ → Bool
+unfoldable pub noneHeld : (held : List ℕ) → Bool
 noneHeld held = allBelow 17 (λ k. eqb (getD held k 0) 0)
 
-unfoldable pub heldWhileWaiting : ℕ → List ℕ → Bool
+unfoldable pub heldWhileWaiting : (active : ℕ) (held : List ℕ) → Bool
 heldWhileWaiting active held = not (eqb active 0) || noneHeld held

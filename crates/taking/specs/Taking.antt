@@ -16,7 +16,7 @@ use Rattle.taking.specs.declared.Took.{Took}
 
 -- ---- JOINING
 
-unfoldable pub joinedOrders : Orders → ℕ → ℕ → ℕ → Orders
+unfoldable pub joinedOrders : Orders → (place k time : ℕ) → Orders
 joinedOrders o place k time =
     let first = eqb (getD (o .tails) k 0) 0 in
     record {
@@ -29,12 +29,12 @@ joinedOrders o place k time =
 
 -- ---- TAKING
 
--- place i has one record more
-unfoldable pub takenAt : List ℕ → ℕ → ℕ → Taking → Taking
-takenAt shares clock i t =
-    let k = classOf (getD shares i 0) in
-    taking (set (t .counts) i (getD (t .counts) i 0 + 1))
-    (cond (eqb (getD (t .counts) i 0) 0) (joinedOrders (t .orders) i k (nextStart k clock)) (t .orders))
+-- the place has one record more
+unfoldable pub takenAt : (shares : List ℕ) (clock place : ℕ) → Taking → Taking
+takenAt shares clock place t =
+    let k = classOf (getD shares place 0) in
+    taking (set (t .counts) place (getD (t .counts) place 0 + 1))
+    (cond (eqb (getD (t .counts) place 0) 0) (joinedOrders (t .orders) place k (nextStart k clock)) (t .orders))
 
 -- what the lists must have for a record to be taken at place i
 pub record TakeNeeds (shares counts tails : List ℕ) (clock i : ℕ) : Type 0 where
@@ -64,7 +64,7 @@ pub record Recording : Type 0 where
   pub ids : List ℕ
   pub lens : List ℕ
 
-abbrev pub recording : ℕ → Taken → Taking → List ℕ → List ℕ → Recording
+abbrev pub recording : (code : ℕ) → Taken → Taking → (ids lens : List ℕ) → Recording
 recording code tells t ids lens = record { code = code; tells = tells; taking = t; ids = ids; lens = lens }
 
 abbrev pub tookTells : Took → Taken
@@ -77,16 +77,16 @@ noTaken = record { place = 0; entry = 0; before = 0 }
 abbrev pub notTaken : (code active : ℕ) → Took
 notTaken code active = record { code = code; active = active; place = 0; entry = 0; before = 0 }
 
--- it comes for the block at place i, and goes to the entry behind the last record there
-abbrev pub recordedAt : Seen → ℕ → ℕ → ℕ → Taking → List ℕ → List ℕ → ℕ → Recording
-recordedAt x clock id len t ids lens i =
-    let before = getD (t .counts) i 0 in
-    let e = laneEntry i (getD (x .starts) i 0) before in
-    let tells : Taken = record { place = i; entry = e; before = before } in
+-- it comes for the block at this place, and goes to the entry behind the last record there
+abbrev pub recordedAt : Seen → (clock id len : ℕ) → Taking → (ids lens : List ℕ) (place : ℕ) → Recording
+recordedAt x clock id len t ids lens place =
+    let before = getD (t .counts) place 0 in
+    let e = laneEntry place (getD (x .starts) place 0) before in
+    let tells : Taken = record { place = place; entry = e; before = before } in
     cond (leb laneDepth before) (recording 9 noTaken t ids lens)
-    (recording 0 tells (takenAt (x .shares) clock i t) (set ids e id) (set lens e len))
+    (recording 0 tells (takenAt (x .shares) clock place t) (set ids e id) (set lens e len))
 
-unfoldable pub recordedIn : Seen → ℕ → ℕ → ℕ → ℕ → ℕ → Taking → List ℕ → List ℕ → Recording
+unfoldable pub recordedIn : Seen → (largest clock number id len : ℕ) → Taking → (ids lens : List ℕ) → Recording
 recordedIn x largest clock number id len t ids lens =
     cond (eqb number 0 || (eqb len 0 || ltb largest len)) (recording 4 noTaken t ids lens)
     (byFound (foundIn (x .numbers) number) (recordedAt x clock id len t ids lens) (recording 6 noTaken t ids lens))

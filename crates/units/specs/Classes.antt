@@ -10,13 +10,13 @@ pub record IsClass (k s : ℕ) : Type 0 where
   pub low : 2 ^ (16 - k) ≤ s
   pub high : s < 2 ^ (17 - k)
 
--- So it is the first k, from 0 on, at which s reaches 2^(16-k).
-unfoldable pub classOf : ℕ → ℕ
-classOf s = least (λ k. leb (2 ^ (16 - k)) s) 16
+-- So it is the first k, from 0 on, at which the share reaches 2^(16-k).
+unfoldable pub classOf : (share : ℕ) → ℕ
+classOf share = least (λ k. leb (2 ^ (16 - k)) share) 16
 
 -- Class k has starts at every multiple of 2^k.
-unfoldable pub Start : ℕ → ℕ → Type 0
-Start k m = (q : ℕ) × (m ≡ q * 2 ^ k)
+unfoldable pub Start : (k time : ℕ) → Type 0
+Start k time = (q : ℕ) × (time ≡ q * 2 ^ k)
 
 -- The next start above t is the smallest multiple greater than t.
 pub record IsNextStart (k t m : ℕ) : Type 0 where
@@ -24,5 +24,5 @@ pub record IsNextStart (k t m : ℕ) : Type 0 where
   pub above : t < m
   pub first : (n : ℕ) → Start k n → t < n → m ≤ n
 
-unfoldable pub nextStart : ℕ → ℕ → ℕ
-nextStart k t = (t / 2 ^ k + 1) * 2 ^ k
+unfoldable pub nextStart : (k clock : ℕ) → ℕ
+nextStart k clock = (clock / 2 ^ k + 1) * 2 ^ k

@@ -8,16 +8,16 @@ unfoldable pub framing : ℕ
 framing = 0
 
 -- the bytes that a record of this length is charged, and the largest charge on a board whose largest record is L
-unfoldable pub charged : ℕ → ℕ
+unfoldable pub charged : (len : ℕ) → ℕ
 charged len = len + framing
 
-unfoldable pub largestCharge : ℕ → ℕ
+unfoldable pub largestCharge : (L : ℕ) → ℕ
 largestCharge L = charged L
 
 -- the charge of a record, in parts
-unfoldable pub chargeOf : ℕ → ℕ
+unfoldable pub chargeOf : (len : ℕ) → ℕ
 chargeOf len = charged len * 65536
 
 -- Credit of one slot: s x 2^k x L parts, k the class of the share s.
-unfoldable pub creditOf : ℕ → ℕ → ℕ
-creditOf L s = s * 2 ^ classOf s * largestCharge L
+unfoldable pub creditOf : (L share : ℕ) → ℕ
+creditOf L share = share * 2 ^ classOf share * largestCharge L
