@@ -1,5 +1,5 @@
-// One field of a log played: what it says is done on the engine's arrays, and its line is put at the front of a buffer. The
-// board is not tested here: whoever goes from field to field tests it once, and each step leaves it good.
+// One field of a log played: what it says is done on the engine's arrays, and its line is put at the front of a buffer.
+// The board is not tested here: whoever goes from field to field tests it once, and each step leaves it good.
 ghost use mathlib.Core.Path.{_≡_};
 ghost use mathlib.Core.Bool.{false};
 ghost use Prim.Native.Nat.{_^_, _<_, _≤_};
@@ -133,8 +133,8 @@ fn play_serve(
     }
 }
 
-// One field after L: what it says is done, and its line is put at the front of the buffer. The contract names what stands
-// in memory at entry once, as `before`.
+// One field after L: what it says is done, and its line is put at the front of the buffer. The contract names what
+// stands in memory at entry once, as `before`.
 pub fn play_field(
     event: Event,
     sent: Bytes,
