@@ -13,7 +13,7 @@ use Rattle.rules.specs.Board.{Record, Stand, out, queued, serving, Place
 use Rattle.rules.specs.Choice.{whereIs}
 use Rattle.rules.specs.Runs.{play}
 use Rattle.rules.proofs.Line.{Seat, free}
-use Rattle.rules.proofs.Steps.{idle-sound}
+use Rattle.rules.proofs.Steps.{idle-in-time}
 use Rattle.rules.proofs.Orders.{Rising}
 use Rattle.rules.proofs.Shape.{free-ok, StandOk, All}
 use Rattle.rules.proofs.Good.{seatOf, seats, seat-at, Fine}
@@ -65,8 +65,8 @@ good-fresh L lo hi = record { fine = fine; one = λ p. rw (all-free 64 p) }
         listed = λ k q. rw (all-free 64 q);
         rising = λ k. tt;
       };
-      sound =
-          idle-sound (seats l) (λ j. 0) 0 0 (λ i. rw (seat i))
+      inTime =
+          idle-in-time (seats l) (λ j. 0) 0 0 (λ i. rw (seat i))
           (omega (arith, sum-zero (λ (s : Seat). s .share) free (seats l) (λ i. rw (seat i)), below-zero (λ j. 0) 17 (λ j _. refl)));
     }
 

@@ -40,7 +40,7 @@ due-ok b p g w = go (at b p .stand) refl w
     go out e v = absurd (false≢true v)
     go (queued r) e v =
         let i : isQueued (at b p .stand) ≡ true = ap isQueued e in
-        let o = seat-ok (b .places) (b .held) (b .clock) (busy (b .slot)) (g .fine .sound) p i in
+        let o = seat-ok (b .places) (b .held) (b .clock) (busy (b .slot)) (g .fine .inTime) p i in
         rw (due-queued (b .clock) (at b p .share) (at b p .stand) i) (o .start, o .soon, o .fresh)
     go (serving n) e v =
         rw (due-serving (b .clock) (at b p .share) (at b p .stand) (ap isServing e))
