@@ -11,7 +11,7 @@ use lib.Dec.{ltb}
 use lib.ListN.{length, getD, set, take, drop, length-set, take-append-drop}
 use Rattle.base.proofs.Numbers.{split}
 use Rattle.rules.specs.Board
-use Rattle.rules.specs.Board.{Record, at, charge}
+use Rattle.rules.specs.Board.{Record, at, bytesCharged}
 use Rattle.rules.specs.Choice.{Out, refused, done, taken, sent, serve}
 use Rattle.rules.specs.Burst.{Burst, stopped, sentFirst, noRoom, withRoom, chargeNext, burst}
 use Rattle.board.specs.declared.Board as struct
@@ -42,7 +42,7 @@ module _ (b : struct.Board) (ids lens : List ℕ) (known : Known b ids lens) whe
         go (inr g) = absurd (ne (g .code))
         go (inl s) = why (s .why)
           where
-            why : (serve m .out ≡ refused (w .step .code)) ⊎ ((_≡_ {A = ℕ} 1 0) ⊎ ((r : Record) × (bytes < charge r) × (charge r < 65536)))
+            why : (serve m .out ≡ refused (w .step .code)) ⊎ ((_≡_ {A = ℕ} 1 0) ⊎ ((r : Record) × (bytes < bytesCharged r) × (bytesCharged r < 65536)))
                 → notServed b (w .step .code) ≡ goodServe b ids lens
             why (inl e) = rw e
             why (inr (inl z)) = absurd (omega arith)
@@ -130,20 +130,21 @@ list-on (x ∷ xs) zero v ns h = refl
 list-on (x ∷ xs) (suc count) v ns h = ap (λ (r : List ℕ). x ∷ r) (list-on xs count v ns (omega arith))
 
 -- one record more: r is sent, next is the rules' board after it and v what is written
-sent-first : (bytes count total : ℕ) (list : List ℕ) (r : Record) → count < length list → (next m : Board.Board) (x v : ℕ) → m ≡ next → x ≡ charge r
+sent-first : (bytes count total : ℕ) (list : List ℕ) (r : Record) → count < length list → (next m : Board.Board) (x v : ℕ) → m ≡ next → x ≡ bytesCharged r
     → v ≡ r .number
-    → then count total list (sentFirst r (burst next (bytes - total - charge r) (length list - count - 1)))
+    → then count total list (sentFirst r (burst next (bytes - total - bytesCharged r) (length list - count - 1)))
     ≡ then (count + 1) (total + x) (set list count v) (burst m (bytes - (total + x)) (length (set list count v) - (count + 1)))
 sent-first bytes count total list r h next m x v m-is x-is v-is =
-    rw (m-is, x-is, v-is, length-set list count (r .number), left, room, add-one count) (more (burst next (bytes - total - charge r) (length list - count - 1)))
+    rw (m-is, x-is, v-is, length-set list count (r .number), left, room, add-one count)
+    (more (burst next (bytes - total - bytesCharged r) (length list - count - 1)))
   where
-    left : bytes - (total + charge r) ≡ bytes - total - charge r
+    left : bytes - (total + bytesCharged r) ≡ bytes - total - bytesCharged r
     left = omega arith
 
     room : length list - (count + 1) ≡ length list - count - 1
     room = omega arith
 
-    more : (rest : Burst) → then count total list (sentFirst r rest) ≡ then (suc count) (total + charge r) (set list count (r .number)) rest
+    more : (rest : Burst) → then count total list (sentFirst r rest) ≡ then (suc count) (total + bytesCharged r) (set list count (r .number)) rest
     more rest =
         λ j. burstNow (record { count = counts j; bytes = record { 0 = totals j }; code = rest .code; board = encode (rest .next) })
         (list-on list count (r .number) (rest .numbers) h j)
@@ -151,7 +152,7 @@ sent-first bytes count total list r h next m x v m-is x-is v-is =
         counts : count + suc (rest .count) ≡ suc count + rest .count
         counts = omega arith
 
-        totals : total + (charge r + rest .total) ≡ total + charge r + rest .total
+        totals : total + (bytesCharged r + rest .total) ≡ total + bytesCharged r + rest .total
         totals = omega arith
 
 module _ (b : struct.Board) (ids lens : List ℕ) (known : Known b ids lens) (bytes count total : ℕ) (list : List ℕ) (w : Within)
@@ -244,7 +245,7 @@ burst-kept (suc room) bytes m ids lens f h =
     go : (o : Out) → ByAnswer m ids lens o (serve m .next) → (Holds (serve m .next) ids lens → Fit (rest .next) × Holds (rest .next) ids lens)
         → Fit (withRoom m bytes o rest .next) × Holds (withRoom m bytes o rest .next) ids lens
     go (refused code) w k = (f, h)
-    go (sent s) w k = either (ltb bytes (charge (s .front))) (s .front) (k (w .holds))
+    go (sent s) w k = either (ltb bytes (bytesCharged (s .front))) (s .front) (k (w .holds))
 
 -- AFTER A BURST the board is not spoilt, and reads as the rules' next board
 pub burst-known : (b : struct.Board) (ids lens : List ℕ) (bytes : ℕ) (list : List ℕ) → Known b ids lens

@@ -13,7 +13,7 @@ use Rattle.units.specs.Classes.{Start, classOf, nextStart}
 use Rattle.units.specs.Credit.{framing, charged, largestCharge, creditOf}
 use Rattle.rules.specs.Board
 use Rattle.lanes.specs.Lanes.{ringEntry, ringOn, laneDepth, laneFirst}
-use Rattle.rules.specs.Board.{charge, entry, onward, someWait, anyDue, spent, fresh}
+use Rattle.rules.specs.Board.{bytesCharged, entry, onward, someWait, anyDue, spent, fresh}
 use Rattle.rules.specs.Choice.{whereIs, upd, takenIn, takeRecord, release, leastReady, settle, ended, sendFrom, send, lowest, begin, serveBy, serve}
 use Rattle.rules.specs.Blocks.{opening, freeAt, openBlock, renameBlock, quiet}
 use Rattle.rules.specs.Burst.{burst}
@@ -328,7 +328,8 @@ not11 e = omega arith
 
 computed : Computed
 unfolding worked tight filled waiting renames answersOf Runs.row saidOf story lastSlot Unsent NotSpent slotsIn bytesIn servesIn runs play Start burst least
-    nextStart classOf framing charged largestCharge creditOf sum below charge ringEntry ringOn laneDepth laneFirst entry onward someWait anyDue spent fresh
+    nextStart classOf framing charged largestCharge creditOf sum below bytesCharged ringEntry ringOn laneDepth laneFirst entry onward someWait anyDue spent
+    fresh
     whereIs upd takenIn
     takeRecord release leastReady settle ended sendFrom send lowest begin serveBy serve freeAt openBlock renameBlock quiet step
 computed = record {

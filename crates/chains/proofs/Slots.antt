@@ -10,7 +10,7 @@ use lib.ListN.{length, getD, drop}
 use Rattle.base.specs.Sums.{oneIf}
 use Rattle.base.proofs.Numbers.{eqb-yes, eqb-no}
 use Rattle.rules.specs.Board
-use Rattle.rules.specs.Board.{at, charge, noRecord, blockClass, fresh}
+use Rattle.rules.specs.Board.{at, bytesCharged, noRecord, blockClass, fresh}
 use Rattle.rules.specs.Choice.{Turn, isNone, upd, goOn, joining, joins, more, takenIn, emptied, short, going, ended, sendFrom, send, begin, chosen, leftAfter}
 use Rattle.rules.specs.Blocks.{closed}
 use Rattle.rules.specs.Calls.{Single, step, takes, told}
@@ -50,7 +50,7 @@ new-later (some u) c t h l = ap not (eqb-no u t (λ e. omega arith))
 -- after a send the slot has ended, and the clock has gone on, or it is open at the clock
 seen-sent : (b : Board.Board) (p : ℕ) → b .slot ≡ some p → Seen (some (b .clock)) (sendFrom b p)
 unfolding sendFrom ended
-seen-sent b p e = go (leb (length (at b p .lane)) 1) (ltb (leftAfter (at b p)) (charge (getD (drop 1 (at b p .lane)) 0 noRecord) * 65536))
+seen-sent b p e = go (leb (length (at b p .lane)) 1) (ltb (leftAfter (at b p)) (bytesCharged (getD (drop 1 (at b p .lane)) 0 noRecord) * 65536))
   where
     go : (t u : Bool) → Seen (some (b .clock))
         (cond t (ended b p (emptied (at b p)) (b .orders))

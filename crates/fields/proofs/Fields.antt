@@ -12,7 +12,7 @@ use borrow.Author.Tests.{eq-eqb, ne-eqb, ltb-false}
 use Rattle.units.specs.Credit.{charged}
 use Rattle.lanes.proofs.Lanes.{lane-inside}
 use Rattle.rules.specs.Board
-use Rattle.rules.specs.Board.{Record, at, charge}
+use Rattle.rules.specs.Board.{Record, at, bytesCharged}
 use Rattle.rules.specs.Choice.{refused, sent, Turn, send, serve}
 use Rattle.rules.specs.Blocks.{meant}
 use Rattle.rules.specs.Calls.{Single, open!, rename!, close!, record!, serve!, step, told, codeOf}
@@ -66,8 +66,8 @@ step-serve : (m : Board.Board) → step m serve! ≡ serve m
 unfolding step
 step-serve m = refl
 
-charge-is : (r : Record) → charge r ≡ charged (r .bytes)
-unfolding charge
+charge-is : (r : Record) → bytesCharged r ≡ charged (r .bytes)
+unfolding bytesCharged
 charge-is r = refl
 
 -- ---- What serving tells, whatever the board: a place and an entry within the arrays, and no more bytes than were allowed
@@ -238,7 +238,7 @@ module _ (s : Memory) (k : KnownMemory s) (e : Event) (before : List ℕ) (count
   serve-is = go (by-cases b (s .ids) (s .lens) k 65536 1 w refl)
     where
       why : Stops m 65536 1 w
-          → (serve m .out ≡ refused (w .step .code)) ⊎ ((_≡_ {A = ℕ} 1 0) ⊎ ((r : Record) × (65536 < charge r) × (charge r < 65536)))
+          → (serve m .out ≡ refused (w .step .code)) ⊎ ((_≡_ {A = ℕ} 1 0) ⊎ ((r : Record) × (65536 < bytesCharged r) × (bytesCharged r < 65536)))
           → ServeIs
       why x (inl y) = refusal x y
       why x (inr (inl z)) = absurd (omega arith)

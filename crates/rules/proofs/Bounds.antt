@@ -9,7 +9,7 @@ use lib.Dec.{leb}
 use lib.ListN.{length, length-append}
 use lib.Seq.{getD-set-same}
 use Rattle.base.proofs.Numbers.{eqb-true, eqb-yes}
-use Rattle.rules.specs.Board.{Record, Board, at, charge, freePlace, Has}
+use Rattle.rules.specs.Board.{Record, Board, at, bytesCharged, freePlace, Has}
 use Rattle.rules.specs.Choice.{Out, refused, done, taken, sent, whereIs, send, takenIn, joining, joins, goOn, more}
 use Rattle.rules.specs.Calls.{Single, record!, serve!, step, told}
 use Rattle.rules.specs.Runs.{answer, isDone, numberAfter, closes, isFor, classAt, bytesOf, bytesIn, Unsent, ComesToFront, intoEmpty, nextUp, NotSpent}
@@ -25,7 +25,7 @@ use Rattle.rules.proofs.Names.{Follows, follows, has-lane, has-share}
 
 -- what is told of a send is what was sent
 pub bytes-told : (b : Board) (o : Out) → bytesOf (told b o) ≡ bytesSent o
-unfolding charge
+unfolding bytesCharged
 bytes-told b (refused code) = refl
 bytes-told b done = refl
 bytes-told b (taken a) = refl

@@ -7,7 +7,7 @@ use native.Mathlib.Omega.{arith}
 use lib.Dec.{ltb}
 use lib.ListN.{length}
 use Rattle.base.proofs.Numbers.{true-le, false-lt}
-use Rattle.rules.specs.Board.{Record, charge, Board, at}
+use Rattle.rules.specs.Board.{Record, bytesCharged, Board, at}
 use Rattle.rules.specs.Choice.{Out, refused, done, taken, Sending, sent, serve}
 use Rattle.rules.specs.Burst.{Burst, stopped, sentFirst, noRoom, withRoom, chargeNext, burst}
 use Rattle.rules.specs.Calls.{step, Sent, told}
@@ -27,9 +27,9 @@ sentOf b s = let r = s .front in record { block = at b (s .place) .number; numbe
 
 -- one record more
 first-is : (b : Board) (bytes room : ℕ) (s : Sending) (rest : Burst) → let r = s .front in
-    serve b .out ≡ sent s → charge r ≤ bytes → IsServes (serve b .next) (bytes - charge r) room rest
+    serve b .out ≡ sent s → bytesCharged r ≤ bytes → IsServes (serve b .next) (bytes - bytesCharged r) room rest
     → IsServes b bytes (suc room) (sentFirst r rest)
-unfolding play bytesIn recordsIn step charge
+unfolding play bytesIn recordsIn step bytesCharged
 first-is b bytes room s rest e h i =
     record {
       next = i .next;
@@ -46,13 +46,13 @@ first-is b bytes room s rest e h i =
       stop = go (i .stop);
     }
   where
-    go : Stopped (bytes - charge (s .front)) room rest → Stopped bytes (suc room) (sentFirst (s .front) rest)
+    go : Stopped (bytes - bytesCharged (s .front)) room rest → Stopped bytes (suc room) (sentFirst (s .front) rest)
     go (byCall c) = byCall c
     go (byList z a n c) = byList z a (ap suc n) c
     go (byBytes z a n l c) = byBytes z a (omega arith) (omega arith) c
 
 pub burst-serves : (b : Board) (bytes room : ℕ) → IsServes b bytes room (burst b bytes room)
-unfolding burst step charge
+unfolding burst step bytesCharged
 burst-serves b bytes zero = go (serve b .out) refl (serve-codes b)
   where
     go : (o : Out) → serve b .out ≡ o → ServeOut o → IsServes b bytes 0 (noRoom b o)
@@ -66,11 +66,11 @@ burst-serves b bytes (suc room) = go (serve b .out) refl (serve-codes b) (burst-
     rest = burst (serve b .next) (bytes - chargeNext (serve b .out)) room
 
     fits : (s : Sending) → serve b .out ≡ sent s → IsServes (serve b .next) (bytes - chargeNext (serve b .out)) room rest
-        → (u : Bool) → ltb bytes (charge (s .front)) ≡ u → IsServes b bytes (suc room) (cond u (stopped b 13) (sentFirst (s .front) rest))
-    fits s e i true l = let over = true-le (suc bytes) (charge (s .front)) l in
+        → (u : Bool) → ltb bytes (bytesCharged (s .front)) ≡ u → IsServes b bytes (suc room) (cond u (stopped b 13) (sentFirst (s .front) rest))
+    fits s e i true l = let over = true-le (suc bytes) (bytesCharged (s .front)) l in
         stopped-is b bytes (suc room) 13 (byBytes (sentOf b s) (ap (told b) e) (omega arith) (omega (arith, over)) refl)
     fits s e i false l =
-        first-is b bytes room s rest e (omega (arith, false-lt (suc bytes) (charge (s .front)) l))
+        first-is b bytes room s rest e (omega (arith, false-lt (suc bytes) (bytesCharged (s .front)) l))
         (subst (λ (n : ℕ). IsServes (serve b .next) (bytes - n) room rest) (ap chargeNext e) i)
 
     go : (o : Out) → serve b .out ≡ o → ServeOut o → IsServes (serve b .next) (bytes - chargeNext (serve b .out)) room rest
@@ -78,4 +78,4 @@ burst-serves b bytes (suc room) = go (serve b .out) refl (serve-codes b) (burst-
     go (refused code) e s i = stopped-is b bytes (suc room) code (byCall (ap (told b) e))
     go done e s i = absurd s
     go (taken a) e s i = absurd s
-    go (sent z) e s i = fits z e i (ltb bytes (charge (z .front))) refl
+    go (sent z) e s i = fits z e i (ltb bytes (bytesCharged (z .front))) refl

@@ -12,7 +12,7 @@ use lib.ListN.{length, List·getD-eq-default}
 use Rattle.base.specs.Tests.{least}
 use Rattle.base.proofs.Tests.{least-true, least-false, and-left, and-right}
 use Rattle.base.proofs.Numbers.{split, leb-yes, true-le, false-lt, eqb-true, eqb-yes}
-use Rattle.rules.specs.Board.{Record, Place, freePlace, Board, at, depth, isOpen, Has, freeShare, spent, charge, front}
+use Rattle.rules.specs.Board.{Record, Place, freePlace, Board, at, depth, isOpen, Has, freeShare, spent, bytesCharged, front}
 use Rattle.rules.specs.Choice.{done, Turn, refuse, Check, guarded, whereIs, someHas, noneHas, numberOutside, lengthOutside, recordChecks, takeRecord}
 use Rattle.rules.specs.Choice.{tookAt, goOn}
 use Rattle.rules.specs.Choice.{leastReady, lowest, chosen, begin, beginChecks, send, serve, serveBy, leftOf}
@@ -306,7 +306,7 @@ serve-cases b g P cs = serve-turns b P
         isS : isServing (at b p .stand) ≡ true
         isS = g .one p ∙ ap (isAt p) e ∙ eqb-yes p p refl
 
-        ok : (1 ≤ length (at b p .lane)) × (1 ≤ at b p .share) × (charge (front (at b p)) * 65536 ≤ leftOf (at b p .stand))
+        ok : (1 ≤ length (at b p .lane)) × (1 ≤ at b p .share) × (bytesCharged (front (at b p)) * 65536 ≤ leftOf (at b p .stand))
             × (leftOf (at b p .stand) < 3 * largestCharge (b .largest) * 65536)
         ok = serving-ok (b .largest) (at b p .share) (at b p .lane) (at b p .stand) isS (sh .placeOk p .standOk)
 

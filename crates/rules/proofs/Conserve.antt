@@ -13,7 +13,7 @@ use Rattle.base.specs.Tests.{least}
 use Rattle.base.proofs.Numbers.{true-le, eqb-yes, eqb-no}
 use Rattle.rules.specs.Calls.{Single, open!, close!, rename!, record!, serve!, step}
 use Rattle.rules.specs.Spoilt.{isServing, isAt}
-use Rattle.rules.specs.Board.{Record, noRecord, charge, Stand, out, queued, serving, Place, freePlace, blockClass, front, Board, at}
+use Rattle.rules.specs.Board.{Record, noRecord, bytesCharged, Stand, out, queued, serving, Place, freePlace, blockClass, front, Board, at}
 use Rattle.rules.specs.Choice.{taken, upd, leftOf, Out, refused, done, sending, sent, Turn, emptied, short, going, started, ended, goOn, sendFrom, send}
 use Rattle.rules.specs.Choice.{begin, lowest, whereIs, joins, more, joining, takenIn, tookAt}
 use Rattle.rules.specs.Blocks.{opened, freeAt, closed, renamed}
@@ -117,10 +117,10 @@ flow-send b began q e g p = go (leb (length (at b q .lane)) 1) refl
     go : (t : Bool) → leb (length (at b q .lane)) 1 ≡ t
         → at b p .lane ++ [] ≡ sentOne p (sent (sending began b q)) ++ at
         (cond t (ended b q (emptied (at b q)) (b .orders))
-        (cond (ltb (leftOf (at b q .stand) - charge (front (at b q)) * 65536) (charge (getD (drop 1 (at b q .lane)) 0 noRecord) * 65536))
+        (cond (ltb (leftOf (at b q .stand) - bytesCharged (front (at b q)) * 65536) (bytesCharged (getD (drop 1 (at b q .lane)) 0 noRecord) * 65536))
         (ended b q (short (b .clock) (at b q)) o′) (goOn b q (going (at b q))))) p .lane
     go true f = flow-drop b began q (emptied (at b q)) p h some! (sym (no-rest (at b q .lane) (true-le (length (at b q .lane)) 1 f)))
-    go false f = two (ltb (leftOf (at b q .stand) - charge (front (at b q)) * 65536) (charge (getD (drop 1 (at b q .lane)) 0 noRecord) * 65536))
+    go false f = two (ltb (leftOf (at b q .stand) - bytesCharged (front (at b q)) * 65536) (bytesCharged (getD (drop 1 (at b q .lane)) 0 noRecord) * 65536))
 
 begun-flow : (b : Board) → Tidy b → (r : ℕ) → b .slot ≡ none → LeastIs (b .places) (some r) → max (b .clock) r < 2 ^ 62 → (p : ℕ)
     → Flow p b [] (send true (begin b (max (b .clock) r)) (getD (b .orders (lowest b (max (b .clock) r))) 0 0))

@@ -13,7 +13,7 @@ use Rattle.base.specs.Tests.{least, allBelow}
 use Rattle.units.specs.Classes.{Start, classOf, nextStart}
 use Rattle.units.specs.Credit.{framing, charged, largestCharge, creditOf}
 use Rattle.lanes.specs.Lanes.{ringEntry, ringOn, laneDepth, laneFirst}
-use Rattle.rules.specs.Board.{Record, charge, queued, Board, at, entry, onward, someWait, anyDue, spent, fresh, pending, freePlace}
+use Rattle.rules.specs.Board.{Record, bytesCharged, queued, Board, at, entry, onward, someWait, anyDue, spent, fresh, pending, freePlace}
 use Rattle.rules.specs.Choice.{whereIs, upd, takenIn, takeRecord, release, leastReady, settle, ended, sendFrom, send, lowest, begin, serveBy, serve, find}
 use Rattle.rules.specs.Choice.{openAt}
 use Rattle.rules.specs.Blocks.{opening, freeAt, openBlock, renameBlock, quiet, closed, closeBlock}
@@ -149,7 +149,8 @@ pub record Computed : Type 0 where
 pub computed : Computed
 unfolding answers worked emptied thenOpened fraction filled tight waiting renames story allBelow numbersApart lengthsIn count allPlaces ordersListed
     neverFalling unspoilt Start play bytesIn slotsIn holds stillHeld Unsent NotSpent servesIn least nextStart classOf framing charged largestCharge creditOf sum
-    below charge ringEntry ringOn laneDepth laneFirst entry onward someWait anyDue spent fresh whereIs upd takenIn takeRecord release leastReady settle ended
+    below bytesCharged ringEntry ringOn laneDepth laneFirst entry onward someWait anyDue spent fresh whereIs upd takenIn takeRecord release leastReady settle
+    ended
     sendFrom send lowest begin serveBy serve freeAt openBlock renameBlock quiet closed closeBlock step
 computed =
     record {

@@ -9,7 +9,7 @@ use lib.Dec.{leb, ltb}
 use lib.ListN.{length, getD, set, drop}
 use Rattle.units.specs.Classes.{nextStart}
 use Rattle.units.proofs.Classes.{class-le}
-use Rattle.rules.specs.Board.{Record, noRecord, charge, Place, blockClass, Board, at, Seventeen, fresh}
+use Rattle.rules.specs.Board.{Record, noRecord, bytesCharged, Place, blockClass, Board, at, Seventeen, fresh}
 use Rattle.rules.specs.Choice.{leftAfter, emptied, short, going, upd, isNone, leastReady, release, settle, ended, goOn, sendFrom, send, begin, lowest}
 use Rattle.rules.specs.Choice.{chosen, whereIs, joins, more, joining, takenIn}
 use Rattle.rules.specs.Calls.{Single, step}
@@ -108,7 +108,7 @@ framed-send : (b : Board) (p : ℕ) → Framed b (sendFrom b p)
 unfolding sendFrom
 framed-send b p =
     framed-cond b (leb (length (x .lane)) 1) _ _ (framed-ended b p (emptied x) (b .orders) (λ s. s .noOrder))
-    (framed-cond b (ltb (leftAfter x) (charge (getD (drop 1 (x .lane)) 0 noRecord) * 65536)) _ _
+    (framed-cond b (ltb (leftAfter x) (bytesCharged (getD (drop 1 (x .lane)) 0 noRecord) * 65536)) _ _
     (framed-ended b p (short (b .clock) x) (upd (b .orders) (blockClass x) (b .orders (blockClass x) ++ (p ∷ [])))
     (λ s k h. upd-class (b .orders) x (b .orders (blockClass x) ++ (p ∷ [])) k [] h (s .noOrder k h)))
     (framed-goOn b p (going x)))

@@ -14,7 +14,7 @@ use Rattle.base.specs.Sums.{sum}
 use Rattle.base.proofs.Numbers.{split, leb-yes, leb-no, eqb-yes, eqb-no}
 use Rattle.units.specs.Classes.{nextStart}
 use Rattle.units.proofs.Starts.{next-gt, next-stay}
-use Rattle.rules.specs.Board.{Record, noRecord, charge, Place, Board, at, blockClass, someWait, fresh}
+use Rattle.rules.specs.Board.{Record, noRecord, bytesCharged, Place, Board, at, blockClass, someWait, fresh}
 use Rattle.rules.specs.Choice.{refused, done, Turn, isNone, leastReady, release, settle, goOn, joins, more, joining, takenIn, emptied, short, going}
 use Rattle.rules.specs.Choice.{leftAfter, ended, sendFrom, send, begin, chosen, upd, tookAt}
 use Rattle.rules.specs.Blocks.{quiet, closed}
@@ -162,7 +162,7 @@ send-agrees : (m : Board) (p : ℕ) (hs : List Hold) → Tidy (sendFrom m p) →
     → Agrees (sendFrom m p .clock) (sendFrom m p .held) hs
 unfolding sendFrom ended
 send-agrees m p hs g a w =
-    go (leb (length (at m p .lane)) 1) refl (ltb (leftAfter (at m p)) (charge (getD (drop 1 (at m p .lane)) 0 noRecord) * 65536)) refl
+    go (leb (length (at m p .lane)) 1) refl (ltb (leftAfter (at m p)) (bytesCharged (getD (drop 1 (at m p .lane)) 0 noRecord) * 65536)) refl
   where
     o′ : ℕ → List ℕ
     o′ = upd (m .orders) (blockClass (at m p)) (m .orders (blockClass (at m p)) ++ (p ∷ []))
@@ -174,12 +174,13 @@ send-agrees m p hs g a w =
         → Agrees (suc (m .clock)) (settle (set (m .places) p y) (release (m .clock) (suc (m .clock)) (m .held))) hs
     over y o t v d h k = ended-agrees (m .clock) (m .held) (set (m .places) p y) hs (waits-ordered (ended m p y o) t refl v) a d h k
 
-    go : (t : Bool) → leb (length (at m p .lane)) 1 ≡ t → (u : Bool) → ltb (leftAfter (at m p)) (charge (getD (drop 1 (at m p .lane)) 0 noRecord) * 65536) ≡ u
+    go : (t : Bool) → leb (length (at m p .lane)) 1 ≡ t → (u : Bool)
+        → ltb (leftAfter (at m p)) (bytesCharged (getD (drop 1 (at m p .lane)) 0 noRecord) * 65536) ≡ u
         → Agrees (cond (leb (length (at m p .lane)) 1) (ended m p (emptied (at m p)) (m .orders))
-        (cond (ltb (leftAfter (at m p)) (charge (getD (drop 1 (at m p .lane)) 0 noRecord) * 65536)) (ended m p (short (m .clock) (at m p)) o′)
+        (cond (ltb (leftAfter (at m p)) (bytesCharged (getD (drop 1 (at m p .lane)) 0 noRecord) * 65536)) (ended m p (short (m .clock) (at m p)) o′)
         (goOn m p (going (at m p)))) .clock)
         (cond (leb (length (at m p .lane)) 1) (ended m p (emptied (at m p)) (m .orders))
-        (cond (ltb (leftAfter (at m p)) (charge (getD (drop 1 (at m p .lane)) 0 noRecord) * 65536)) (ended m p (short (m .clock) (at m p)) o′)
+        (cond (ltb (leftAfter (at m p)) (bytesCharged (getD (drop 1 (at m p .lane)) 0 noRecord) * 65536)) (ended m p (short (m .clock) (at m p)) o′)
         (goOn m p (going (at m p)))) .held) hs
     go true e u f = rw e (over (emptied (at m p)) (m .orders) (rw e at g) (rw e at w))
     go false e true f = rw (e, f) (over (short (m .clock) (at m p)) o′ (rw (e, f) at g) (rw (e, f) at w))

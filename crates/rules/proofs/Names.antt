@@ -12,7 +12,7 @@ use lib.Seq.{getD-set-same, getD-set-other}
 use Rattle.base.specs.Tests.{least}
 use Rattle.base.proofs.Tests.{least-false}
 use Rattle.base.proofs.Numbers.{split, leb-yes, eqb-yes, eqb-no, eqb-true, true-le}
-use Rattle.rules.specs.Board.{Record, Place, freePlace, Board, at, isOpen, charge, noRecord, blockClass, Has}
+use Rattle.rules.specs.Board.{Record, Place, freePlace, Board, at, isOpen, bytesCharged, noRecord, blockClass, Has}
 use Rattle.rules.specs.Choice.{done, Sending, sending, sent, Turn, refuse, Found, openAt, unknown, foundAt, find, byFound, whereIs, someHas, goOn, more}
 use Rattle.rules.specs.Choice.{joins, joining, takenIn}
 use Rattle.rules.specs.Choice.{emptied, short, going, started, ended, sendFrom, send, begin, chosen, upd, leftAfter, refused, tookAt}
@@ -80,7 +80,7 @@ module _ {A : Type 0} (f : Place → A) (byEmptied : (x : Place) → f (emptied 
     (byGoing : (x : Place) → f (going x) ≡ f x) (byStarted : (L : ℕ) (x : Place) → f (started L x) ≡ f x) where
   pub kept-send : (b : Board) (p q : ℕ) → p < length (b .places) → f (at (sendFrom b p) q) ≡ f (at b q)
   unfolding sendFrom ended
-  kept-send b p q h = go (leb (length (at b p .lane)) 1) (ltb (leftAfter (at b p)) (charge (getD (drop 1 (at b p .lane)) 0 noRecord) * 65536))
+  kept-send b p q h = go (leb (length (at b p .lane)) 1) (ltb (leftAfter (at b p)) (bytesCharged (getD (drop 1 (at b p .lane)) 0 noRecord) * 65536))
     where
       go : (t u : Bool) → f
           (at (cond t (ended b p (emptied (at b p)) (b .orders))

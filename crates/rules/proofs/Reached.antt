@@ -16,7 +16,7 @@ use Rattle.units.specs.Classes.{Start, nextStart, classOf}
 use Rattle.units.proofs.Starts.{next-gt, next-least, start-gap}
 use Rattle.rules.specs.Calls.{Single, step}
 use Rattle.rules.specs.Spoilt.{isQueued, isServing, isAt}
-use Rattle.rules.specs.Board.{Record, noRecord, charge, out, blockClass, front, Board, at}
+use Rattle.rules.specs.Board.{Record, noRecord, bytesCharged, out, blockClass, front, Board, at}
 use Rattle.rules.specs.Choice.{upd, leftOf, Turn, isNone, emptied, short, going, ended, goOn, sendFrom, send, begin, lowest, chosen, whereIs, joins, more}
 use Rattle.rules.specs.Choice.{joining, takenIn}
 use Rattle.rules.specs.Blocks.{closed}
@@ -32,7 +32,7 @@ up-send : (b : Board) (p : ℕ) → b .clock ≤ sendFrom b p .clock
 unfolding sendFrom ended
 up-send b p =
     go (leb (length (at b p .lane)) 1)
-    (ltb (leftOf (at b p .stand) - charge (front (at b p)) * 65536) (charge (getD (drop 1 (at b p .lane)) 0 noRecord) * 65536))
+    (ltb (leftOf (at b p .stand) - bytesCharged (front (at b p)) * 65536) (bytesCharged (getD (drop 1 (at b p .lane)) 0 noRecord) * 65536))
   where
     go : (t u : Bool) → b .clock ≤ cond t (ended b p (emptied (at b p)) (b .orders))
         (cond u (ended b p (short (b .clock) (at b p)) (upd (b .orders) (blockClass (at b p)) (b .orders (blockClass (at b p)) ++ (p ∷ []))))

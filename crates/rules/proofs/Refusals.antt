@@ -8,7 +8,7 @@ use Prim.Native.Nat.{ℕ, zero, suc, _-_, _≤_}
 use native.Mathlib.Omega.{arith}
 use lib.Dec.{leb, ltb}
 use lib.ListN.{length}
-use Rattle.rules.specs.Board.{tableLength, Record, Board, fresh, charge}
+use Rattle.rules.specs.Board.{tableLength, Record, Board, fresh, bytesCharged}
 use Rattle.rules.specs.Choice.{Out, refused, done, taken, sent, Turn, refuse, send, serve}
 use Rattle.rules.specs.Burst.{Burst, burst, noRoom, chargeNext, stopped, sentFirst, withRoom}
 use Rattle.rules.specs.Spoilt.{spoilt, unspoilt}
@@ -125,7 +125,7 @@ burst-codes b bytes (suc room) = go (serve b .out) (serve-codes b) (burst-codes 
     go (refused code) s i = stops code s
     go done s i = inr (omega arith)
     go (taken a) s i = inr (omega arith)
-    go (sent z) s i = fits (z .front) (ltb bytes (charge (z .front))) i
+    go (sent z) s i = fits (z .front) (ltb bytes (bytesCharged (z .front))) i
 
 -- a burst that is given 3 or 2
 pub burst-refusal-keeps : (lent : Lent) (bytes : ℕ) (list : List ℕ)

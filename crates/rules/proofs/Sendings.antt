@@ -10,7 +10,8 @@ use lib.ListN.{length, getD, set, drop}
 use lib.Seq.{getD-set-same}
 use Rattle.base.proofs.Numbers.{true-le, false-lt}
 use Rattle.units.specs.Credit.{creditOf, largestCharge}
-use Rattle.rules.specs.Board.{Record, noRecord, charge, Stand, out, queued, serving, Place, freePlace, Board, at, firstEntry, entry, front, blockClass}
+use Rattle.rules.specs.Board.{Record, noRecord, bytesCharged, Stand, out, queued, serving, Place, freePlace, Board, at, firstEntry, entry, front}
+use Rattle.rules.specs.Board.{blockClass}
 use Rattle.rules.specs.Choice.{Sending, sending, Out, refused, done, taken, sent, Turn, upd, isNone, leftOf, leftAfter, lostAt}
 use Rattle.rules.specs.Choice.{emptied, short, going, started, ended, goOn, sendFrom, send, begin, chosen, serve}
 use Rattle.rules.specs.Spoilt.{isQueued, isServing, isAt}
@@ -33,7 +34,7 @@ entry-by p x y e = rw e
 -- what a send leaves at its place, y after x: the front's charge is paid, and what is left is lost only as the lane empties
 record Left (x y : Place) (lost : ℕ) : Type 0 where
   none : 1 ≤ length (y .lane) → lost ≡ 0
-  parts : inHand y + lost + charge (front x) * 65536 ≡ leftOf (x .stand)
+  parts : inHand y + lost + bytesCharged (front x) * 65536 ≡ leftOf (x .stand)
 
 leaves : (b : Board) (p : ℕ) → Tidy b → isServing (at b p .stand) ≡ true → Left (at b p) (at (sendFrom b p) p) (lostAt (at b p))
 unfolding sendFrom ended
@@ -43,9 +44,9 @@ leaves b p g isS = go (leb (length (at b p .lane)) 1) (ltb (leftAfter (at b p)) 
     x = at b p
 
     need : ℕ
-    need = charge (getD (drop 1 (at b p .lane)) 0 noRecord) * 65536
+    need = bytesCharged (getD (drop 1 (at b p .lane)) 0 noRecord) * 65536
 
-    paid : charge (front (at b p)) * 65536 ≤ leftOf (at b p .stand)
+    paid : bytesCharged (front (at b p)) * 65536 ≤ leftOf (at b p .stand)
     paid = serving-ok (b .largest) (x .share) (x .lane) (x .stand) isS (g .shape .placeOk p .standOk) .2
 
     here : (y : Place) → getD (set (b .places) p y) p freePlace ≡ y

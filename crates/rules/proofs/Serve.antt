@@ -15,7 +15,7 @@ use Rattle.units.specs.Classes.{nextStart, classOf}
 use Rattle.units.proofs.Starts.{next-gt, next-is, next-start, start-add, start-gap}
 use Rattle.units.specs.Credit.{creditOf}
 use Rattle.rules.specs.Spoilt.{isQueued, isServing, isAt}
-use Rattle.rules.specs.Board.{charge, Stand, out, queued, serving, Place, freePlace, blockClass, front, Board, at}
+use Rattle.rules.specs.Board.{bytesCharged, Stand, out, queued, serving, Place, freePlace, blockClass, front, Board, at}
 use Rattle.rules.specs.Choice.{isNone, release, started, sending, sendFrom, send, begin, lowest, serve}
 use Rattle.rules.proofs.Line.{free, SeatOk}
 use Rattle.rules.proofs.Potential.{ahead, ahead-begin, ahead-jump}
@@ -139,7 +139,7 @@ module _ (b : Board) (r : ℕ) (free : b .slot ≡ none) (least : LeastIs (b .pl
   unfolding t k p begin
   started1 = getD-set-same (b .places) p (started (b .largest) (at b p)) freePlace (queued-in (b .places) p (chosen .isQ))
 
-  sends1 : Sends b (sendFrom (begin b t) p) p (charge (front (at (begin b t) p))) t (givenIn b p)
+  sends1 : Sends b (sendFrom (begin b t) p) p (bytesCharged (front (at (begin b t) p))) t (givenIn b p)
   unfolding t
   sends1 = record {
     good = s .good;
@@ -153,7 +153,7 @@ module _ (b : Board) (r : ℕ) (free : b .slot ≡ none) (least : LeastIs (b .pl
     account = λ w. omega (arith, s .account w, ap hand started1, hand-queued (at b p) (chosen .isQ), given);
   }
     where
-      s : Sends (begin b t) (sendFrom (begin b t) p) p (charge (front (at (begin b t) p))) (begin b t .clock) 0
+      s : Sends (begin b t) (sendFrom (begin b t) p) p (bytesCharged (front (at (begin b t) p))) (begin b t .clock) 0
       s = sends (begin b t) p slot1 good1
 
       later : b .clock ≤ t

@@ -23,7 +23,7 @@ use Rattle.units.specs.Credit.{charged, largestCharge, creditOf}
 use Rattle.units.proofs.Credits.{credit-least, credit-under}
 use Rattle.rules.specs.Spoilt.{isQueued, readyNum, inClass, count}
 use Rattle.lanes.proofs.Lanes.{depth-positive}
-use Rattle.rules.specs.Board.{Record, noRecord, charge, Stand, out, queued, serving, Place, moved, freePlace, depth, blockClass, anyDue}
+use Rattle.rules.specs.Board.{Record, noRecord, bytesCharged, Stand, out, queued, serving, Place, moved, freePlace, depth, blockClass, anyDue}
 use Rattle.rules.specs.Choice.{upd, readyOf, lesser, leastReady, isNone, release, settle, started}
 use Rattle.rules.proofs.Line.{Kept}
 use Rattle.rules.proofs.Orders.{pl, ready, Listed, listed-same, listed-join, listed-leave, Rising, rising-away, rising-kept, rising-snoc, first-due}
@@ -100,15 +100,15 @@ all-front P d (y ∷ l) h a = a .0
 unfoldable pub StandOk : ℕ → ℕ → List Record → Stand → Type 0
 StandOk L share lane out = length lane ≡ 0
 StandOk L share lane (queued r) = (1 ≤ length lane) × (1 ≤ share)
-StandOk L share lane (serving n) = (1 ≤ length lane) × (1 ≤ share) × (charge (getD lane 0 noRecord) * 65536 ≤ n) × (n < 3 * largestCharge L * 65536)
+StandOk L share lane (serving n) = (1 ≤ length lane) × (1 ≤ share) × (bytesCharged (getD lane 0 noRecord) * 65536 ≤ n) × (n < 3 * largestCharge L * 65536)
 
 -- a record has 1 to L bytes
 abbrev pub InSize : ℕ → Record → Type 0
 InSize L y = (1 ≤ y .bytes) × (y .bytes ≤ L)
 
 -- so its charge is at least one byte and at most the largest charge
-pub fit-charge : (L : ℕ) (y : Record) → InSize L y → (1 ≤ charge y) × (charge y ≤ largestCharge L)
-unfolding charge charged largestCharge
+pub fit-charge : (L : ℕ) (y : Record) → InSize L y → (1 ≤ bytesCharged y) × (bytesCharged y ≤ largestCharge L)
+unfolding bytesCharged charged largestCharge
 fit-charge L y f = (omega arith, omega arith)
 
 pub most-pos : (L : ℕ) → 64 ≤ L → 1 ≤ largestCharge L
@@ -287,10 +287,10 @@ started-ok L x c1 e ok =
     q : (1 ≤ length (x .lane)) × (1 ≤ x .share)
     q = queued-ok L (x .share) (x .lane) (x .stand) e (ok .standOk)
 
-    small : charge (getD (x .lane) 0 noRecord) ≤ largestCharge L
+    small : bytesCharged (getD (x .lane) 0 noRecord) ≤ largestCharge L
     small = fit-charge L (getD (x .lane) 0 noRecord) (all-front (InSize L) noRecord (x .lane) (q .0) (ok .items)) .1
 
-    fits : charge (getD (x .lane) 0 noRecord) * 65536 ≤ x .deficit + creditOf L (x .share)
+    fits : bytesCharged (getD (x .lane) 0 noRecord) * 65536 ≤ x .deficit + creditOf L (x .share)
     fits = omega (arith, small, credit-least L (x .share) (q .1))
 
 pub queued-in : (l : List Place) (p : ℕ) → isQueued (pl l p .stand) ≡ true → p < length l

@@ -15,7 +15,7 @@ use Rattle.units.specs.Credit.{largestCharge}
 use Rattle.rules.specs.Spoilt.{isQueued, isServing, readyNum}
 use Rattle.lanes.proofs.Rings.{ring-on-inside}
 use Rattle.lanes.proofs.Lanes.{depth-positive}
-use Rattle.rules.specs.Board.{Record, noRecord, charge, Stand, out, queued, serving, Place, freePlace, front, onward, depth}
+use Rattle.rules.specs.Board.{Record, noRecord, bytesCharged, Stand, out, queued, serving, Place, freePlace, front, onward, depth}
 use Rattle.rules.specs.Choice.{leftOf, emptied, short, going, more}
 use Rattle.rules.proofs.Orders.{pl}
 use Rattle.rules.proofs.Shape.{All, all-rest, all-front, StandOk, InSize, PlaceOk, named-num, Shape, most-pos, fit-charge}
@@ -25,7 +25,7 @@ unfolding onward
 ring-on x = ring-on-inside (depth x) (x .start) depth-positive
 
 pub serving-ok : (L share : ℕ) (lane : List Record) (s : Stand) → isServing s ≡ true → StandOk L share lane s
-    → (1 ≤ length lane) × (1 ≤ share) × (charge (getD lane 0 noRecord) * 65536 ≤ leftOf s) × (leftOf s < 3 * largestCharge L * 65536)
+    → (1 ≤ length lane) × (1 ≤ share) × (bytesCharged (getD lane 0 noRecord) * 65536 ≤ leftOf s) × (leftOf s < 3 * largestCharge L * 65536)
 unfolding StandOk
 serving-ok L share lane out e h = absurd (false≢true e)
 serving-ok L share lane (queued r) e h = absurd (false≢true e)
@@ -64,7 +64,7 @@ module _ (L c : ℕ) (l : List Place) (o : ℕ → List ℕ) (H : ℕ → ℕ) (
   pub inL : p < length l
   inL = serving-in l p isS
 
-  pub facts : (1 ≤ length (pl l p .lane)) × (1 ≤ pl l p .share) × (charge (front (pl l p)) * 65536 ≤ leftOf (pl l p .stand))
+  pub facts : (1 ≤ length (pl l p .lane)) × (1 ≤ pl l p .share) × (bytesCharged (front (pl l p)) * 65536 ≤ leftOf (pl l p .stand))
       × (leftOf (pl l p .stand) < 3 * largestCharge L * 65536)
   facts = serving-ok L (pl l p .share) (pl l p .lane) (pl l p .stand) isS (sh .placeOk p .standOk)
 
@@ -81,7 +81,7 @@ module _ (L c : ℕ) (l : List Place) (o : ℕ → List ℕ) (H : ℕ → ℕ) (
 
   -- the slot goes on
   module _ (more : 2 ≤ length (pl l p .lane))
-      (fits : charge (getD (drop 1 (pl l p .lane)) 0 noRecord) * 65536 ≤ leftOf (pl l p .stand) - charge (front (pl l p)) * 65536) where
+      (fits : bytesCharged (getD (drop 1 (pl l p .lane)) 0 noRecord) * 65536 ≤ leftOf (pl l p .stand) - bytesCharged (front (pl l p)) * 65536) where
     pub going-ok : PlaceOk L (going (pl l p))
     unfolding StandOk
     going-ok = record {
@@ -113,7 +113,7 @@ module _ (L c : ℕ) (l : List Place) (o : ℕ → List ℕ) (H : ℕ → ℕ) (
 
   -- the new front needs more than is left: the slot ends, and the block joins its order again
   module _ (more : 2 ≤ length (pl l p .lane))
-      (lacks : leftOf (pl l p .stand) - charge (front (pl l p)) * 65536 < charge (getD (drop 1 (pl l p .lane)) 0 noRecord) * 65536) where
+      (lacks : leftOf (pl l p .stand) - bytesCharged (front (pl l p)) * 65536 < bytesCharged (getD (drop 1 (pl l p .lane)) 0 noRecord) * 65536) where
     pub short-ok : PlaceOk L (short c (pl l p))
     unfolding StandOk
     short-ok = record {

@@ -13,7 +13,7 @@ use lib.ListN.{length, getD, set, drop}
 use lib.Seq.{getD-set-same}
 use Rattle.base.proofs.Numbers.{split, leb-yes, leb-no, eqb-yes, eqb-no, true-le}
 use Rattle.units.specs.Credit.{largestCharge}
-use Rattle.rules.specs.Board.{Record, noRecord, charge, Place, freePlace, Board, at, front, blockClass}
+use Rattle.rules.specs.Board.{Record, noRecord, bytesCharged, Place, freePlace, Board, at, front, blockClass}
 use Rattle.rules.specs.Choice.{refused, Sending, sending, sent, Turn, isNone, leftOf, leftAfter, goOn, joins, more, takenIn, emptied, short, going, ended}
 use Rattle.rules.specs.Choice.{sendFrom, send}
 use Rattle.rules.specs.Choice.{begin, chosen, upd, joining, tookAt}
@@ -61,15 +61,15 @@ ahead-of t clock l L h = rw (leb-no (suc t) clock (omega arith)) (go (eqb clock 
 
 -- what the slot has left, in whole bytes
 left-is : (b : Board) (p : ℕ) → Tidy b → b .slot ≡ some p
-    → (charge (front (at b p)) ≤ slotBytesLeft (b .places) (some p)) × (slotBytesLeft (b .places) (some p) ≤ most (b .largest))
-    × (charge (front (at b p)) * 65536 ≤ leftOf (at b p .stand))
+    → (bytesCharged (front (at b p)) ≤ slotBytesLeft (b .places) (some p)) × (slotBytesLeft (b .places) (some p) ≤ most (b .largest))
+    × (bytesCharged (front (at b p)) * 65536 ≤ leftOf (at b p .stand))
 unfolding slotBytesLeft most
 left-is b p g e = (omega (arith, ok .2), omega (arith, ok .3), ok .2)
   where
     isS : isServing (at b p .stand) ≡ true
     isS = g .one p ∙ ap (isAt p) e ∙ eqb-yes p p refl
 
-    ok : (1 ≤ length (at b p .lane)) × (1 ≤ at b p .share) × (charge (front (at b p)) * 65536 ≤ leftOf (at b p .stand))
+    ok : (1 ≤ length (at b p .lane)) × (1 ≤ at b p .share) × (bytesCharged (front (at b p)) * 65536 ≤ leftOf (at b p .stand))
         × (leftOf (at b p .stand) < 3 * largestCharge (b .largest) * 65536)
     ok = serving-ok (b .largest) (at b p .share) (at b p .lane) (at b p .stand) isS (g .shape .placeOk p .standOk)
 
@@ -89,15 +89,16 @@ lt-of-ne a b h n = go (split b a)
     go (inr k) = k
 
 -- a send takes its charge from what its slot has left
-send-allow : (t : ℕ) (b : Board) (p : ℕ) → Tidy b → b .slot ≡ some p → cond (eqb (b .clock) t) (charge (front (at b p))) 0 + allow t (sendFrom b p) ≤ allow t b
+send-allow : (t : ℕ) (b : Board) (p : ℕ) → Tidy b → b .slot ≡ some p
+    → cond (eqb (b .clock) t) (bytesCharged (front (at b p))) 0 + allow t (sendFrom b p) ≤ allow t b
 unfolding sendFrom ended
-send-allow t b p g e = go (leb (length (at b p .lane)) 1) (ltb (leftAfter (at b p)) (charge (getD (drop 1 (at b p .lane)) 0 noRecord) * 65536))
+send-allow t b p g e = go (leb (length (at b p .lane)) 1) (ltb (leftAfter (at b p)) (bytesCharged (getD (drop 1 (at b p .lane)) 0 noRecord) * 65536))
   where
     c : ℕ
     c = b .clock
 
     w : ℕ
-    w = cond (eqb c t) (charge (front (at b p))) 0
+    w = cond (eqb c t) (bytesCharged (front (at b p))) 0
 
     now : allow t b ≡ allowed t c (b .places) (some p) (b .largest)
     now = ap (λ (s : Option ℕ). allowed t c (b .places) s (b .largest)) e
@@ -181,8 +182,8 @@ still : (t : ℕ) (b nb : Board) → nb .clock ≡ b .clock → nb .slot ≡ b .
 unfolding allowed
 still t b nb c s L e = rw (c, s, L, e)
 
-bytes-at : (t : ℕ) (b : Board) (s : Sending) → bytesAt t (told b (sent s)) ≡ cond (eqb (s .clock) t) (charge (s .front)) 0
-unfolding charge
+bytes-at : (t : ℕ) (b : Board) (s : Sending) → bytesAt t (told b (sent s)) ≡ cond (eqb (s .clock) t) (bytesCharged (s .front)) 0
+unfolding bytesCharged
 bytes-at t b s = refl
 
 module _ (t : ℕ) (b : Board) (g : Tidy b) where

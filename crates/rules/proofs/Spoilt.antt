@@ -18,7 +18,7 @@ use Rattle.base.proofs.Decides.{d-iff, d-true, d-leb, d-eqb, d-alike, d-not, d-
 use Rattle.units.specs.Classes.{Start, nextStart}
 use Rattle.units.specs.Credit.{largestCharge}
 use Rattle.units.proofs.Classes.{class-le}
-use Rattle.rules.specs.Board.{Record, charge, Stand, out, queued, serving, Place, freePlace, Board, at, Seventeen, depth, front, blockClass, isOpen}
+use Rattle.rules.specs.Board.{Record, bytesCharged, Stand, out, queued, serving, Place, freePlace, Board, at, Seventeen, depth, front, blockClass, isOpen}
 use Rattle.rules.specs.Board.{waits, spent}
 use Rattle.rules.specs.Spoilt.{everyPlace, numbersApart, numberInRange, shareInRange, ringInRange, lengthsIn, isQueued, isServing, deficitInRange}
 use Rattle.rules.specs.Spoilt.{freeIsZero, heldWhileWaiting, standsByLane, isAt, count, inClass, allPlaces, slotAtPlace, ordersListed, readyNum}
@@ -50,7 +50,7 @@ d-stand L x (queued ready) = d-iff (d-and (d-and (d-alike (waits x) true) (d-imp
     (λ w. ((leb-yes 1 (length (x .lane)) (w .0), λ _. w .1), refl))
 d-stand L x (serving left) = d-iff
     (d-and (d-and (d-alike (waits x) true) (d-imp (waits x) (d-leb 1 (x .share))))
-    (d-and (d-leb 1 (length (x .lane))) (d-and (d-leb (charge (front x) * 65536) left) (d-leb (suc left) (3 * largestCharge L * 65536)))))
+    (d-and (d-leb 1 (length (x .lane))) (d-and (d-leb (bytesCharged (front x) * 65536) left) (d-leb (suc left) (3 * largestCharge L * 65536)))))
     (λ w. (w .1 .0, w .0 .1 (w .0 .0), w .1 .1 .0, w .1 .1 .1))
     (λ w. ((leb-yes 1 (length (x .lane)) (w .0), λ _. w .1), (w .0, (w .2, w .3))))
 

@@ -10,7 +10,7 @@ use lib.Dec.{leb, ltb, eqb}
 use lib.ListN.{length, getD, set, drop}
 use Rattle.base.proofs.Numbers.{true-le, false-lt, eqb-no}
 use Rattle.rules.specs.Spoilt.{isQueued, isServing, readyNum, isAt}
-use Rattle.rules.specs.Board.{noRecord, onward, charge, Place, blockClass, front, Board, at}
+use Rattle.rules.specs.Board.{noRecord, onward, bytesCharged, Place, blockClass, front, Board, at}
 use Rattle.rules.specs.Choice.{upd, leftOf, release, settle, started, emptied, short, going, ended, goOn, sendFrom, send, begin, lowest}
 use Rattle.rules.specs.Blocks.{quiet}
 use Rattle.rules.proofs.Orders.{pl}
@@ -62,10 +62,10 @@ module _ (L c : ℕ) (l : List Place) (o : ℕ → List ℕ) (H : ℕ → ℕ) (
   tidy-lit = go (leb (length (pl l p .lane)) 1) refl
     where
       nx : ℕ
-      nx = charge (getD (drop 1 (pl l p .lane)) 0 noRecord) * 65536
+      nx = bytesCharged (getD (drop 1 (pl l p .lane)) 0 noRecord) * 65536
 
       rest : ℕ
-      rest = leftOf (pl l p .stand) - charge (front (pl l p)) * 65536
+      rest = leftOf (pl l p .stand) - bytesCharged (front (pl l p)) * 65536
 
       b : Board
       b = lit L c l o (some p) H
@@ -76,7 +76,7 @@ module _ (L c : ℕ) (l : List Place) (o : ℕ → List ℕ) (H : ℕ → ℕ) (
       two : 2 ≤ length (pl l p .lane) → (t : Bool) → ltb rest nx ≡ t → Tidy (cond t (ended b p (short c (pl l p)) o′) (goOn b p (going (pl l p))))
       two m true e =
           tidy-ended (short c (pl l p)) o′ refl
-          (shape-join p (onward (pl l p)) (drop 1 (pl l p .lane)) (leftOf (pl l p .stand) - charge (front (pl l p)) * 65536) inL
+          (shape-join p (onward (pl l p)) (drop 1 (pl l p .lane)) (leftOf (pl l p .stand) - bytesCharged (front (pl l p)) * 65536) inL
           (serving-not-queued (pl l p .stand) isS) (Slot.short-ok L c l o H p (g .shape) (g .one) m (true-le (suc rest) nx e)) (g .shape))
       two m false e =
           tidy-goOn (going (pl l p)) refl

@@ -16,7 +16,7 @@ use Rattle.units.specs.Classes.{nextStart, classOf}
 use Rattle.units.proofs.Starts.{next-gt, next-mono}
 use Rattle.units.specs.Credit.{creditOf, largestCharge}
 use Rattle.rules.specs.Spoilt.{isQueued, isServing, readyNum, isAt}
-use Rattle.rules.specs.Board.{Record, noRecord, onward, charge, Stand, out, queued, serving, Place, freePlace, blockClass, front, Board, at}
+use Rattle.rules.specs.Board.{Record, noRecord, onward, bytesCharged, Stand, out, queued, serving, Place, freePlace, blockClass, front, Board, at}
 use Rattle.rules.specs.Choice.{upd, leftOf, Out, refused, done, taken, Sending, sending, sent, Turn, isNone, emptied, short, going, more, ended, goOn}
 use Rattle.rules.specs.Choice.{sendFrom, send}
 use Rattle.rules.specs.Choice.{refuse}
@@ -68,7 +68,7 @@ abbrev pub bytesSent : Out → ℕ
 bytesSent (refused n) = 0
 bytesSent done = 0
 bytesSent (taken a) = 0
-bytesSent (sent s) = charge (s .front)
+bytesSent (sent s) = bytesCharged (s .front)
 
 abbrev pub isSent : Out → Bool
 isSent (refused n) = false
@@ -248,7 +248,7 @@ due-queued c n (serving m) e = absurd (false≢true e)
 ne-of : (q p : ℕ) → eqb q p ≡ false → q ≢ p
 ne-of q p e f = true≢false (sym (eqb-yes q p f) ∙ e)
 
-pub keeps-sent : (b nb : Board) (z : Sending) → let p = z .place in let n = charge (z .front) in
+pub keeps-sent : (b nb : Board) (z : Sending) → let p = z .place in let n = bytesCharged (z .front) in
     ((q : ℕ) → isServing (at b q .stand) ≡ true → q ≡ p) → inLine (at b p .stand) ≡ true
     → 1 ≤ n → Timely b p (z .clock) → Sends b nb p n (z .clock) (givenIn b p) → Keeps b (record { out = sent z; next = nb })
 keeps-sent b nb z only w long timely s = record { good = s .good; stays = stays; some! = λ _. long; goes = goes; bars = bars; comes = comes }
@@ -291,7 +291,7 @@ keeps-sent b nb z only w long timely s = record { good = s .good; stays = stays;
             (ap hand (s .others q e))
 
     stays : (q : ℕ) → inLine (at b q .stand) ≡ true → eqb q p ≡ false
-        → (inLine (at nb q .stand) ≡ true) × (at nb q .share ≡ at b q .share) × (phi nb q + charge (z .front) ≤ phi b q)
+        → (inLine (at nb q .stand) ≡ true) × (at nb q .share ≡ at b q .share) × (phi nb q + bytesCharged (z .front) ≤ phi b q)
     stays q v e = (rw same v, ap (λ (x : Place). x .share) same, less)
       where
         ne : q ≢ p
@@ -300,7 +300,7 @@ keeps-sent b nb z only w long timely s = record { good = s .good; stays = stays;
         same : at nb q ≡ at b q
         same = s .others q ne
 
-        less : phi nb q + charge (z .front) ≤ phi b q
+        less : phi nb q + bytesCharged (z .front) ≤ phi b q
         less = rw (phi-queued b q (isQ q ne v), phi-queued nb q (rw same (isQ q ne v)), same) (s .paid q ne (isQ q ne v))
 
     after : nextStart (blockClass (at b p)) t ≤ barOf nb p
@@ -372,7 +372,7 @@ module _ (L c : ℕ) (l : List Place) (o : ℕ → List ℕ) (H : ℕ → ℕ) (
   inL : p < length l
   inL = Slot.inL L c l o H p (g .fine .shape) (g .one)
 
-  facts : (1 ≤ length (pl l p .lane)) × (1 ≤ pl l p .share) × (charge (front (pl l p)) * 65536 ≤ leftOf (pl l p .stand))
+  facts : (1 ≤ length (pl l p .lane)) × (1 ≤ pl l p .share) × (bytesCharged (front (pl l p)) * 65536 ≤ leftOf (pl l p .stand))
       × (leftOf (pl l p .stand) < 3 * largestCharge L * 65536)
   facts = Slot.facts L c l o H p (g .fine .shape) (g .one)
 
@@ -384,11 +384,11 @@ module _ (L c : ℕ) (l : List Place) (o : ℕ → List ℕ) (H : ℕ → ℕ) (
 
   -- the slot goes on
   module _ (more : 2 ≤ length (pl l p .lane))
-      (fits : charge (getD (drop 1 (pl l p .lane)) 0 noRecord) * 65536 ≤ leftOf (pl l p .stand) - charge (front (pl l p)) * 65536) where
+      (fits : bytesCharged (getD (drop 1 (pl l p .lane)) 0 noRecord) * 65536 ≤ leftOf (pl l p .stand) - bytesCharged (front (pl l p)) * 65536) where
     going-ok : PlaceOk L (going (pl l p))
     going-ok = Slot.going-ok L c l o H p (g .fine .shape) (g .one) more fits
 
-    sends-going : Sends (lit L c l o (some p) H) (lit L c (set l p (going (pl l p))) o (some p) H) p (charge (front (pl l p))) c 0
+    sends-going : Sends (lit L c l o (some p) H) (lit L c (set l p (going (pl l p))) o (some p) H) p (bytesCharged (front (pl l p))) c 0
     unfolding slotBytesLeft
     sends-going = record {
       good =
@@ -417,10 +417,10 @@ module _ (L c : ℕ) (l : List Place) (o : ℕ → List ℕ) (H : ℕ → ℕ) (
   emptied-ok : PlaceOk L (emptied (pl l p))
   emptied-ok = Slot.emptied-ok L c l o H p (g .fine .shape) (g .one)
 
-  ch-left : charge (front (pl l p)) ≤ leftOf (pl l p .stand) / 65536
+  ch-left : bytesCharged (front (pl l p)) ≤ leftOf (pl l p .stand) / 65536
   ch-left = omega (arith, facts .2)
 
-  sends-emptied : Sends (lit L c l o (some p) H) (ended (lit L c l o (some p) H) p (emptied (pl l p)) o) p (charge (front (pl l p))) c 0
+  sends-emptied : Sends (lit L c l o (some p) H) (ended (lit L c l o (some p) H) p (emptied (pl l p)) o) p (bytesCharged (front (pl l p))) c 0
   unfolding slotBytesLeft ended
   sends-emptied = record {
     good =
@@ -446,13 +446,13 @@ module _ (L c : ℕ) (l : List Place) (o : ℕ → List ℕ) (H : ℕ → ℕ) (
 
   -- the new front needs more than is left: the slot ends, and the block joins its order again
   module _ (more : 2 ≤ length (pl l p .lane))
-      (lacks : leftOf (pl l p .stand) - charge (front (pl l p)) * 65536 < charge (getD (drop 1 (pl l p .lane)) 0 noRecord) * 65536) where
+      (lacks : leftOf (pl l p .stand) - bytesCharged (front (pl l p)) * 65536 < bytesCharged (getD (drop 1 (pl l p .lane)) 0 noRecord) * 65536) where
     short-ok : PlaceOk L (short c (pl l p))
     short-ok = Slot.short-ok L c l o H p (g .fine .shape) (g .one) more lacks
 
     sends-short : Sends (lit L c l o (some p) H)
         (ended (lit L c l o (some p) H) p (short c (pl l p)) (upd o (blockClass (pl l p)) (o (blockClass (pl l p)) ++ (p ∷ [])))) p
-        (charge (front (pl l p))) c 0
+        (bytesCharged (front (pl l p))) c 0
     unfolding slotBytesLeft ended
     sends-short = record {
       good = record {
@@ -480,15 +480,15 @@ module _ (L c : ℕ) (l : List Place) (o : ℕ → List ℕ) (H : ℕ → ℕ) (
         nb = ended (lit L c l o (some p) H) p x (upd o (blockClass (pl l p)) (o (blockClass (pl l p)) ++ (p ∷ [])))
 
   -- SEND, the three ways
-  sends-lit : Sends (lit L c l o (some p) H) (sendFrom (lit L c l o (some p) H) p) p (charge (front (pl l p))) c 0
+  sends-lit : Sends (lit L c l o (some p) H) (sendFrom (lit L c l o (some p) H) p) p (bytesCharged (front (pl l p))) c 0
   unfolding sendFrom
   sends-lit = go (leb (length (pl l p .lane)) 1) refl
     where
       nx : ℕ
-      nx = charge (getD (drop 1 (pl l p .lane)) 0 noRecord) * 65536
+      nx = bytesCharged (getD (drop 1 (pl l p .lane)) 0 noRecord) * 65536
 
       rest : ℕ
-      rest = leftOf (pl l p .stand) - charge (front (pl l p)) * 65536
+      rest = leftOf (pl l p .stand) - bytesCharged (front (pl l p)) * 65536
 
       b : Board
       b = lit L c l o (some p) H
@@ -497,20 +497,20 @@ module _ (L c : ℕ) (l : List Place) (o : ℕ → List ℕ) (H : ℕ → ℕ) (
       o′ = upd o (blockClass (pl l p)) (o (blockClass (pl l p)) ++ (p ∷ []))
 
       two : 2 ≤ length (pl l p .lane) → (t : Bool) → ltb rest nx ≡ t
-          → Sends b (cond t (ended b p (short c (pl l p)) o′) (goOn b p (going (pl l p)))) p (charge (front (pl l p))) c 0
+          → Sends b (cond t (ended b p (short c (pl l p)) o′) (goOn b p (going (pl l p)))) p (bytesCharged (front (pl l p))) c 0
       two m true e = sends-short m (true-le (suc rest) nx e)
       two m false e = sends-going m (omega (arith, false-lt (suc rest) nx e))
 
       go : (t : Bool) → leb (length (pl l p .lane)) 1 ≡ t
           → Sends b (cond t (ended b p (emptied (pl l p)) o) (cond (ltb rest nx) (ended b p (short c (pl l p)) o′) (goOn b p (going (pl l p))))) p
-          (charge (front (pl l p))) c 0
+          (bytesCharged (front (pl l p))) c 0
       go true e = sends-emptied
       go false e = two (false-lt (length (pl l p .lane)) 1 e) (ltb rest nx) refl
 
 -- a send while the slot is open at p
-pub sends : (b : Board) (p : ℕ) → b .slot ≡ some p → Good b → Sends b (sendFrom b p) p (charge (front (at b p))) (b .clock) 0
+pub sends : (b : Board) (p : ℕ) → b .slot ≡ some p → Good b → Sends b (sendFrom b p) p (bytesCharged (front (at b p))) (b .clock) 0
 sends b p e =
-    subst (λ (s : Option ℕ). Good (set-slot s) → Sends (set-slot s) (sendFrom (set-slot s) p) p (charge (front (at b p))) (b .clock) 0) (sym e)
+    subst (λ (s : Option ℕ). Good (set-slot s) → Sends (set-slot s) (sendFrom (set-slot s) p) p (bytesCharged (front (at b p))) (b .clock) 0) (sym e)
     (sends-lit (b .largest) (b .clock) (b .places) (b .orders) (b .held) p)
   where
     set-slot : Option ℕ → Board
@@ -522,7 +522,7 @@ lane-some L share lane out e h = absurd (false≢true e)
 lane-some L share lane (queued r) e h = h .0
 lane-some L share lane (serving n) e h = h .0
 
-pub front-pos : (b : Board) (p : ℕ) → Good b → inLine (at b p .stand) ≡ true → 1 ≤ charge (front (at b p))
+pub front-pos : (b : Board) (p : ℕ) → Good b → inLine (at b p .stand) ≡ true → 1 ≤ bytesCharged (front (at b p))
 front-pos b p g w =
     fit-charge (b .largest) (front (at b p))
     (all-front (InSize (b .largest)) noRecord (at b p .lane)
@@ -532,7 +532,7 @@ pub keeps-send : (b : Board) (p : ℕ) → b .slot ≡ some p → Good b → Kee
 unfolding send
 keeps-send b p e g =
     keeps-sent b (sendFrom b p) (sending false b p) only isW (front-pos b p g isW) timely
-    (subst (λ (n : ℕ). Sends b (sendFrom b p) p (charge (front (at b p))) (b .clock) n) (sym given) (sends b p e g))
+    (subst (λ (n : ℕ). Sends b (sendFrom b p) p (bytesCharged (front (at b p))) (b .clock) n) (sym given) (sends b p e g))
   where
     isS : isServing (at b p .stand) ≡ true
     isS = g .one p ∙ ap (isAt p) e ∙ eqb-yes p p refl

@@ -26,8 +26,8 @@ abbrev pub noRecord : Record
 noRecord = record { number = 0; bytes = 0 }
 
 -- the bytes that a record is charged
-unfoldable pub charge : Record → ℕ
-charge x = charged (x .bytes)
+unfoldable pub bytesCharged : Record → ℕ
+bytesCharged x = charged (x .bytes)
 
 -- Where a block stands: it does not wait; it is in its class's order, with a ready time; it has the open slot, with so
 -- many parts left.

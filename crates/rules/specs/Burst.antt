@@ -4,7 +4,7 @@ use mathlib.Core.Bool.{cond}
 use mathlib.Core.List.{List, [], _∷_}
 use Prim.Native.Nat.{ℕ, zero, suc, _+_, _-_}
 use lib.Dec.{ltb}
-use Rattle.rules.specs.Board.{Record, charge, Board}
+use Rattle.rules.specs.Board.{Record, bytesCharged, Board}
 use Rattle.rules.specs.Choice.{Out, refused, done, taken, sent, serve}
 
 -- The count of records sent, the bytes they total, the code that stopped it, the record numbers written, in order, and
@@ -25,7 +25,7 @@ abbrev pub sentFirst : Record → Burst → Burst
 sentFirst r rest =
     record {
       count = suc (rest .count);
-      total = charge r + rest .total;
+      total = bytesCharged r + rest .total;
       code = rest .code;
       numbers = r .number ∷ rest .numbers;
       next = rest .next;
@@ -45,14 +45,14 @@ abbrev pub withRoom : Board → (bytes : ℕ) → Out → Burst → Burst
 withRoom b bytes (refused code) rest = stopped b code
 withRoom b bytes done rest = stopped b 14
 withRoom b bytes (taken a) rest = stopped b 14
-withRoom b bytes (sent s) rest = cond (ltb bytes (charge (s .front))) (stopped b 13) (sentFirst (s .front) rest)
+withRoom b bytes (sent s) rest = cond (ltb bytes (bytesCharged (s .front))) (stopped b 13) (sentFirst (s .front) rest)
 
 -- what the record to be sent next takes of the bytes
 abbrev pub chargeNext : Out → ℕ
 chargeNext (refused code) = 0
 chargeNext done = 0
 chargeNext (taken a) = 0
-chargeNext (sent s) = charge (s .front)
+chargeNext (sent s) = bytesCharged (s .front)
 
 -- a number of bytes, and a list with room for so many records
 unfoldable pub burst : Board → (bytes room : ℕ) → Burst

@@ -8,7 +8,8 @@ use lib.ListN.{length, getD, set, drop}
 use Rattle.base.specs.Tests.{least}
 use Rattle.units.specs.Classes.{nextStart}
 use Rattle.units.specs.Credit.{creditOf}
-use Rattle.rules.specs.Board.{Record, noRecord, charge, Stand, out, queued, serving, Place, moved, Board, at}
+use Rattle.rules.specs.Board.{Record, noRecord, bytesCharged, Stand, out, queued, serving, Place, moved, Board}
+use Rattle.rules.specs.Board.{at}
 use Rattle.rules.specs.Board.{depth, entry, onward, front, blockClass, isOpen, anyDue}
 
 -- ---- What a call does: what comes of it, and the next board
@@ -212,7 +213,7 @@ leftOf (serving left) = left
 
 -- what is left after the front record's charge
 abbrev pub leftAfter : Place → ℕ
-leftAfter x = leftOf (x .stand) - charge (front x) * 65536
+leftAfter x = leftOf (x .stand) - bytesCharged (front x) * 65536
 
 -- If the lane is now empty, the slot ends and the deficit is 0.
 abbrev pub emptied : Place → Place
@@ -230,7 +231,7 @@ going x = moved x (onward x) (drop 1 (x .lane)) 0 (serving (leftAfter x))
 unfoldable pub sendFrom : Board → (p : ℕ) → Board
 sendFrom b p =
     cond (leb (length (at b p .lane)) 1) (ended b p (emptied (at b p)) (b .orders))
-    (cond (ltb (leftAfter (at b p)) (charge (getD (drop 1 (at b p .lane)) 0 noRecord) * 65536))
+    (cond (ltb (leftAfter (at b p)) (bytesCharged (getD (drop 1 (at b p .lane)) 0 noRecord) * 65536))
     (ended b p (short (b .clock) (at b p))
     (upd (b .orders) (blockClass (at b p)) (b .orders (blockClass (at b p)) ++ (p ∷ []))))
     (goOn b p (going (at b p))))

@@ -11,7 +11,8 @@ use Rattle.base.specs.Sums.{sum}
 use Rattle.base.specs.Tests.{least}
 use Rattle.units.specs.Classes.{Start, nextStart}
 use Rattle.units.specs.Credit.{charged, largestCharge, creditOf}
-use Rattle.rules.specs.Board.{tableLength, Record, charge, Place, Board, at, entry, front, Seventeen, someWait}
+use Rattle.rules.specs.Board.{tableLength, Record, bytesCharged, Place, Board, at, entry, front, Seventeen}
+use Rattle.rules.specs.Board.{someWait}
 use Rattle.rules.specs.Board.{active, pending, fresh}
 use Rattle.rules.specs.Choice.{Sending, sent, openAt, find, isNone, leastReady, leftOf, serve}
 use Rattle.rules.specs.Blocks.{Opening}
@@ -220,7 +221,7 @@ pub record SendTells (b next : Board) (s : Sending) : Type 0 where
   pub entry : s .entry ≡ entry (s .place) (at b (s .place)) 0
   pub began : s .began ≡ isNone (b .slot)
   pub lost : 1 ≤ length (at next (s .place) .lane) → s .lost ≡ 0
-  pub parts : inHand (at next (s .place)) + s .lost + charge (s .front) * 65536
+  pub parts : inHand (at next (s .place)) + s .lost + bytesCharged (s .front) * 65536
       ≡ inHand (at b (s .place)) + cond (s .began) (creditOf (b .largest) (at b (s .place) .share)) 0
 
 abbrev pub SendsTell : Type 0

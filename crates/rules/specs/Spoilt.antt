@@ -11,7 +11,8 @@ use Rattle.base.specs.Sums.{oneIf}
 use Rattle.base.specs.Tests.{every, alike, allBelow}
 use Rattle.units.specs.Classes.{nextStart}
 use Rattle.units.specs.Credit.{largestCharge}
-use Rattle.rules.specs.Board.{Record, charge, Stand, out, queued, serving, Place, freePlace, Board, at, depth}
+use Rattle.rules.specs.Board.{Record, bytesCharged, Stand, out, queued, serving, Place, freePlace, Board, at}
+use Rattle.rules.specs.Board.{depth}
 use Rattle.rules.specs.Board.{front, blockClass, isOpen, waits, spent}
 use Rattle.rules.specs.Blocks.{quiet}
 
@@ -127,7 +128,8 @@ neverFalling places (p ∷ (q ∷ qs)) = leb (readyAt places p) (readyAt places 
 abbrev pub slotOf : (L : ℕ) → Place → Stand → Bool
 slotOf L x out = true
 slotOf L x (queued ready) = true
-slotOf L x (serving left) = waits x && (leb (charge (front x) * 65536) left && ltb left (3 * largestCharge L * 65536))
+slotOf L x (serving left) =
+    waits x && (leb (bytesCharged (front x) * 65536) left && ltb left (3 * largestCharge L * 65536))
 
 abbrev pub slotInTime : (slot : Option ℕ) (clock : ℕ) → Bool
 slotInTime none clock = true

@@ -16,8 +16,8 @@ use Rattle.slots.specs.Slots.{EmptyEnd, endedEmpty, WaitingEnd, endedWaiting, o
 use Rattle.serving.specs.Serving.{sentFrom, lostFrom, enacted, CanEnact, stayed, withinNow, Told, withinOf, servedWithin}
 
 -- ---- A send: entry, charge and start are what the code computed
-module _ (shares lens : List ℕ) (p : ℕ) (e : Engine) (entry charge on k : ℕ) (entry-is : entry ≡ laneEntry p (getD (e .starts) p 0) 0)
-    (charge-is : charge ≡ chargeOf (getD lens entry 0)) (on-is : on ≡ laneOn (getD (e .starts) p 0)) (k-is : k ≡ classOf (getD shares p 0)) where
+module _ (shares lens : List ℕ) (p : ℕ) (e : Engine) (entry bytesCharged on k : ℕ) (entry-is : entry ≡ laneEntry p (getD (e .starts) p 0) 0)
+    (charge-is : bytesCharged ≡ chargeOf (getD lens entry 0)) (on-is : on ≡ laneOn (getD (e .starts) p 0)) (k-is : k ≡ classOf (getD shares p 0)) where
   pub sent-last : getD (e .counts) p 0 - 1 ≡ 0 → (x : EmptyEnd)
       → x ≡ endedEmpty k (e .now .clock) (e .now .active) (e .now .pending) (e .queues .heads) (e .queues .held)
       → engineNow (set (e .starts) p on) (set (e .counts) p (getD (e .counts) p 0 - 1)) (e .queues .deficits) (e .queues .ready) (e .queues .next)
@@ -27,16 +27,24 @@ module _ (shares lens : List ℕ) (p : ℕ) (e : Engine) (entry charge on k : �
 
   module _ (following need : ℕ) (more : getD (e .counts) p 0 - 1 ≢ 0) (following-is : following ≡ laneEntry p on 0)
       (need-is : need ≡ chargeOf (getD lens following 0)) where
-    pub sent-on : need ≤ e .now .left .0 - charge
+    pub sent-on : need ≤ e .now .left .0 - bytesCharged
         → engineNow (set (e .starts) p on) (set (e .counts) p (getD (e .counts) p 0 - 1)) (e .queues .deficits) (e .queues .ready) (e .queues .next)
         (e .queues .heads) (e .queues .tails) (e .queues .held)
-        (numbersNow (e .now .clock) (e .now .active) (e .now .pending) (p + 1) (e .now .left .0 - charge)) ≡ sentFrom shares lens p e
+        (numbersNow (e .now .clock) (e .now .active) (e .now .pending) (p + 1) (e .now .left .0 - bytesCharged)) ≡ sentFrom shares lens p e
     unfolding sentFrom
     sent-on h =
-        rw (ne-eqb (getD (e .counts) p 0 - 1) 0 more, ← entry-is, ← charge-is, ← on-is, ← following-is, ← need-is, le-leb need (e .now .left .0 - charge) h)
+        rw (
+          ne-eqb (getD (e .counts) p 0 - 1) 0 more,
+          ← entry-is,
+          ← charge-is,
+          ← on-is,
+          ← following-is,
+          ← need-is,
+          le-leb need (e .now .left .0 - bytesCharged) h,
+        )
 
-    pub sent-waits : e .now .left .0 - charge < need → (x : WaitingEnd)
-        → x ≡ endedWaiting p k (e .now .left .0 - charge) (e .now .clock) (e .now .active) (e .now .pending) (e .queues)
+    pub sent-waits : e .now .left .0 - bytesCharged < need → (x : WaitingEnd)
+        → x ≡ endedWaiting p k (e .now .left .0 - bytesCharged) (e .now .clock) (e .now .active) (e .now .pending) (e .queues)
         → engineNow (set (e .starts) p on) (set (e .counts) p (getD (e .counts) p 0 - 1)) (x .queues .deficits) (x .queues .ready) (x .queues .next)
         (x .queues .heads) (x .queues .tails) (x .queues .held) (x .now) ≡ sentFrom shares lens p e
     unfolding sentFrom
@@ -48,17 +56,17 @@ module _ (shares lens : List ℕ) (p : ℕ) (e : Engine) (entry charge on k : �
           ← on-is,
           ← following-is,
           ← need-is,
-          lt-leb need (e .now .left .0 - charge) h,
+          lt-leb need (e .now .left .0 - bytesCharged) h,
           ← k-is,
           ← x-is,
         )
 
 -- what is lost of the slot
 module _ (lens : List ℕ) (p : ℕ) (e : Engine) where
-  pub lost-last : (entry charge : ℕ) → entry ≡ laneEntry p (getD (e .starts) p 0) 0
-      → charge ≡ chargeOf (getD lens entry 0) → getD (e .counts) p 0 - 1 ≡ 0 → e .now .left .0 - charge ≡ lostFrom lens p e
+  pub lost-last : (entry bytesCharged : ℕ) → entry ≡ laneEntry p (getD (e .starts) p 0) 0
+      → bytesCharged ≡ chargeOf (getD lens entry 0) → getD (e .counts) p 0 - 1 ≡ 0 → e .now .left .0 - bytesCharged ≡ lostFrom lens p e
   unfolding lostFrom
-  lost-last entry charge entry-is charge-is z =
+  lost-last entry bytesCharged entry-is charge-is z =
       rw (eq-eqb (getD (e .counts) p 0 - 1) 0 z, ← entry-is, ← charge-is)
 
   pub lost-none : getD (e .counts) p 0 - 1 ≢ 0 → 0 ≡ lostFrom lens p e
@@ -81,20 +89,20 @@ module _ (shares lens : List ℕ) (L bytes room : ℕ) (e : Engine) where
     unfolding servedWithin
     within-full s z s-is = rw (c, eq-eqb room 0 z, s-is)
 
-    module _ (entry charge : ℕ) (some : room ≢ 0) (entry-is : entry ≡ laneEntry p (getD (e .starts) p 0) 0)
-        (charge-is : charge ≡ charged (getD lens entry 0)) where
-      pub within-long : (s : Step) → bytes < charge → s ≡ stayed 13 (e .now) → atRest s
+    module _ (entry bytesCharged : ℕ) (some : room ≢ 0) (entry-is : entry ≡ laneEntry p (getD (e .starts) p 0) 0)
+        (charge-is : bytesCharged ≡ charged (getD lens entry 0)) where
+      pub within-long : (s : Step) → bytes < bytesCharged → s ≡ stayed 13 (e .now) → atRest s
       unfolding servedWithin
-      within-long s h s-is = rw (c, ne-eqb room 0 some, ← entry-is, ← charge-is, lt-ltb bytes charge h, s-is)
+      within-long s h s-is = rw (c, ne-eqb room 0 some, ← entry-is, ← charge-is, lt-ltb bytes bytesCharged h, s-is)
 
-      pub within-done : charge ≤ bytes → (n : Engine) (lost : ℕ)
+      pub within-done : bytesCharged ≤ bytes → (n : Engine) (lost : ℕ)
           → (n ≡ enacted shares lens L p t e) × (lost ≡ lostFrom lens p (opened shares L p t e))
           → let b = eqb (e .now .slot) 0 in
-          let told : Told = record { place = p; entry = entry; bytes = charge; clock = t; began = b; lost = lost } in
+          let told : Told = record { place = p; entry = entry; bytes = bytesCharged; clock = t; began = b; lost = lost } in
           withinOf 0 told n ≡ servedWithin shares lens L bytes room e
       unfolding servedWithin
       within-done h n lost (n-is, lost-is) =
-          rw (c, ne-eqb room 0 some, ← entry-is, ← charge-is, le-ltb bytes charge h, ← n-is, ← lost-is)
+          rw (c, ne-eqb room 0 some, ← entry-is, ← charge-is, le-ltb bytes bytesCharged h, ← n-is, ← lost-is)
 
 -- where a slot can serve, its place's lane is in the table
 pub can-read : (shares lens : List ℕ) (L p t : ℕ) (e : Engine) → CanEnact shares lens L p t e → (p < 64) × (length lens ≡ 2048)

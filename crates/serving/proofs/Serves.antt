@@ -22,7 +22,7 @@ use Rattle.units.proofs.Credits.{charge-small}
 use Rattle.lanes.specs.Lanes.{laneDepth, laneFirst, laneEntry, laneOn}
 use Rattle.lanes.proofs.Rings.{ring-moved}
 use Rattle.rules.specs.Board
-use Rattle.rules.specs.Board.{Record, noRecord, Place, freePlace, blockClass, at, entry, charge, front, onward}
+use Rattle.rules.specs.Board.{Record, noRecord, Place, freePlace, blockClass, at, entry, bytesCharged, front, onward}
 use Rattle.rules.specs.Choice.{isNone, Out, refused, done, taken, Sending, sending, sent, Turn, leftOf, leftAfter, lostAt, leastReady, upd, started, emptied}
 use Rattle.rules.specs.Choice.{short, going, ended, goOn, sendFrom, send, begin, lowest, chosen, serve}
 use Rattle.rules.specs.Spoilt.{count, inClass}
@@ -97,8 +97,8 @@ fits-not a b = go (split a b)
     go (inl l) = leb-yes a b l ∙ sym (ap not (le-ltb b a l))
     go (inr l) = leb-no a b l ∙ sym (ap not (lt-ltb b a l))
 
-charge-is : (r : Record) → chargeOf (r .bytes) ≡ charge r * 65536
-unfolding chargeOf charge
+charge-is : (r : Record) → chargeOf (r .bytes) ≡ bytesCharged r * 65536
+unfolding chargeOf bytesCharged
 charge-is r = refl
 
 after-is : (x : Place) → laneOn (x .start) ≡ onward x
@@ -147,7 +147,7 @@ module _ (m : Board.Board) (fit : Fit m) (p : ℕ) (held! : m .slot ≡ some p) 
       ∙ rw (rest-is, after-is x, last-one (length (x .lane)) one!) (go (leb (length (x .lane)) 1) refl (tidy-send m p held! (fit .tidy)))
     where
       need : ℕ
-      need = charge (getD (drop 1 (x .lane)) 0 noRecord) * 65536
+      need = bytesCharged (getD (drop 1 (x .lane)) 0 noRecord) * 65536
 
       A : Board.Board
       A = ended m p (emptied x) (m .orders)
@@ -165,7 +165,7 @@ module _ (m : Board.Board) (fit : Fit m) (p : ℕ) (held! : m .slot ≡ some p) 
       two h true t = short-is m fit p held! h t
       two h false t = going-is m fit p held! h
 
-      needs : 1 < length (x .lane) → chargeOf (getD lens (laneEntry p (onward x) 0) 0) ≡ charge (getD (drop 1 (x .lane)) 0 noRecord) * 65536
+      needs : 1 < length (x .lane) → chargeOf (getD lens (laneEntry p (onward x) 0) 0) ≡ bytesCharged (getD (drop 1 (x .lane)) 0 noRecord) * 65536
       needs h =
           ap (λ (n : ℕ). chargeOf (getD lens (laneEntry p n 0) 0)) (sym (after-is x))
           ∙ ap (λ (r : Record). chargeOf (r .bytes)) (second-is m fit ids lens holds p h) ∙ charge-is (getD (drop 1 (x .lane)) 0 noRecord)
@@ -204,10 +204,10 @@ module _ (m : Board.Board) (fit : Fit m) (p : ℕ) (held! : m .slot ≡ some p) 
 
       go : (t : Bool) → Holds
           (cond t (ended m p (emptied x) (m .orders))
-          (cond (ltb (leftAfter x) (charge (getD (drop 1 (x .lane)) 0 noRecord) * 65536))
+          (cond (ltb (leftAfter x) (bytesCharged (getD (drop 1 (x .lane)) 0 noRecord) * 65536))
           (ended m p (short (m .clock) x) (upd (m .orders) (blockClass x) (m .orders (blockClass x) ++ (p ∷ [])))) (goOn m p (going x)))) ids lens
       go true = with! (emptied x) (sym (empty-lane ids lens p (emptied x)))
-      go false = two (ltb (leftAfter x) (charge (getD (drop 1 (x .lane)) 0 noRecord) * 65536))
+      go false = two (ltb (leftAfter x) (bytesCharged (getD (drop 1 (x .lane)) 0 noRecord) * 65536))
 
   last-small : (k : ℕ) → lastLink (m .orders k) ≤ 64
   last-small k = go (lastLink (m .orders k)) refl
@@ -230,7 +230,7 @@ module _ (m : Board.Board) (fit : Fit m) (p : ℕ) (held! : m .slot ≡ some p) 
     fits = rw (start-is m p, bytes-is, charge-is (front x), left-of) (ok .2);
   }
     where
-      ok : (1 ≤ length (x .lane)) × (1 ≤ x .share) × (charge (front x) * 65536 ≤ leftOf (x .stand))
+      ok : (1 ≤ length (x .lane)) × (1 ≤ x .share) × (bytesCharged (front x) * 65536 ≤ leftOf (x .stand))
           × (leftOf (x .stand) < 3 * largestCharge (m .largest) * 65536)
       ok = serving-ok (m .largest) (x .share) (x .lane) (x .stand) (isS m fit p held!) (fit .tidy .shape .placeOk p .standOk)
 

@@ -14,7 +14,7 @@ use Rattle.units.proofs.Credits.{charge-small}
 use Rattle.lanes.specs.Lanes.{laneEntry}
 use Rattle.lanes.proofs.Lanes.{lane-inside}
 use Rattle.rules.specs.Board
-use Rattle.rules.specs.Board.{Record, at, charge}
+use Rattle.rules.specs.Board.{Record, at, bytesCharged}
 use Rattle.rules.specs.Choice.{Out, refused, Sending, sent, serve}
 use Rattle.rules.specs.Burst.{stopped, sentFirst, burst}
 use Rattle.rules.specs.Calls.{serve!, step}
@@ -50,15 +50,15 @@ module _ (m : Board.Board) (bytes : ℕ) (s : Sending) (e : serve m .out ≡ sen
   unfolding burst
   burst-full room z = rw (z, e)
 
-  burst-long : (room : ℕ) → room ≢ 0 → bytes < charge r → burst m bytes room ≡ stopped m 13
+  burst-long : (room : ℕ) → room ≢ 0 → bytes < bytesCharged r → burst m bytes room ≡ stopped m 13
   unfolding burst
   burst-long zero ne h = absurd (ne refl)
-  burst-long (suc room) ne h = rw (e, lt-ltb bytes (charge r) h)
+  burst-long (suc room) ne h = rw (e, lt-ltb bytes (bytesCharged r) h)
 
-  burst-goes : (room : ℕ) → room ≢ 0 → charge r ≤ bytes → burst m bytes room ≡ sentFirst r (burst (serve m .next) (bytes - charge r) (room - 1))
+  burst-goes : (room : ℕ) → room ≢ 0 → bytesCharged r ≤ bytes → burst m bytes room ≡ sentFirst r (burst (serve m .next) (bytes - bytesCharged r) (room - 1))
   unfolding burst
   burst-goes zero ne h = absurd (ne refl)
-  burst-goes (suc room) ne h = let less : suc room - 1 ≡ room = omega arith in rw (e, le-ltb bytes (charge r) h, less)
+  burst-goes (suc room) ne h = let less : suc room - 1 ≡ room = omega arith in rw (e, le-ltb bytes (bytesCharged r) h, less)
 
 -- ---- It stops, with a code, and leaves all as it was
 
@@ -67,7 +67,7 @@ pub record Stops (m : Board.Board) (bytes room : ℕ) (w : Within) : Type 0 wher
   pub same : w ≡ withinOf (w .step .code) untold (engineOf (encode m))
   pub burst-is : burst m bytes room ≡ stopped m (w .step .code)
   -- the serve is refused, or the list or the bytes stop the burst
-  pub why : (serve m .out ≡ refused (w .step .code)) ⊎ ((room ≡ 0) ⊎ ((r : Record) × (bytes < charge r) × (charge r < 65536)))
+  pub why : (serve m .out ≡ refused (w .step .code)) ⊎ ((room ≡ 0) ⊎ ((r : Record) × (bytes < bytesCharged r) × (bytesCharged r < 65536)))
 
 -- ---- Or a record is sent
 
@@ -83,13 +83,13 @@ pub record Goes (m : Board.Board) (ids lens : List ℕ) (bytes room : ℕ) (w : 
   pub next : withEngine (encode m) (engineAfter w) ≡ encode (serve m .next)
   pub holds : Holds (serve m .next) ids lens
   pub some : room ≢ 0
-  pub fits : charge (sends .front) ≤ bytes
+  pub fits : bytesCharged (sends .front) ≤ bytes
   pub inside : w .step .place < 64
   pub entry : w .step .entry < 2048
-  pub charge-is : w .step .bytes .0 ≡ charge (sends .front)
+  pub charge-is : w .step .bytes .0 ≡ bytesCharged (sends .front)
   pub number-is : getD ids (w .step .entry) 0 ≡ sends .front .number
   pub bytes-is : getD lens (w .step .entry) 0 ≡ sends .front .bytes
-  pub burst-is : burst m bytes room ≡ sentFirst (sends .front) (burst (serve m .next) (bytes - charge (sends .front)) (room - 1))
+  pub burst-is : burst m bytes room ≡ sentFirst (sends .front) (burst (serve m .next) (bytes - bytesCharged (sends .front)) (room - 1))
 
 -- a record that is sent is no longer than L
 small-charge : (n L : ℕ) → n ≤ L → L ≤ 2048 → charged n < 65536
@@ -102,7 +102,7 @@ module _ (m : Board.Board) (fit : Fit m) (ids lens : List ℕ) (holds : Holds m 
 
   go-on : (s : Sending) → serve m .out ≡ sent s → Serves m ids lens s (serve m .next)
       → let c = Go (s .place) (s .clock) in Stops m bytes room (made c) ⊎ Goes m ids lens bytes room (made c)
-  unfolding charge
+  unfolding bytesCharged
   go-on s e w = rw (start-is m p, w .bytes) (by-room (split 1 room))
     where
       p : ℕ

@@ -24,7 +24,7 @@ use Rattle.units.specs.Credit.{charged, largestCharge, chargeOf}
 use Rattle.units.proofs.Classes.{class-le}
 use Rattle.lanes.specs.Lanes.{laneEntry}
 use Rattle.rules.specs.Board
-use Rattle.rules.specs.Board.{Record, charge, out, queued, serving, Place, at, front, blockClass, isOpen, waits, spent}
+use Rattle.rules.specs.Board.{Record, bytesCharged, out, queued, serving, Place, at, front, blockClass, isOpen, waits, spent}
 use Rattle.rules.specs.Spoilt
 use Rattle.rules.specs.Spoilt.{everyPlace, isQueued, isServing, lengthsIn, standsByLane, isAt, count, inClass, allPlaces, slotAtPlace, ordersListed, readyNum}
 use Rattle.rules.specs.Spoilt.{neverFalling, slotOf, slotInTime, clauses, unspoilt}
@@ -64,8 +64,8 @@ every-from b ids lens t h = all-intro (λ p. t (at (view b ids lens) p)) 64 (λ 
 
 -- the front record's charge, in parts
 pub front-charge : (b : struct.Board) (ids lens : List ℕ) (p : ℕ) → eqb (getD (b .counts) p 0) 0 ≡ false
-    → charge (front (placeOf b ids lens p)) * 65536 ≡ chargeOf (getD lens (laneEntry p (getD (b .starts) p 0) 0) 0)
-unfolding charge chargeOf placeOf
+    → bytesCharged (front (placeOf b ids lens p)) * 65536 ≡ chargeOf (getD lens (laneEntry p (getD (b .starts) p 0) 0) 0)
+unfolding bytesCharged chargeOf placeOf
 front-charge b ids lens p e =
     ap (λ (r : Record). charged (r .bytes) * 65536) (lane-at ids lens p (bareOf b p) (getD (b .counts) p 0) 0 (pos (getD (b .counts) p 0) e))
     ∙ ap (λ (i : ℕ). charged (getD lens i 0) * 65536) (record-is b ids lens p 0)
@@ -206,8 +206,8 @@ module _ (b : struct.Board) (ids lens : List ℕ) (z : Sized b) (r : Rules b len
       go false ec true es =
           let w = slot-serves b ids lens r p (eqb-true (b .slot) (p + 1) es ∙ add-one p) in
           and-both (waits (placeOf b ids lens p)) _ (waits-is b ids lens p ∙ ap not ec)
-          (and-both (leb (charge (front (placeOf b ids lens p)) * 65536) (b .left .0)) _
-          (le-leb (charge (front (placeOf b ids lens p)) * 65536) (b .left .0) (omega (arith, w .fits, front-charge b ids lens p ec)))
+          (and-both (leb (bytesCharged (front (placeOf b ids lens p)) * 65536) (b .left .0)) _
+          (le-leb (bytesCharged (front (placeOf b ids lens p)) * 65536) (b .left .0) (omega (arith, w .fits, front-charge b ids lens p ec)))
           (le-leb (suc (b .left .0)) (3 * largestCharge (b .largest) * 65536) (omega (arith, w .under))))
 
   slot-time : slotInTime (v .slot) (v .clock) ≡ true

@@ -23,7 +23,7 @@ use Rattle.units.specs.Classes.{classOf, nextStart}
 use Rattle.units.specs.Credit.{largestCharge, chargeOf}
 use Rattle.lanes.specs.Lanes.{laneEntry}
 use Rattle.rules.specs.Board
-use Rattle.rules.specs.Board.{out, queued, serving, Place, freePlace, at, front, charge, blockClass, isOpen, waits, spent, active, pending}
+use Rattle.rules.specs.Board.{out, queued, serving, Place, freePlace, at, front, bytesCharged, blockClass, isOpen, waits, spent, active, pending}
 use Rattle.rules.specs.Spoilt.{isQueued, isServing, isAt, count, readyNum, slotOf}
 use Rattle.rules.proofs.Orders.{ready}
 use Rattle.rules.proofs.Shape.{listed-in}
@@ -235,11 +235,12 @@ module _ (b : struct.Board) (ids lens : List ℕ) (z : Sized b) (s : Sound b ids
   slot-none e = ap slotBy e
 
   front-rule : (p : ℕ) → b .slot ≡ suc p → p < 64 → eqb (getD (b .counts) p 0) 0 ≡ false
-      → (charge (front (placeOf b ids lens p)) * 65536 ≤ b .left .0) × (b .left .0 < 3 * largestCharge (b .largest) * 65536)
+      → (bytesCharged (front (placeOf b ids lens p)) * 65536 ≤ b .left .0) × (b .left .0 < 3 * largestCharge (b .largest) * 65536)
   unfolding view
   front-rule p e h c =
       d-and (d-true (waits (placeOf b ids lens p)))
-      (d-and (d-leb (charge (front (placeOf b ids lens p)) * 65536) (b .left .0)) (d-leb (suc (b .left .0)) (3 * largestCharge (b .largest) * 65536))) .yes
+      (d-and (d-leb (bytesCharged (front (placeOf b ids lens p)) * 65536) (b .left .0))
+      (d-leb (suc (b .left .0)) (3 * largestCharge (b .largest) * 65536))) .yes
       (ap (slotOf (b .largest) (placeOf b ids lens p)) (sym stands) ∙ passes p h .slot) .1
     where
       stands : placeOf b ids lens p .stand ≡ serving (b .left .0)
