@@ -49,7 +49,8 @@ impl Busy {
         PLACES * LANE_DEPTH / self.records()
     }
 
-    /// One burst that empties the board: the box's public call; the second program's engine, with no check; and its public call.
+    /// One burst that empties the board: the box's public call; the second program's engine, with no check; and its
+    /// public call.
     pub fn measure_bursts(&self, rounds: usize) -> [f64; 3] {
         let mut lists = vec![vec![0; self.records() + 1]; self.boards()];
         let (mut engine_lists, mut public_lists) = (lists.clone(), lists.clone());
@@ -57,12 +58,20 @@ impl Busy {
             let mut boards = vec![proved::Board::from(self.lent.board.clone()); self.boards()];
             let Tables { numbers, lengths } = &self.lent.tables;
             let (time, bursts) = timed(|| {
-                let burst = |(board, list): (&mut proved::Board, &mut Vec<u32>)| proved::burst(board, numbers, lengths, u64::MAX, list);
+                let burst = |(board, list): (&mut proved::Board, &mut Vec<u32>)| {
+                    proved::burst(board, numbers, lengths, u64::MAX, list)
+                };
                 boards.iter_mut().zip(&mut lists).map(burst).collect::<Vec<_>>()
             });
             let mut hash = Hash::new();
             for ((board, list), (code, total)) in boards.into_iter().zip(&lists).zip(bursts) {
-                self.take_burst(&mut hash, &board.into(), &self.lent.tables, list, (total.count, total.bytes, code.into()));
+                self.take_burst(
+                    &mut hash,
+                    &board.into(),
+                    &self.lent.tables,
+                    list,
+                    (total.count, total.bytes, code.into()),
+                );
             }
             Round { time, hash: hash.value() }
         });
@@ -76,7 +85,13 @@ impl Busy {
             for ((engine, list), burst) in engines.iter().zip(&engine_lists).zip(bursts) {
                 let mut tables = self.lent.tables.clone();
                 let board = write_back(engine, &mut tables);
-                self.take_burst(&mut hash, &board, &tables, list, (burst.count, burst.bytes.0, burst.stopped_by.code()));
+                self.take_burst(
+                    &mut hash,
+                    &board,
+                    &tables,
+                    list,
+                    (burst.count, burst.bytes.0, burst.stopped_by.code()),
+                );
             }
             Round { time, hash: hash.value() }
         });
@@ -88,14 +103,27 @@ impl Busy {
             });
             let mut hash = Hash::new();
             for ((lent, list), burst) in lents.iter().zip(&public_lists).zip(bursts) {
-                self.take_burst(&mut hash, &lent.board, &lent.tables, list, (burst.count, burst.bytes.0, burst.stopped_by.code()));
+                self.take_burst(
+                    &mut hash,
+                    &lent.board,
+                    &lent.tables,
+                    list,
+                    (burst.count, burst.bytes.0, burst.stopped_by.code()),
+                );
             }
             Round { time, hash: hash.value() }
         });
         best_in_turn(rounds, [proved, engine, public])
     }
 
-    fn take_burst(&self, hash: &mut Hash, board: &Board, tables: &Tables, list: &[u32], (count, bytes, code): (usize, u64, u32)) {
+    fn take_burst(
+        &self,
+        hash: &mut Hash,
+        board: &Board,
+        tables: &Tables,
+        list: &[u32],
+        (count, bytes, code): (usize, u64, u32),
+    ) {
         assert_eq!(count, self.records(), "a burst empties the board");
         hash.take(count as u64);
         hash.take(bytes);
@@ -117,7 +145,14 @@ impl Busy {
             let mut tables = self.lent.tables.clone();
             let (time, codes) = timed(|| {
                 let record = |&(block, Record { number, length }): &(u32, Record)| {
-                    u32::from(proved::record(&mut board, &mut tables.numbers, &mut tables.lengths, block, number, length))
+                    u32::from(proved::record(
+                        &mut board,
+                        &mut tables.numbers,
+                        &mut tables.lengths,
+                        block,
+                        number,
+                        length,
+                    ))
                 };
                 calls.iter().map(record).collect::<Vec<u32>>()
             });
@@ -140,7 +175,9 @@ impl Busy {
             let mut board = proved::Board::from(self.lent.board.clone());
             let tables = &self.lent.tables;
             let (time, sent) = timed(|| {
-                (0..SINGLE_CALLS).map(|_| proved::serve(&mut board, &tables.numbers, &tables.lengths)).collect::<Vec<(u8, Sent)>>()
+                (0..SINGLE_CALLS)
+                    .map(|_| proved::serve(&mut board, &tables.numbers, &tables.lengths))
+                    .collect::<Vec<(u8, Sent)>>()
             });
             let answers = sent.into_iter().map(|(code, sent)| (u32::from(code), sent));
             Round { time, hash: hash_of_serves(&board.into(), tables, answers) }

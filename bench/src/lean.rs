@@ -1,4 +1,5 @@
-//! The second program's lines written by hand, with no formatter and no text for each line: what its listing costs at the least.
+//! The second program's lines written by hand, with no formatter and no text for each line: what its listing costs at
+//! the least.
 
 use second::engine::Sent;
 use second::listing::Line;
@@ -12,7 +13,9 @@ pub fn text(lines: &[Line]) -> Vec<u8> {
             Line::Close { block, code } => put(&mut out, b"close", &[block.into(), code.into()]),
             Line::Name { old, new, code } => put(&mut out, b"name", &[old.into(), new.into(), code.into()]),
             Line::In { record, code } => put(&mut out, b"in", &[record.into(), code.into()]),
-            Line::Out(Sent { block, record, length, clock }) => put(&mut out, b"out", &[block.into(), record.into(), length.into(), clock]),
+            Line::Out(Sent { block, record, length, clock }) => {
+                put(&mut out, b"out", &[block.into(), record.into(), length.into(), clock])
+            }
             Line::NothingOut { code } => put(&mut out, b"out -", &[code.into()]),
             Line::End { clock, sent: Bytes(sent), waiting } => put(&mut out, b"end", &[clock, sent, waiting as u64]),
             Line::Broken { offset } => put(&mut out, b"broken", &[offset as u64]),

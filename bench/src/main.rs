@@ -1,4 +1,5 @@
-//! Times the proved box against the plain second program and prints the tables of docs/SPEED.md. `bench ROUNDS` runs so many rounds of each case.
+//! Times the proved box against the plain second program and prints the tables of docs/SPEED.md. `bench ROUNDS` runs so
+//! many rounds of each case.
 
 mod boards;
 mod lean;
@@ -25,7 +26,10 @@ fn main() {
 }
 
 fn logs(rounds: usize) {
-    println!("| within a log, for each field | busy blocks | box, pieces of 4,096 | pieces of 65,536 | second | ratio | ratio | second, lean lines | ratio | ratio |");
+    println!(
+        "| within a log, for each field | busy blocks | box, pieces of 4,096 | pieces of 65,536 \
+         | second | ratio | ratio | second, lean lines | ratio | ratio |"
+    );
     println!("|---|---|---|---|---|---|---|---|---|---|");
     let of_shapes = BUSY.map(|blocks| ("whole log", blocks, Logs::of_shape(&format!("busy{blocks}"))));
     let of_pairs = BUSY.map(|blocks| ("record and serve in turn", blocks, Logs::of_pairs(blocks as u32)));
@@ -38,14 +42,19 @@ fn logs(rounds: usize) {
 }
 
 fn bursts(rounds: usize) {
-    println!("\n| burst of full lanes, for each record | busy blocks | box, public call | second's engine | ratio | second, public call | ratio |");
+    println!(
+        "\n| burst of full lanes, for each record | busy blocks | box, public call | second's engine | ratio \
+         | second, public call | ratio |"
+    );
     println!("|---|---|---|---|---|---|---|");
     for blocks in BUSY {
         let busy = Busy::new(blocks, 32);
         let records = (busy.records() * busy.boards()) as f64;
         let [proved, engine, public] = busy.measure_bursts(rounds).map(|time| time / records);
         let (to_engine, to_public) = (proved / engine, proved / public);
-        println!("| burst | {blocks} | {proved:.1} | {engine:.1} | **{to_engine:.2}** | {public:.1} | {to_public:.2} |");
+        println!(
+            "| burst | {blocks} | {proved:.1} | {engine:.1} | **{to_engine:.2}** | {public:.1} | {to_public:.2} |"
+        );
     }
 }
 
@@ -54,7 +63,9 @@ fn single_calls(rounds: usize) {
     println!("|---|---|---|---|---|");
     for blocks in BUSY {
         let busy = Busy::new(blocks, 16);
-        for (what, [proved, second]) in [("record", busy.measure_records(rounds)), ("serve", busy.measure_serves(rounds))] {
+        for (what, [proved, second]) in
+            [("record", busy.measure_records(rounds)), ("serve", busy.measure_serves(rounds))]
+        {
             println!("| {what} | {blocks} | {proved:.0} | {second:.0} | **{:.2}** |", proved / second);
         }
     }

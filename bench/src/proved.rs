@@ -69,10 +69,25 @@ pub struct Total {
 
 // A slice goes to C as its first element's address and its length.
 extern "C" {
-    fn box_listing(log: *const u8, log_len: usize, piece: *mut u8, piece_len: usize, out: *mut u8, out_len: usize) -> usize;
+    fn box_listing(
+        log: *const u8,
+        log_len: usize,
+        piece: *mut u8,
+        piece_len: usize,
+        out: *mut u8,
+        out_len: usize,
+    ) -> usize;
     fn box_record(b: &mut Board, ids: &mut Ids, lens: &mut Lens, block: u32, id: u32, length: u16) -> u8;
     fn box_serve(b: &mut Board, ids: &Ids, lens: &Lens, sent: &mut Told) -> u8;
-    fn box_burst(b: &mut Board, ids: &Ids, lens: &Lens, bytes: u64, list: *mut u32, list_len: usize, total: &mut Total) -> u8;
+    fn box_burst(
+        b: &mut Board,
+        ids: &Ids,
+        lens: &Lens,
+        bytes: u64,
+        list: *mut u32,
+        list_len: usize,
+        total: &mut Total,
+    ) -> u8;
 }
 
 /// Writes a log's listing to the front of a buffer, by pieces that go through another, and gives its length.

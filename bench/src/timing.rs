@@ -1,4 +1,5 @@
-//! Sides that do the same work take turns in one process; of each the best round counts, and in every round all give the same answers.
+//! Sides that do the same work take turns in one process; of each the best round counts, and in every round all give
+//! the same answers.
 
 use std::time::{Duration, Instant};
 

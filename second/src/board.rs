@@ -1,4 +1,5 @@
-//! The board as the box holds it in memory: one value of numbers, besides the two lent tables. Any numbers may stand in it.
+//! The board as the box holds it in memory: one value of numbers, besides the two lent tables. Any numbers may stand in
+//! it.
 //!
 //! A link is a place plus 1, and 0 is none.
 
@@ -74,7 +75,11 @@ impl Board {
     }
 }
 
-fn show_row<T: Copy + Into<u64>>(word: &'static str, row: &[T], show: &mut impl FnMut(&'static str, Option<usize>, u64)) {
+fn show_row<T: Copy + Into<u64>>(
+    word: &'static str,
+    row: &[T],
+    show: &mut impl FnMut(&'static str, Option<usize>, u64),
+) {
     for (index, &value) in row.iter().enumerate() {
         show(word, Some(index), value.into());
     }

@@ -73,7 +73,8 @@ impl Lent {
         }
     }
 
-    /// Plays one call on the plain engine and writes the board back, after a refusal too: the engine must leave it as it was.
+    /// Plays one call on the plain engine and writes the board back, after a refusal too: the engine must leave it as
+    /// it was.
     fn call<T>(&mut self, play: impl FnOnce(&mut Engine) -> Result<T, Refusal>) -> Result<T, Refusal> {
         self.check()?;
         let mut engine = engine_of(&self.board, &self.tables);

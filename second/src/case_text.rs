@@ -1,6 +1,7 @@
 //! The case text: boards given field by field and calls on them, with an answer line for each call.
 //!
-//! A line is read into steps, one for each raw line; only `order` and `sets` stand for more than one. A step has a byte form too.
+//! A line is read into steps, one for each raw line; only `order` and `sets` stand for more than one. A step has a byte
+//! form too.
 
 use crate::board::{link_to, Board};
 use crate::calls::Lent;
@@ -65,7 +66,8 @@ const fn rule(word: Word, written: &'static str, operands: &'static [u64]) -> Ru
     Rule { word, written, operands }
 }
 
-/// Every step that is written as it is carried. `case` is not among them: it is written with a name and carried with a number.
+/// Every step that is written as it is carried. `case` is not among them: it is written with a name and carried with a
+/// number.
 const RULES: [Rule; 27] = [
     rule(Word::Tables, "tables", &[ENTRIES, ENTRIES]),
     rule(Word::Largest, "largest", &[U32]),
@@ -138,7 +140,8 @@ impl Cases {
         Cases { lent: Lent::all_zeros(), cases_begun: 0 }
     }
 
-    /// Plays the lines and shows every step with its answer. A line that can't be read refuses the rest, with a message.
+    /// Plays the lines and shows every step with its answer. A line that can't be read refuses the rest, with a
+    /// message.
     pub fn play(&mut self, text: &str, mut show: impl FnMut(&Step, Option<String>)) -> Result<(), String> {
         for line in word_lines(text) {
             let steps = self.steps(&line.words).map_err(|message| format!("line {}: {message}", line.number))?;
@@ -165,9 +168,10 @@ impl Cases {
 
     fn steps_of_sets(&self) -> Result<Vec<Step>, String> {
         match spell(&self.lent.board, &self.lent.tables) {
-            Ok(spelled) => {
-                Ok(vec![step(Word::Active, &[spelled.active_set().into()]), step(Word::Pending, &[spelled.pending_set().into()])])
-            }
+            Ok(spelled) => Ok(vec![
+                step(Word::Active, &[spelled.active_set().into()]),
+                step(Word::Pending, &[spelled.pending_set().into()]),
+            ]),
             Err(_) => Err("the links do not spell orders".to_string()),
         }
     }
@@ -323,7 +327,8 @@ fn step_of_rule(written: &str, operands: &[&str]) -> Result<Step, String> {
     if operands.len() != rule.operands.len() {
         return Err(format!("{written} takes {} numbers", rule.operands.len()));
     }
-    let operands: Result<Vec<u64>, String> = operands.iter().zip(rule.operands).map(|(word, &largest)| number(word, largest)).collect();
+    let operands: Result<Vec<u64>, String> =
+        operands.iter().zip(rule.operands).map(|(word, &largest)| number(word, largest)).collect();
     Ok(Step { word: rule.word, operands: operands? })
 }
 

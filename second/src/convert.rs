@@ -37,7 +37,8 @@ fn block_of(spelled: &Spelled, place: usize) -> Block {
     }
 }
 
-/// All shares held in one class have one release, the class's next start: one closed before the last start would be free by now.
+/// All shares held in one class have one release, the class's next start: one closed before the last start would be
+/// free by now.
 fn holds_of(board: &Board) -> Vec<Hold> {
     let hold = |class: usize| Hold { class, share: board.held[class], release: next_start(class, board.clock) };
     (0..CLASSES).map(hold).filter(|hold| hold.share != 0).collect()

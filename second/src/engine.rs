@@ -1,6 +1,7 @@
 //! The plain engine: the rules of document 01 over queues, vectors and a map.
 //!
-//! A lane is a queue of records, a class's order is a queue of turns. There are no links between places and no class sets.
+//! A lane is a queue of records, a class's order is a queue of turns. There are no links between places and no class
+//! sets.
 
 use std::collections::{BTreeMap, VecDeque};
 
@@ -265,7 +266,9 @@ impl Engine {
     fn front_of(&self, next: &Next) -> Record {
         let place = match *next {
             Next::OpenSlot(slot) => slot.place,
-            Next::NewSlot { class, .. } => self.orders[class].front().expect("a class with a slot to begin has a first turn").place,
+            Next::NewSlot { class, .. } => {
+                self.orders[class].front().expect("a class with a slot to begin has a first turn").place
+            }
         };
         *self.block(place).lane.front().expect("the block of a turn or a slot waits")
     }

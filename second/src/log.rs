@@ -93,7 +93,8 @@ impl<'a> Iterator for Reader<'a> {
     }
 }
 
-/// The whole field that begins at the offset, and where it ends. A cut field, another tag and a wrong length give nothing.
+/// The whole field that begins at the offset, and where it ends. A cut field, another tag and a wrong length give
+/// nothing.
 fn field_at(log: &[u8], offset: usize) -> Option<(Field<'_>, usize)> {
     let head = log.get(offset..offset + HEAD_BYTES)?;
     let length = usize::from(u16_at(head, 1));

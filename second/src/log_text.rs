@@ -1,6 +1,7 @@
 //! A log as readable lines, one field a line, and back.
 //!
-//! What the reader would call broken is one `raw` line for the rest of the bytes, so every row of bytes comes back as it was.
+//! What the reader would call broken is one `raw` line for the rest of the bytes, so every row of bytes comes back as
+//! it was.
 
 use crate::log::{Field, Reader, FIRST_PASSED_OVER};
 use crate::words::{number, word_lines};
@@ -43,7 +44,8 @@ fn hex(bytes: &[u8]) -> String {
     bytes.iter().map(|byte| format!("{byte:02x}")).collect()
 }
 
-/// The lines as the bytes of a log. The lines may say anything, in any order; a line that says nothing known is told by its number.
+/// The lines as the bytes of a log. The lines may say anything, in any order; a line that says nothing known is told by
+/// its number.
 pub fn bytes(text: &str) -> Result<Vec<u8>, String> {
     let mut log = Vec::new();
     for line in word_lines(text) {
@@ -63,7 +65,9 @@ fn write_line(log: &mut Vec<u8>, words: &[&str]) -> Result<(), String> {
         }
         ["serve"] => Field::Serve.write(log),
         ["other", tag] => Field::Other { tag: passed_over_tag(tag)?, value: &[] }.write(log),
-        ["other", tag, value] => Field::Other { tag: passed_over_tag(tag)?, value: &passed_over_value(value)? }.write(log),
+        ["other", tag, value] => {
+            Field::Other { tag: passed_over_tag(tag)?, value: &passed_over_value(value)? }.write(log)
+        }
         ["raw", bytes] => log.extend(bytes_of_hex(bytes)?),
         _ => return Err(format!("{} is not a line of a log", words.join(" "))),
     }
@@ -97,7 +101,9 @@ fn passed_over_value(word: &str) -> Result<Vec<u8>, String> {
 fn bytes_of_hex(word: &str) -> Result<Vec<u8>, String> {
     let digits: Option<Vec<u32>> = word.chars().map(|digit| digit.to_digit(16)).collect();
     match digits {
-        Some(digits) if digits.len() % 2 == 0 => Ok(digits.chunks(2).map(|pair| (16 * pair[0] + pair[1]) as u8).collect()),
+        Some(digits) if digits.len() % 2 == 0 => {
+            Ok(digits.chunks(2).map(|pair| (16 * pair[0] + pair[1]) as u8).collect())
+        }
         _ => Err("the bytes are not pairs of hex digits".to_string()),
     }
 }

@@ -1,4 +1,5 @@
-//! The five slips that document 01 warns of, each behind a switch that only tests can set, to see that the stored logs tell them.
+//! The five slips that document 01 warns of, each behind a switch that only tests can set, to see that the stored logs
+//! tell them.
 
 use std::collections::VecDeque;
 

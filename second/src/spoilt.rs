@@ -140,12 +140,15 @@ impl Spelled<'_> {
 
     /// Bit k is set exactly when a block of class k waits, an open slot's included.
     pub fn active_set(&self) -> u32 {
-        self.waiting_places().filter_map(|place| class_of(self.board.shares[place])).fold(0, |set, class| set | 1 << class)
+        self.waiting_places()
+            .filter_map(|place| class_of(self.board.shares[place]))
+            .fold(0, |set, class| set | 1 << class)
     }
 
     /// Bit k is set exactly when a block in the order of class k is ready.
     pub fn pending_set(&self) -> u32 {
-        let is_pending = |class: &usize| self.orders[*class].iter().any(|&place| self.board.ready[place] <= self.board.clock);
+        let is_pending =
+            |class: &usize| self.orders[*class].iter().any(|&place| self.board.ready[place] <= self.board.clock);
         (0..CLASSES).filter(is_pending).fold(0, |set, class| set | 1 << class)
     }
 }
@@ -170,7 +173,9 @@ fn shares_are_in_range(spelled: &Spelled) -> bool {
 
 fn starts_and_counts_are_in_range(spelled: &Spelled) -> bool {
     let board = spelled.board;
-    spelled.open_places().all(|place| usize::from(board.starts[place]) < LANE_DEPTH && usize::from(board.counts[place]) <= LANE_DEPTH)
+    spelled
+        .open_places()
+        .all(|place| usize::from(board.starts[place]) < LANE_DEPTH && usize::from(board.counts[place]) <= LANE_DEPTH)
 }
 
 fn waiting_lengths_are_in_range(spelled: &Spelled) -> bool {
@@ -189,9 +194,9 @@ fn deficits_are_in_range(spelled: &Spelled) -> bool {
 
 fn all_not_in_use_is_zero(spelled: &Spelled) -> bool {
     let board = spelled.board;
-    let free_places = (0..PLACES)
-        .filter(|&place| !spelled.is_open(place))
-        .all(|place| board.shares[place] == 0 && board.deficits[place] == 0 && board.starts[place] == 0 && board.counts[place] == 0);
+    let free_places = (0..PLACES).filter(|&place| !spelled.is_open(place)).all(|place| {
+        board.shares[place] == 0 && board.deficits[place] == 0 && board.starts[place] == 0 && board.counts[place] == 0
+    });
     let ready_times = (0..PLACES).all(|place| spelled.is_in_an_order(place) || board.ready[place] == 0);
     let no_slot = spelled.slot.is_some() || board.left == 0;
     free_places && ready_times && no_slot
@@ -208,7 +213,8 @@ fn nothing_is_held_if_none_waits(spelled: &Spelled) -> bool {
 
 /// Whether the slot's own block waits is asked by the clause on the slot.
 fn waiting_blocks_and_no_others_are_in_order(spelled: &Spelled) -> bool {
-    let all_are_there = spelled.waiting_places().all(|place| (spelled.slot == Some(place)) != spelled.is_in_an_order(place));
+    let all_are_there =
+        spelled.waiting_places().all(|place| (spelled.slot == Some(place)) != spelled.is_in_an_order(place));
     let no_others_are_there = (0..CLASSES).all(|class| {
         let belongs = |&place: &usize| spelled.waits(place) && class_of(spelled.board.shares[place]) == Some(class);
         spelled.orders[class].iter().all(belongs)
@@ -232,7 +238,10 @@ fn open_slot_is_right(spelled: &Spelled) -> bool {
     };
     let left = Parts(spelled.board.left);
     let front = spelled.tables.lengths[spelled.entry(place, 0)];
-    spelled.waits(place) && charge(front) <= left && left < slot_limit(spelled.board.largest) && spelled.board.clock < CLOCK_END
+    spelled.waits(place)
+        && charge(front) <= left
+        && left < slot_limit(spelled.board.largest)
+        && spelled.board.clock < CLOCK_END
 }
 
 fn class_sets_are_right(spelled: &Spelled) -> bool {

@@ -147,9 +147,36 @@ fn watch_run(seed: u64, slips: Slips) -> Result<(), String> {
     watch.traffic.engine.slips = slips;
     // A line sold out and busy is what strains the bounds; the classes are low, so that many intervals pass.
     let habits = [
-        Habits { open: 20, rename: 3, close: 20, record: 45, serve: 45, lowest_class: 1, numbers: 40, ..Habits::mixed() },
-        Habits { open: 10, rename: 3, close: 30, record: 45, serve: 70, lowest_class: 0, numbers: 40, ..Habits::mixed() },
-        Habits { open: 30, rename: 3, close: 3, record: 60, serve: 45, lowest_class: 3, numbers: 90, ..Habits::mixed() },
+        Habits {
+            open: 20,
+            rename: 3,
+            close: 20,
+            record: 45,
+            serve: 45,
+            lowest_class: 1,
+            numbers: 40,
+            ..Habits::mixed()
+        },
+        Habits {
+            open: 10,
+            rename: 3,
+            close: 30,
+            record: 45,
+            serve: 70,
+            lowest_class: 0,
+            numbers: 40,
+            ..Habits::mixed()
+        },
+        Habits {
+            open: 30,
+            rename: 3,
+            close: 3,
+            record: 60,
+            serve: 45,
+            lowest_class: 3,
+            numbers: 90,
+            ..Habits::mixed()
+        },
         Habits::mixed(),
     ];
     for _ in 0..15 {

@@ -24,8 +24,8 @@ fn power(base: u128, mut exponent: u64) -> u128 {
     result
 }
 
-/// A board fresh from `make 64` has three values that are not 0, all under 2^16: L and the lengths of the two tables. So its digest is
-/// the sum of the powers of 65,599, one for each part, and three powers more, with a factor each.
+/// A board fresh from `make 64` has three values that are not 0, all under 2^16: L and the lengths of the two tables.
+/// So its digest is the sum of the powers of 65,599, one for each part, and three powers more, with a factor each.
 #[test]
 fn the_digest_of_a_fresh_board_by_hand() {
     let fields_before_largest = 7 * 64 + 3 * 17;
@@ -82,9 +82,15 @@ fn every_field_and_entry_is_in_the_digest() {
         assert!(add(&format!("{field} 1")), "{field}");
         assert!(add(&format!("{field} 200")), "{field}");
     }
-    for line in
-        ["entry 0 1 0", "entry 0 0 1", "entry 2047 1 0", "entry 2047 0 1", "tables 2047 2048", "tables 2048 2047", "tables 2047 2047"]
-    {
+    for line in [
+        "entry 0 1 0",
+        "entry 0 0 1",
+        "entry 2047 1 0",
+        "entry 2047 0 1",
+        "tables 2047 2048",
+        "tables 2048 2047",
+        "tables 2047 2047",
+    ] {
         assert!(add(line), "{line}");
     }
 }
@@ -127,7 +133,9 @@ fn the_shape_codes_reaches_every_call_with_every_code() {
 #[test]
 fn the_shape_codes_answers_what_its_comments_expect() {
     let text = shape("codes", 1);
-    let is_call = |line: &&str| OPERANDS.iter().any(|(op, word, _)| (20..28).contains(op) && line.split(' ').next() == Some(word));
+    let is_call = |line: &&str| {
+        OPERANDS.iter().any(|(op, word, _)| (20..28).contains(op) && line.split(' ').next() == Some(word))
+    };
     let calls: Vec<&str> = text.lines().filter(is_call).collect();
     let codes: Vec<(String, u32)> = answers(&text).unwrap().lines().filter_map(call_and_code).collect();
     assert_eq!(calls.len(), codes.len());
@@ -145,8 +153,9 @@ fn the_shape_codes_answers_what_its_comments_expect() {
 
 #[test]
 fn the_random_shapes_reach_what_they_are_named_for() {
-    let with_codes =
-        |call: &str, codes: &[u32]| -> BTreeSet<(String, u32)> { codes.iter().map(|&code| (call.to_string(), code)).collect() };
+    let with_codes = |call: &str, codes: &[u32]| -> BTreeSet<(String, u32)> {
+        codes.iter().map(|&code| (call.to_string(), code)).collect()
+    };
     for seed in 1..=3 {
         let run = calls_and_codes(&shape("run", seed));
         let wanted: [(&str, &[u32]); 6] = [
@@ -166,7 +175,8 @@ fn the_random_shapes_reach_what_they_are_named_for() {
     }
 }
 
-/// Every send is under the number of that moment, every record is sent once and in order, and the old numbers are unknown.
+/// Every send is under the number of that moment, every record is sent once and in order, and the old numbers are
+/// unknown.
 #[test]
 fn the_renaming_story_sends_every_record_under_the_name_of_the_moment() {
     for seed in 1..=10 {
@@ -200,8 +210,8 @@ fn the_renaming_story_sends_every_record_under_the_name_of_the_moment() {
 
 #[test]
 fn what_show_writes_can_be_read_again() {
-    let board =
-        "make 100\nopen 11 32768\nopen 12 49\nrecord 11 1 60\nrecord 12 2 50\nrecord 11 3 30\nserve\ntables 2049 7\nentry 2048 5 5\n";
+    let board = "make 100\nopen 11 32768\nopen 12 49\nrecord 11 1 60\nrecord 12 2 50\nrecord 11 3 30\nserve\n\
+         tables 2049 7\nentry 2048 5 5\n";
     let shown = answers(&format!("case a\n{board}show\n")).unwrap();
     let raw_lines: Vec<&str> = shown.lines().skip_while(|line| !line.starts_with("number")).collect();
     assert!(raw_lines.len() > 12, "{shown}");
@@ -220,10 +230,12 @@ fn a_case_begins_with_zeros_and_two_full_tables() {
 #[test]
 fn order_and_sets_stand_for_raw_lines() {
     let base = "case a\nlargest 100\nclock 8\n";
-    let blocks =
-        "number 1 5\nshare 1 16384\ncount 1 1\nready 1 8\nentry 32 1 1\nnumber 4 6\nshare 4 16384\ncount 4 1\nready 4 12\nentry 128 1 1\n";
+    let blocks = "number 1 5\nshare 1 16384\ncount 1 1\nready 1 8\nentry 32 1 1\n\
+         number 4 6\nshare 4 16384\ncount 4 1\nready 4 12\nentry 128 1 1\n";
     let short = answers(&format!("{base}{blocks}order 2 1 4\nsets\nspoilt\nshow\n")).unwrap();
-    let raw = answers(&format!("{base}{blocks}head 2 2\ntail 2 5\nnext 1 5\nnext 4 0\nactive 4\npending 4\nspoilt\nshow\n")).unwrap();
+    let raw =
+        answers(&format!("{base}{blocks}head 2 2\ntail 2 5\nnext 1 5\nnext 4 0\nactive 4\npending 4\nspoilt\nshow\n"))
+            .unwrap();
     assert_eq!(short, raw);
     assert!(short.contains("\nspoilt 0 #"), "{short}");
     assert_eq!(

@@ -21,7 +21,8 @@ const WORKED_LOG: [u8; 110] = [
     5, 0, 0, 5, 0, 0, 5, 0, 0, 5, 0, 0, 5, 0, 0, 5, 0, 0, // serve
 ];
 
-const WORKED_LISTING: &str = "open 11 0\nopen 12 0\nin 1 0\nin 2 0\nin 3 0\nin 4 0\nin 5 0\nout 11 1 100 2\nout 11 2 60 4
+const WORKED_LISTING: &str =
+    "open 11 0\nopen 12 0\nin 1 0\nin 2 0\nin 3 0\nin 4 0\nin 5 0\nout 11 1 100 2\nout 11 2 60 4
 out 12 3 100 5\nout 12 4 100 8\nout 12 5 100 8\nout - 1\nend 9 460 0\n";
 
 fn listing(log: &[u8]) -> String {
@@ -88,7 +89,11 @@ fn a_later_field_that_is_not_whole_is_broken_where_it_begins() {
         "raw 800001",
     ] {
         assert_eq!(listing_of_text(&format!("largest 100\nopen 1 1\n{tail}\n")), "open 1 0\nbroken 16\n", "{tail}");
-        assert_eq!(listing_of_text(&format!("largest 100\nopen 1 1\n{tail}\nserve\n")).lines().next(), Some("open 1 0"), "{tail}");
+        assert_eq!(
+            listing_of_text(&format!("largest 100\nopen 1 1\n{tail}\nserve\n")).lines().next(),
+            Some("open 1 0"),
+            "{tail}"
+        );
     }
     assert_eq!(listing_of_text("largest 100\nserve\nlargest 100\nserve\n"), "out - 1\nbroken 8\n");
     assert_eq!(listing_of_text("largest 100\nserve\nraw 06000163\nserve\n"), "out - 1\nbroken 8\n");
@@ -146,7 +151,8 @@ fn reachable() -> BTreeSet<(&'static str, u32)> {
 #[test]
 fn the_log_shapes_reach_every_line_with_every_code_with_any_seed() {
     for seed in [1, 2, 3] {
-        let reached: BTreeSet<_> = LOG_SHAPES.iter().flat_map(|(_, shape)| play(&shape(seed))).map(|line| kind_and_code(&line)).collect();
+        let reached: BTreeSet<_> =
+            LOG_SHAPES.iter().flat_map(|(_, shape)| play(&shape(seed))).map(|line| kind_and_code(&line)).collect();
         assert_eq!(reached, reachable(), "seed {seed}");
     }
 }
@@ -172,13 +178,23 @@ fn each_shape_reaches_what_it_is_named_for() {
                 _ => assert!(log.len() <= LONGEST_LOG && matches!(last, Line::End { .. }), "{name} {seed}"),
             }
         }
-        for (name, code) in [("full", ("in", 9)), ("places", ("open", 7)), ("held", ("open", 8)), ("bad", ("in", 4)), ("bad", ("name", 4))]
-        {
+        for (name, code) in [
+            ("full", ("in", 9)),
+            ("places", ("open", 7)),
+            ("held", ("open", 8)),
+            ("bad", ("in", 4)),
+            ("bad", ("name", 4)),
+        ] {
             assert!(kinds_of_shape(name, seed).contains(&code), "{name} {seed}");
         }
         for name in ["churn", "largest64", "largest2048", "powers"] {
             assert!(
-                kinds_of_shape(name, seed).is_superset(&BTreeSet::from([("open", 0), ("open", 5), ("name", 0), ("close", 0)])),
+                kinds_of_shape(name, seed).is_superset(&BTreeSet::from([
+                    ("open", 0),
+                    ("open", 5),
+                    ("name", 0),
+                    ("close", 0)
+                ])),
                 "{name} {seed}"
             );
         }

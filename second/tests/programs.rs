@@ -10,8 +10,13 @@ const CASES: &str = env!("CARGO_BIN_EXE_cases");
 const MAKER: &str = env!("CARGO_BIN_EXE_maker");
 
 fn run(program: &str, arguments: &[&str], input: &[u8]) -> Output {
-    let mut child =
-        Command::new(program).args(arguments).stdin(Stdio::piped()).stdout(Stdio::piped()).stderr(Stdio::piped()).spawn().unwrap();
+    let mut child = Command::new(program)
+        .args(arguments)
+        .stdin(Stdio::piped())
+        .stdout(Stdio::piped())
+        .stderr(Stdio::piped())
+        .spawn()
+        .unwrap();
     let mut stdin = child.stdin.take().unwrap();
     let input = input.to_vec();
     let writer = std::thread::spawn(move || {

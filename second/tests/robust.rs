@@ -38,8 +38,8 @@ fn a_thousand_valid_logs_with_bytes_changed_after_l() {
     assert!((100..1_000).contains(&broken), "{broken} of the logs are broken");
 }
 
-/// Random bytes of every length up to 64 KB, alone and behind an L, where they are read further. Every length is a part of drawn bytes
-/// from a place of its own, so that no two begin alike.
+/// Random bytes of every length up to 64 KB, alone and behind an L, where they are read further. Every length is a part
+/// of drawn bytes from a place of its own, so that no two begin alike.
 #[test]
 fn random_bytes_of_every_length() {
     const MOST: usize = 65_536;
@@ -121,7 +121,8 @@ fn calls_on_boards_with_any_numbers() {
     ];
     let (mut spoilt, mut sound) = (0, 0);
     for _ in 0..3_000 {
-        let mut text = "case a\nmake 100\nopen 11 32768\nopen 12 8192\nopen 13 8192\nrecord 11 1 90\nrecord 12 2 9\nrecord 13 3 9\nserve\n"
+        let mut text = "case a\nmake 100\nopen 11 32768\nopen 12 8192\nopen 13 8192\nrecord 11 1 90\n\
+             record 12 2 9\nrecord 13 3 9\nserve\n"
             .to_string();
         for _ in 0..random.between(1, 4) {
             let (word, indexes, most) = random.pick(&fields);

@@ -36,7 +36,10 @@ fn a_credit_is_at_least_l_bytes_and_less_than_2l() {
     for share in 1..=WHOLE_LINE {
         for largest in [64, 100, 2_048] {
             let credit = credit(share, largest);
-            assert!(Bytes(largest.into()).in_parts() <= credit && credit < Bytes(2 * u64::from(largest)).in_parts(), "share {share}");
+            assert!(
+                Bytes(largest.into()).in_parts() <= credit && credit < Bytes(2 * u64::from(largest)).in_parts(),
+                "share {share}"
+            );
         }
     }
 }

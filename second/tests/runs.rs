@@ -1,4 +1,5 @@
-//! Long random runs: nothing is lost, a burst is that many serves, a refusal leaves everything, no board of a run is spoilt.
+//! Long random runs: nothing is lost, a burst is that many serves, a refusal leaves everything, no board of a run is
+//! spoilt.
 
 use std::collections::{BTreeMap, VecDeque};
 
@@ -147,12 +148,14 @@ fn play_on_lent(lent: &mut Lent, call: Call) -> u32 {
 }
 
 fn entries_changed(before: &Lent, after: &Lent) -> usize {
-    let pairs = |lent: &Lent| -> Vec<(u32, u16)> { lent.tables.numbers.iter().copied().zip(lent.tables.lengths.iter().copied()).collect() };
+    let pairs = |lent: &Lent| -> Vec<(u32, u16)> {
+        lent.tables.numbers.iter().copied().zip(lent.tables.lengths.iter().copied()).collect()
+    };
     pairs(before).iter().zip(&pairs(after)).filter(|(before, after)| before != after).count()
 }
 
-/// The board is taken apart and written back at each call; the engine beside goes on. Both must say the same all the way,
-/// so all that the engine keeps is in the board's value, the release of a held share too.
+/// The board is taken apart and written back at each call; the engine beside goes on. Both must say the same all the
+/// way, so all that the engine keeps is in the board's value, the release of a held share too.
 #[test]
 fn a_run_on_the_boards_value_is_the_run_of_the_engine() {
     for seed in 0..60 {

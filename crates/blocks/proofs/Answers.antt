@@ -13,7 +13,7 @@ use Rattle.base.specs.Sums.{below}
 use Rattle.arrays.specs.Lists.{totalOf}
 use Rattle.arrays.proofs.Totals.{total-map, total-below}
 use Rattle.rules.specs.Board
-use Rattle.rules.specs.Board.{Place, freePlace, at, waits, out, spent}
+use Rattle.rules.specs.Board.{Place, freePlace, at, waits, out, usedShare}
 use Rattle.rules.specs.Spoilt.{isQueued}
 use Rattle.rules.specs.Choice.{Turn, whereIs, numberOutside, goOn}
 use Rattle.rules.specs.Blocks.{meant, opened, freeAt, shareOutside, allTaken, overFree, openBlock, renameBlock, closed, closeBlock}
@@ -38,19 +38,19 @@ use Rattle.blocks.specs.Blocks.{Answered, answered, openAt, openedIn, cl
 use Rattle.blocks.proofs.Blocks.{rename-is, open-is, close-is, quiet-active}
 
 module _ (m : Board.Board) (f : Fit m) where
-  spent-is : totalOf (encode m .shares) + totalOf (encode m .held) ≡ spent m
-  unfolding encode spent
-  spent-is = ap₂ (λ (a c : ℕ). a + c) (total-map (λ (y : Place). y .share) (m .places)) held-is
+  used-is : totalOf (encode m .shares) + totalOf (encode m .held) ≡ usedShare m
+  unfolding encode usedShare
+  used-is = ap₂ (λ (a c : ℕ). a + c) (total-map (λ (y : Place). y .share) (m .places)) held-is
     where
       held-is : totalOf (tab 17 (m .held)) ≡ below (m .held) 17
       held-is = total-below (tab 17 (m .held)) 17 (m .held) (length-tab 17 (m .held)) (λ k h. getD-tab 17 (m .held) k 0 h)
 
   room-is : (s : ℕ) → 1 ≤ s → ltb 65536 (totalOf (encode m .shares) + totalOf (encode m .held) + s) ≡ overFree m s
-  room-is s pos = ap (λ (n : ℕ). ltb 65536 (n + s)) spent-is ∙ go (split (65537 - spent m) s)
+  room-is s pos = ap (λ (n : ℕ). ltb 65536 (n + s)) used-is ∙ go (split (65537 - usedShare m) s)
     where
-      go : (65537 - spent m ≤ s) ⊎ (s < 65537 - spent m) → leb 65537 (spent m + s) ≡ leb (suc (65536 - spent m)) s
-      go (inl h) = leb-yes 65537 (spent m + s) (omega arith) ∙ sym (leb-yes (suc (65536 - spent m)) s (omega arith))
-      go (inr h) = leb-no 65537 (spent m + s) (omega arith) ∙ sym (leb-no (suc (65536 - spent m)) s (omega arith))
+      go : (65537 - usedShare m ≤ s) ⊎ (s < 65537 - usedShare m) → leb 65537 (usedShare m + s) ≡ leb (suc (65536 - usedShare m)) s
+      go (inl h) = leb-yes 65537 (usedShare m + s) (omega arith) ∙ sym (leb-yes (suc (65536 - usedShare m)) s (omega arith))
+      go (inr h) = leb-no 65537 (usedShare m + s) (omega arith) ∙ sym (leb-no (suc (65536 - usedShare m)) s (omega arith))
 
   inside : (p : ℕ) → p < 64 → p < length (m .places)
   inside p h = omega (arith, f .tidy .shape .all64)

@@ -39,7 +39,7 @@ module _ (m : Board.Board) (f : Fit m) where
     where
       go : (17 ≤ k) ⊎ (k < 17) → getD (tab 17 (m .held)) k 0 ≤ 65536
       go (inl h) = rw (getD-tab-out 17 (m .held) k 0 h) (omega arith)
-      go (inr h) = rw (getD-tab 17 (m .held) k 0 h) (omega (arith, below-at (m .held) k, below-mono (m .held) (suc k) 17 h, f .tidy .shape .spent))
+      go (inr h) = rw (getD-tab 17 (m .held) k 0 h) (omega (arith, below-at (m .held) k, below-mono (m .held) (suc k) 17 h, f .tidy .shape .usedShare))
         where
           below-at : (H : ℕ → ℕ) (j : ℕ) → H j ≤ below H (suc j)
           below-at H j = omega arith

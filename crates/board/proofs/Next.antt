@@ -107,7 +107,7 @@ module _ (m : Board.Board) (ids lens : List ℕ) (f : Fit m) (holds : Holds m id
 -- ---- THE NEXT BOARD
 
 -- what a call on b gives back whose turn by the rules is t: a refusal gives all back as it was
-pub record Follows (b : struct.Board) (ids lens : List ℕ) (r : Returned Reply) (t : Turn) : Type 0 where
+pub record ReturnsTurn (b : struct.Board) (ids lens : List ℕ) (r : Returned Reply) (t : Turn) : Type 0 where
   pub code : r .reply .code ≡ codeOf (told (view b ids lens) (t .out))
   pub same : r .reply .code ≢ 0 → r ≡ returned (replied (r .reply .code) b) ids lens
   pub reads : view (r .reply .board) (r .ids) (r .lens) ≡ t .next
@@ -133,7 +133,7 @@ module _ (b : struct.Board) (ids lens : List ℕ) (k : Known b ids lens) where
 
   -- a next board that fits, whose lanes the tables hold
   next-good : (t : Turn) (ids′ lens′ : List ℕ) → 0 ≡ codeOf (told m (t .out)) → Fit (t .next) → Holds (t .next) ids′ lens′ → length ids′ ≡ 2048
-      → length lens′ ≡ 2048 → Follows b ids lens (returned (replied 0 (encode (t .next))) ids′ lens′) t
+      → length lens′ ≡ 2048 → ReturnsTurn b ids lens (returned (replied 0 (encode (t .next))) ids′ lens′) t
   next-good t ids′ lens′ e fit h a d =
       record {
         code = e;
@@ -144,7 +144,7 @@ module _ (b : struct.Board) (ids lens : List ℕ) (k : Known b ids lens) where
       }
 
   abbrev Goal : Single → Turn → Type 0
-  Goal x t = Fit (t .next) → isServe x ≡ false → Follows b ids lens (turned b ids lens m x t) t
+  Goal x t = Fit (t .next) → isServe x ≡ false → ReturnsTurn b ids lens (turned b ids lens m x t) t
 
   cases : CallCases m Goal
   unfolding closed
@@ -161,6 +161,6 @@ module _ (b : struct.Board) (ids lens : List ℕ) (k : Known b ids lens) where
   }
 
   -- OPEN, RENAME, CLOSE AND RECORD: done or refused, what is left follows the rules, and the next call may be made on it
-  pub call-follows : (x : Single) → isServe x ≡ false → Follows b ids lens (ruled b ids lens x) (step m x)
+  pub call-follows : (x : Single) → isServe x ≡ false → ReturnsTurn b ids lens (ruled b ids lens x) (step m x)
   unfolding ruled
   call-follows x e = call-cases m (f .tidy) Goal cases x (fit-step m x f) e

@@ -62,16 +62,16 @@ module _ (b : struct.Board) (ids lens : List ℕ) (k : Known b ids lens) where
   unfolding called ruled
   called-known x = ap (written b ids lens) (sym (call-known b ids lens (one x) k))
 
-  pub serve-known : (r : Served) → r ≡ goodServe b ids lens → returned r ids lens ≡ calledServe b ids lens
+  pub serve-called : (r : Served) → r ≡ goodServe b ids lens → returned r ids lens ≡ calledServe b ids lens
   unfolding calledServe goodServe step
-  serve-known r e =
+  serve-called r e =
       rw e (ap (λ (o : Outcome). returned (servedBy b (o .answer) (boardOr (view b ids lens) (o .board))) (idsAfter (o .entries) ids)
       (lensAfter (o .entries) lens))
       (sym (call-known b ids lens (one serve!) k)))
 
-  pub burst-known : (bytes : ℕ) (list : List ℕ) (r : BurstOutcome) → r ≡ goodBurst b ids lens bytes list
+  pub burst-called : (bytes : ℕ) (list : List ℕ) (r : BurstOutcome) → r ≡ goodBurst b ids lens bytes list
       → returned r ids lens ≡ calledBurst b ids lens bytes list
   unfolding calledBurst goodBurst
-  burst-known bytes list r e =
+  burst-called bytes list r e =
       rw e (ap (λ (o : Outcome). returned (burstedBy b (o .answer) (o .board) (o .list)) (idsAfter (o .entries) ids) (lensAfter (o .entries) lens))
       (sym (call-known b ids lens (burst! bytes list) k)))

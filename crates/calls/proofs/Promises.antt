@@ -24,7 +24,7 @@ use Rattle.board.specs.Leaving.{Known}
 use Rattle.calls.specs.Contract.{notServed, goodServe, BurstOutcome, burstNow, burstBy, goodBurst}
 use Rattle.board.proofs.Fields.{number-is}
 use Rattle.serving.proofs.Serves.{ByAnswer, serve-by}
-use Rattle.serving.proofs.Within.{fit-serve, Stops, Goes}
+use Rattle.serving.proofs.Within.{fit-serve, Stops, SendsOne}
 use Rattle.serving.proofs.Known.{within, known-encode, spells, fit, holds, by-cases, after-is, known-next}
 
 module _ (b : struct.Board) (ids lens : List ℕ) (known : Known b ids lens) where
@@ -38,7 +38,7 @@ module _ (b : struct.Board) (ids lens : List ℕ) (known : Known b ids lens) whe
     unfolding goodServe
     serve-stops ne = go (by-cases b ids lens known bytes 1 w w-is)
       where
-        go : Stops m bytes 1 w ⊎ Goes m ids lens bytes 1 w → notServed b (w .step .code) ≡ goodServe b ids lens
+        go : Stops m bytes 1 w ⊎ SendsOne m ids lens bytes 1 w → notServed b (w .step .code) ≡ goodServe b ids lens
         go (inr g) = absurd (ne (g .code))
         go (inl s) = why (s .why)
           where
@@ -62,7 +62,7 @@ module _ (b : struct.Board) (ids lens : List ℕ) (known : Known b ids lens) whe
     unfolding goodServe
     serve-goes z n n-is = go (by-cases b ids lens known bytes 1 w w-is)
       where
-        go : Stops m bytes 1 w ⊎ Goes m ids lens bytes 1 w
+        go : Stops m bytes 1 w ⊎ SendsOne m ids lens bytes 1 w
             → _≡_ {A = Served} (record {
               code = 0;
               block = getD (b .numbers) (w .step .place) 0;
@@ -160,7 +160,7 @@ module _ (b : struct.Board) (ids lens : List ℕ) (known : Known b ids lens) (by
   abbrev mb : Board.Board
   mb = view b ids lens
 
-  cases : Stops mb (bytes - total) (length list - count) w ⊎ Goes mb ids lens (bytes - total) (length list - count) w
+  cases : Stops mb (bytes - total) (length list - count) w ⊎ SendsOne mb ids lens (bytes - total) (length list - count) w
   cases = by-cases b ids lens known (bytes - total) (length list - count) w w-is
 
   -- it stops; n is the board made again
@@ -169,7 +169,7 @@ module _ (b : struct.Board) (ids lens : List ℕ) (known : Known b ids lens) (by
   unfolding burstFrom
   burst-stop ne n n-is = go cases
     where
-      go : Stops mb (bytes - total) (length list - count) w ⊎ Goes mb ids lens (bytes - total) (length list - count) w
+      go : Stops mb (bytes - total) (length list - count) w ⊎ SendsOne mb ids lens (bytes - total) (length list - count) w
           → burstNow (record { count = count; bytes = record { 0 = total }; code = w .step .code; board = n }) list
           ≡ burstFrom b ids lens bytes count total list
       go (inr g) = absurd (ne (g .code))
@@ -185,11 +185,11 @@ module _ (b : struct.Board) (ids lens : List ℕ) (known : Known b ids lens) (by
 
   -- it goes on
   module _ (z : w .step .code ≡ 0) where
-    goes : Goes mb ids lens (bytes - total) (length list - count) w
+    goes : SendsOne mb ids lens (bytes - total) (length list - count) w
     goes = go cases
       where
-        go : Stops mb (bytes - total) (length list - count) w ⊎ Goes mb ids lens (bytes - total) (length list - count) w
-            → Goes mb ids lens (bytes - total) (length list - count) w
+        go : Stops mb (bytes - total) (length list - count) w ⊎ SendsOne mb ids lens (bytes - total) (length list - count) w
+            → SendsOne mb ids lens (bytes - total) (length list - count) w
         go (inl s) = absurd (s .code z)
         go (inr g) = g
 

@@ -12,7 +12,7 @@ ghost use lib.ListN.{length};
 ghost use Rattle.cases.specs.Tables.{Lendable};
 
 // What the steps so far have left besides the tables: how many entries of each are lent, and the board.
-pub struct State {
+pub struct CaseState {
     pub numbers: usize,
     pub lengths: usize,
     pub board: Board,
@@ -20,12 +20,12 @@ pub struct State {
 
 // The board of all zeros and two tables of 2,048 entries. A making with an L of 0 gives that board, and being refused
 // it leaves the tables.
-pub fn fresh(ids: &mut [u32], lens: &mut [u16]) -> State
+pub fn fresh(ids: &mut [u32], lens: &mut [u16]) -> CaseState
     ensures { λ r. ⌜ Lendable (r .numbers) (r .lengths) ⌝ }
 {
     let refused = calls::make(ids, lens, 0);
     let board = refused.board;
-    State {
+    CaseState {
         numbers: TABLE_ENTRIES,
         lengths: TABLE_ENTRIES,
         board: board,
@@ -33,7 +33,7 @@ pub fn fresh(ids: &mut [u32], lens: &mut [u16]) -> State
 }
 
 // A case begins with the board and the tables all zeros.
-fn begin(ids: &mut [u32], lens: &mut [u16], whole: &mut bool) -> State
+fn begin(ids: &mut [u32], lens: &mut [u16], whole: &mut bool) -> CaseState
     ensures { λ r. ⌜ Lendable (r .numbers) (r .lengths) ⌝ }
 {
     let number = input::number(u64::MAX, &mut *whole);
@@ -46,13 +46,13 @@ fn begin(ids: &mut [u32], lens: &mut [u16], whole: &mut bool) -> State
     fresh(ids, lens)
 }
 
-fn resize(ids: &mut [u32], lens: &mut [u16], whole: &mut bool, b: Board) -> State
+fn resize(ids: &mut [u32], lens: &mut [u16], whole: &mut bool, b: Board) -> CaseState
     ensures { λ r. ⌜ Lendable (r .numbers) (r .lengths) ⌝ }
 {
     let numbers = input::index(tables::MOST, &mut *whole);
     let lengths = input::index(tables::MOST, whole);
     tables::cut(ids, lens, numbers, lengths);
-    State {
+    CaseState {
         numbers: numbers,
         lengths: lengths,
         board: b,
@@ -81,7 +81,7 @@ fn on_lent(step: u8, ids: &mut [u32], lens: &mut [u16], whole: &mut bool, b: Boa
     }
 }
 
-fn play(step: u8, ids: &mut [u32], lens: &mut [u16], whole: &mut bool, s: State) -> State
+fn play(step: u8, ids: &mut [u32], lens: &mut [u16], whole: &mut bool, s: CaseState) -> CaseState
     requires { ⌜ (s .numbers ≤ length (now ids)) × (s .lengths ≤ length (now lens)) ⌝ }
     requires { ⌜ Lendable (s .numbers) (s .lengths) ⌝ }
     ensures { λ r. ⌜ Lendable (r .numbers) (r .lengths) ⌝ }
@@ -102,7 +102,7 @@ fn play(step: u8, ids: &mut [u32], lens: &mut [u16], whole: &mut bool, s: State)
         whole,
         board,
     );
-    State {
+    CaseState {
         numbers: numbers,
         lengths: lengths,
         board: next,
@@ -114,8 +114,8 @@ pub fn turn(
     ids: &mut [u32; tables::MOST],
     lens: &mut [u16; tables::MOST],
     more: &mut bool,
-    s: State,
-) -> State
+    s: CaseState,
+) -> CaseState
     requires { ⌜ Lendable (s .numbers) (s .lengths) ⌝ }
     ensures { λ r. ⌜ Lendable (r .numbers) (r .lengths) ⌝ }
 {

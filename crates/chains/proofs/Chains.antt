@@ -32,7 +32,7 @@ use Rattle.calls.specs.Promises.{made}
 use Rattle.calls.specs.Contract.{servedBy, goodServe, BurstOutcome, burstNow, goodBurst}
 use Rattle.chains.specs.Chains.{Holding, isRecord, replyTells, servedTells, burstTells, byReply, byServe, byBurst, Chain, stops, goes, Made, answersOf}
 use Rattle.chains.specs.Demands.{reads, KnownHolding, CallAgrees, IsRun, ChainIsRun, ChainOfRun}
-use Rattle.board.proofs.Next.{Follows, call-follows}
+use Rattle.board.proofs.Next.{ReturnsTurn, call-follows}
 use Rattle.calls.proofs.Making.{StartsBy, made-starts}
 use Rattle.calls.proofs.Calling
 use Rattle.calls.proofs.Calling.{called-known}
@@ -113,7 +113,7 @@ did-agrees s m c a k (byReply x e r ids lens p) = record {
     q : returned r ids lens ≡ ruled b (s .ids) (s .lens) x
     q = p ∙ sym (called-known b (s .ids) (s .lens) k x)
 
-    f : Follows b (s .ids) (s .lens) (ruled b (s .ids) (s .lens) x) (step (reads s) x)
+    f : ReturnsTurn b (s .ids) (s .lens) (ruled b (s .ids) (s .lens) x) (step (reads s) x)
     f = call-follows b (s .ids) (s .lens) k x e
 did-agrees s m c a k (byServe r ids lens p) = record {
   good = subst (λ (w : Returned Served). Known (w .reply .board) (w .ids) (w .lens)) (sym q) (w! .0);
@@ -127,7 +127,7 @@ did-agrees s m c a k (byServe r ids lens p) = record {
     b = s .board
 
     q : returned r ids lens ≡ returned (goodServe b (s .ids) (s .lens)) (s .ids) (s .lens)
-    q = p ∙ sym (Calling.serve-known b (s .ids) (s .lens) k (goodServe b (s .ids) (s .lens)) refl)
+    q = p ∙ sym (Calling.serve-called b (s .ids) (s .lens) k (goodServe b (s .ids) (s .lens)) refl)
 
     w! : Known (goodServe b (s .ids) (s .lens) .board) (s .ids) (s .lens)
         × (view (goodServe b (s .ids) (s .lens) .board) (s .ids) (s .lens) ≡ serve (reads s) .next)
@@ -145,7 +145,7 @@ did-agrees s m c a k (byBurst bytes list r list′ ids lens p) = record {
     good = goodBurst b (s .ids) (s .lens) bytes list
 
     q : returned (burstNow r list′) ids lens ≡ returned good (s .ids) (s .lens)
-    q = p ∙ sym (Calling.burst-known b (s .ids) (s .lens) k bytes list good refl)
+    q = p ∙ sym (Calling.burst-called b (s .ids) (s .lens) k bytes list good refl)
 
     w! : Known (good .answer .board) (s .ids) (s .lens) × (view (good .answer .board) (s .ids) (s .lens) ≡ burst (reads s) bytes (length list) .next)
     w! = Promises.burst-known b (s .ids) (s .lens) bytes list k

@@ -13,7 +13,7 @@ use Rattle.base.proofs.Decides.{d-iff, d-leb, d-eqb, d-not, d-and, d-or}
 use Rattle.base.proofs.Numbers.{split, eqb-yes, false-lt}
 use Rattle.base.proofs.Tests.{and-left, and-right}
 use Rattle.rules.specs.Board
-use Rattle.rules.specs.Board.{tableLength, Record, Stand, out, queued, serving, at, depth, waits, spent, Has}
+use Rattle.rules.specs.Board.{tableLength, Record, Stand, out, queued, serving, at, depth, waits, usedShare, Has}
 use Rattle.rules.specs.Choice.{Out, refused, done, taken, sent, Turn, refuse, whereIs, numberOutside, noneHas, someHas, lengthOutside, laneFull, takeRecord}
 use Rattle.rules.specs.Choice.{isNone, leastReady, send, serve}
 use Rattle.rules.specs.Blocks.{Opening, shareOutside, allTaken, overFree, openBlock, renameBlock, closeBlock}
@@ -125,8 +125,8 @@ module _ (m : Board.Board) (g : Tidy m) where
   }
 
   over-free : (share : ℕ) → Decides (overFree m share) (OverFree m share)
-  unfolding spent
-  over-free share = free-decides m share (g .shape .spent)
+  unfolding usedShare
+  over-free share = free-decides m share (g .shape .usedShare)
 
   -- ---- the calls that look for a number
 
@@ -305,10 +305,10 @@ module _ (b : struct.Board) (ids lens : List ℕ) where
       (λ o. let r = burstedBy b (o .answer) (o .board) (o .list) .answer in
       burstLines (view (r .board) (idsAfter (o .entries) ids) (lensAfter (o .entries) lens)) bytes list (r .count) (r .bytes .0))
       (λ k. refl)
-      (λ k. subst Goes (sym (burst-known b ids lens bytes list k .1)) (burst-falls m (known-tidy k) bytes list))
+      (λ k. subst FallsBy (sym (burst-known b ids lens bytes list k .1)) (burst-falls m (known-tidy k) bytes list))
     where
-      Goes : Board.Board → Type 0
-      Goes n = let r = burst m bytes (length list) in Falls (r .code) (burstLines n bytes list (r .count) (r .total))
+      FallsBy : Board.Board → Type 0
+      FallsBy n = let r = burst m bytes (length list) in Falls (r .code) (burstLines n bytes list (r .count) (r .total))
 
 -- ---- a making
 

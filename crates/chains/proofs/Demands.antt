@@ -43,7 +43,7 @@ use Rattle.chains.specs.Demands.{ServesSend, BurstSends, beginsSlot, slo
 use Rattle.chains.proofs.Chains.{did-agrees, chain-is-run}
 use Rattle.chains.proofs.Rows.{At, at-made, at-tidy, at-on, at-did, saidOf, Along, along, bytes-said, slot-bytes-said, story-said}
 use Rattle.chains.proofs.Rows.{unsent-said, spent-said, spelt-bytes, burst-is, row-from}
-use Rattle.chains.proofs.Slots.{Seen, seen-fresh, seen-play, seen-step, begins-said, slots-said}
+use Rattle.chains.proofs.Slots.{LastSend, last-fresh, last-play, last-step, begins-said, slots-said}
 
 -- ---- bursts
 
@@ -73,18 +73,19 @@ never-refused L s e cs told made! chain = not-refused L (at-made L s made!) chai
 -- ---- a block, as the rules tell it
 
 -- it has the place p, with that share, until it is closed
-abbrev Seat : ℕ → Story → Board.Board → ℕ → Type 0
-Seat share st b p = st .closed ≡ false → Has b p (st .number) × (at b p .share ≡ share)
+abbrev KeepsPlace : ℕ → Story → Board.Board → ℕ → Type 0
+KeepsPlace share st b p = st .closed ≡ false → Has b p (st .number) × (at b p .share ≡ share)
 
-seat-step : (share : ℕ) (st : Story) (b : Board.Board) (p : ℕ) (x : Single) → Tidy b → Seat share st b p
-    → Seat share (tells (st .closed) st x (answer b x)) (step b x .next) p
+seat-step : (share : ℕ) (st : Story) (b : Board.Board) (p : ℕ) (x : Single) → Tidy b → KeepsPlace share st b p
+    → KeepsPlace share (tells (st .closed) st x (answer b x)) (step b x .next) p
 seat-step share st b p x g s = go (st .closed) refl
   where
-    go : (c : Bool) → st .closed ≡ c → Seat share (tells c st x (answer b x)) (step b x .next) p
+    go : (c : Bool) → st .closed ≡ c → KeepsPlace share (tells c st x (answer b x)) (step b x .next) p
     go true e = λ f. absurd (true≢false (sym e ∙ f))
     go false e = λ c. let f = follows b p (st .number) g (s e .0) x .stays c in (f .0, f .1 ∙ s e .1)
 
-seat-story : (share : ℕ) (st : Story) (b : Board.Board) (p : ℕ) (xs : List Single) → Tidy b → Seat share st b p → Seat share (Runs.story st b xs) (play b xs) p
+seat-story : (share : ℕ) (st : Story) (b : Board.Board) (p : ℕ) (xs : List Single) → Tidy b → KeepsPlace share st b p
+    → KeepsPlace share (Runs.story st b xs) (play b xs) p
 unfolding Runs.story play
 seat-story share st b p [] g s = s
 seat-story share st b p (x ∷ xs) g s =
@@ -93,7 +94,7 @@ seat-story share st b p (x ∷ xs) g s =
 -- what is known of a block on the board b after its story
 record Lives (given : Opening) (st : Story) (b : Board.Board) : Type 0 where
   accounted : Accounted st b
-  seat : st .closed ≡ false → (p : ℕ) × Seat (given .share) st b p
+  seat : st .closed ≡ false → (p : ℕ) × KeepsPlace (given .share) st b p
 
 record FromOpening (L : ℕ) (given : Opening) (st : Story) (b : Board.Board) : Type 0 where
   from : Board.Board
@@ -294,7 +295,7 @@ fronted L given st b x a q g l l′ c (nextUp a′ i ne) = record {
         ∙ ap (λ (z : Answer). st .sent ++ recordOf z) (sym q))
 
 -- what a chain tells of a block, one call of it more
-record Told (L : ℕ) (given : Opening) (st : Story) (f : Holding) (x : Single) (a : Answer) (g : Holding) : Type 0 where
+record OneCallOn (L : ℕ) (given : Opening) (st : Story) (f : Holding) (x : Single) (a : Answer) (g : Holding) : Type 0 where
   here : At L f
   lives : Lives given st (reads f)
   next : Lives given (goesOn st x (answer (reads f) x)) (step (reads f) x .next)
@@ -302,9 +303,9 @@ record Told (L : ℕ) (given : Opening) (st : Story) (f : Holding) (x : Single) 
   after : reads g ≡ step (reads f) x .next
   there : At L g
 
-told-at : (L : ℕ) (given : Opening) (st : Story) (last : Option ℕ) (f g : Holding) (x : Single) (a : Answer) → Life L given st last f → st .closed ≡ false
-    → Did f (one x) a g → Told L given st f x a g
-told-at L given st last f g x a l c d = record {
+one-call-on : (L : ℕ) (given : Opening) (st : Story) (last : Option ℕ) (f g : Holding) (x : Single) (a : Answer) → Life L given st last f → st .closed ≡ false
+    → Did f (one x) a g → OneCallOn L given st f x a g
+one-call-on L given st last f g x a l c d = record {
   here = h;
   lives = opening-lives L given st (reads f) o;
   next =
@@ -324,15 +325,15 @@ told-at L given st last f g x a l c d = record {
     w : Agrees f (one x) a g
     w = did-agrees f g (one x) a (h .good) d
 
-told-front : (L : ℕ) (given : Opening) (st : Story) (f g : Holding) (x : Single) (a : Answer) → Told L given st f x a g → st .closed ≡ false
+told-front : (L : ℕ) (given : Opening) (st : Story) (f g : Holding) (x : Single) (a : Answer) → OneCallOn L given st f x a g → st .closed ≡ false
     → ComesToFront st x a → Fronted L given (reads f) (st .number) x
 told-front L given st f g x a t c z = fronted L given st (reads f) x a (t .is) (at-tidy L f (t .here)) (t .lives) (t .next) c z
 
 -- The byte bound, its time and the slot promises at a call of a chain, over any single calls after it: Passages has them at every moment.
 module _ (L : ℕ) (given : Opening) (st : Story) (last : Option ℕ) (f g e : Holding) (x : Single) (a : Answer) (xs : List Single) (said : List Answer)
     (l : Life L given st last f) (d : Did f (one x) a g) (r : Chain g (map one xs) said e) (s! : StaysInFront st x a xs said) where
-  t : Told L given st f x a g
-  t = told-at L given st last f g x a l (s! .still) d
+  t : OneCallOn L given st f x a g
+  t = one-call-on L given st last f g x a l (s! .still) d
 
   w : Fronted L given (reads f) (st .number) x
   w = told-front L given st f g x a t (s! .still) (s! .comes)
@@ -383,7 +384,7 @@ serve-waiting L given st last f l c ne = Promises.serves-send L (reads f) (h .ru
     lives : Lives given st (reads f)
     lives = opening-lives L given st (reads f) (life-opening L given st last f l)
 
-    w : (p : ℕ) × Seat (given .share) st (reads f) p
+    w : (p : ℕ) × KeepsPlace (given .share) st (reads f) p
     w = lives .seat c
 
     waiting : 1 ≤ length (at (reads f) (w .0) .lane)
@@ -437,13 +438,13 @@ pub made-fresh : (L : ℕ) (s : Holding) → Made L s → reads s ≡ fresh L
 unfolding runs
 made-fresh L s made! = chain-is-run L s s [] [] made! stops .board
 
-seen-same : {u v : Option ℕ} {b c : Board.Board} → u ≡ v → b ≡ c → Seen u b → Seen v c
-seen-same {v = v} {b = b} e f s = subst (Seen v) f (subst (λ (o : Option ℕ). Seen o b) e s)
+last-same : {u v : Option ℕ} {b c : Board.Board} → u ≡ v → b ≡ c → LastSend u b → LastSend v c
+last-same {v = v} {b = b} e f s = subst (LastSend v) f (subst (λ (o : Option ℕ). LastSend o b) e s)
 
-life-seen : (L : ℕ) (given : Opening) (st : Story) (last : Option ℕ) (e : Holding) → Life L given st last e → Seen last (reads e)
-life-seen L given st last e l =
-    seen-same (ap (lastSlot (l .first)) (sym (at-end .answers)) ∙ l .latest) (sym (at-end .board))
-    (seen-play (l .first) (reads (l .opening)) (l .xs) (at-tidy L (l .opening) o) opening)
+life-last : (L : ℕ) (given : Opening) (st : Story) (last : Option ℕ) (e : Holding) → Life L given st last e → LastSend last (reads e)
+life-last L given st last e l =
+    last-same (ap (lastSlot (l .first)) (sym (at-end .answers)) ∙ l .latest) (sym (at-end .board))
+    (last-play (l .first) (reads (l .opening)) (l .xs) (at-tidy L (l .opening) o) opening)
   where
     w : Opened L given (l .first) (l .opening)
     w = l .opened
@@ -466,15 +467,15 @@ life-seen L given st last e l =
     d : Agrees (w .before) (one (open! given)) (gives 0) (l .opening)
     d = did-agrees (w .before) (l .opening) (one (open! given)) (gives 0) (h .good) (w .opens)
 
-    before : Seen (l .first) (reads (w .before))
+    before : LastSend (l .first) (reads (w .before))
     before =
-        seen-same (ap (lastSlot none) (sym (a .answers)) ∙ w .latest) (sym (a .board))
-        (seen-play none (reads (w .start)) (w .xs) (at-tidy L (w .start) m) (seen-same refl (sym (made-fresh L (w .start) (w .made))) (seen-fresh L)))
+        last-same (ap (lastSlot none) (sym (a .answers)) ∙ w .latest) (sym (a .board))
+        (last-play none (reads (w .start)) (w .xs) (at-tidy L (w .start) m) (last-same refl (sym (made-fresh L (w .start) (w .made))) (last-fresh L)))
 
-    opening : Seen (l .first) (reads (l .opening))
+    opening : LastSend (l .first) (reads (l .opening))
     opening =
-        seen-same (ap (slotAfter (l .first)) (sym (d .told!))) (sym (d .after))
-        (seen-step (l .first) (reads (w .before)) (open! given) (at-tidy L (w .before) h) before)
+        last-same (ap (slotAfter (l .first)) (sym (d .told!))) (sym (d .after))
+        (last-step (l .first) (reads (w .before)) (open! given) (at-tidy L (w .before) h) before)
 
 pub clock-reads : (s : Holding) → reads s .clock ≡ clock s
 unfolding view
@@ -500,8 +501,8 @@ slot-once-from L given st last f g e a lo xs said l d r w h =
     b : Board.Board
     b = reads f
 
-    t : Told L given st f serve! a g
-    t = told-at L given st last f g serve! a l (w .still) d
+    t : OneCallOn L given st f serve! a g
+    t = one-call-on L given st last f g serve! a l (w .still) d
 
     s : Along (reads g) xs said e
     s = along xs (t .there .good) r
@@ -509,8 +510,8 @@ slot-once-from L given st last f g e a lo xs said l d r w h =
     tidy : Tidy b
     tidy = at-tidy L f (t .here)
 
-    seen : Seen last b
-    seen = life-seen L given st last f l
+    seen : LastSend last b
+    seen = life-last L given st last f l
 
     q : classAt b (st .number) ≡ classOf (given .share)
     q = class-at given st b tidy (t .lives) (w .still)
@@ -561,7 +562,7 @@ never-twice-from L given st last f e lo xs said l c r start =
     lives : Lives given st b
     lives = opening-lives L given st b (life-opening L given st last f l)
 
-    p : (p : ℕ) × Seat (given .share) st b p
+    p : (p : ℕ) × KeepsPlace (given .share) st b p
     p = lives .seat c
 
     q : classAt b (st .number) ≡ classOf (given .share)
@@ -573,7 +574,7 @@ never-twice-from L given st last f e lo xs said l c r start =
     count : slotsIn lo hi (st .number) last xs said ≡ Runs.slotsIn lo hi (st .number) b xs
     count =
         ap (slotsIn lo hi (st .number) last xs) (along xs (h .good) r .answers)
-        ∙ slots-said lo hi (st .number) last b xs tidy (life-seen L given st last f l)
+        ∙ slots-said lo hi (st .number) last b xs tidy (life-last L given st last f l)
 
 pub slots-small : SlotsSmall
 slots-small L s e cs told xs said made! r t =

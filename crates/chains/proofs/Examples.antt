@@ -13,7 +13,7 @@ use Rattle.units.specs.Classes.{Start, classOf, nextStart}
 use Rattle.units.specs.Credit.{framing, charged, largestCharge, creditOf}
 use Rattle.rules.specs.Board
 use Rattle.lanes.specs.Lanes.{ringEntry, ringOn, laneDepth, laneFirst}
-use Rattle.rules.specs.Board.{bytesCharged, entry, onward, someWait, anyDue, spent, fresh}
+use Rattle.rules.specs.Board.{bytesCharged, entry, onward, someWait, anyDue, usedShare, fresh}
 use Rattle.rules.specs.Choice.{whereIs, upd, takenIn, takeRecord, release, leastReady, settle, ended, sendFrom, send, lowest, begin, serveBy, serve}
 use Rattle.rules.specs.Blocks.{opening, freeAt, openBlock, renameBlock, quiet}
 use Rattle.rules.specs.Burst.{burst}
@@ -261,11 +261,11 @@ pub record Passing (L : ℕ) (cs : List Call) (w : Parting) : Type 0 where
   pub passage : Passage L chain w
 
 -- its parts are those of the rules' row, and its opening is done
-record Parts (L : ℕ) (cs : List Call) (w : Parting) : Type 0 where
+record PartsOfRow (L : ℕ) (cs : List Call) (w : Parting) : Type 0 where
   calls : Runs.row (fresh L) cs ≡ callsOf w
   opens : getD (saidOf (fresh L) (callsOf w)) (length (w .first)) (gives 1) ≡ gives 0
 
-passing : (L : ℕ) (cs : List Call) (w : Parting) → InRange L → Parts L cs w → Passing L cs w
+passing : (L : ℕ) (cs : List Call) (w : Parting) → InRange L → PartsOfRow L cs w → Passing L cs w
 passing L cs w range q =
     let t = has-chain L range cs in
     let m = at-made L (t .0) (t .3) in
@@ -310,15 +310,15 @@ record Computed : Type 0 where
       ∷ bursts (record { count = 5; total = 460; code = 1 }) ∷ []
   burstsTold : answersOf (fresh 100) byBursts ≡ gives 0 ∷ gives 0 ∷ took ∷ took ∷ took ∷ took ∷ took ∷ took ∷ took
       ∷ bursts (record { count = 4; total = 400; code = 14 }) ∷ gives 0 ∷ gives 0 ∷ bursts (record { count = 3; total = 300; code = 1 }) ∷ []
-  secondParts : Parts 100 byBursts secondRecord
+  secondParts : PartsOfRow 100 byBursts secondRecord
   secondPassed : Passed secondRecord 200 2 (out 13 6 100 9) (ruled 100 secondRecord)
-  fourParts : Parts 100 byBursts atFour
+  fourParts : PartsOfRow 100 byBursts atFour
   fourReached : Reached atFour 4 (ruled 100 atFour)
-  eightParts : Parts 100 byBursts atEight
+  eightParts : PartsOfRow 100 byBursts atEight
   eightReached : Reached atEight 8 (ruled 100 atEight)
-  onceParts : Parts 100 byBursts fromEight
+  onceParts : PartsOfRow 100 byBursts fromEight
   onceSlotted : Slotted fromEight 8 (ruled 100 fromEight)
-  tightParts : Parts 64 lastInBurst tightest
+  tightParts : PartsOfRow 64 lastInBurst tightest
   tightPassed : Passed tightest 382 6 (out 9 5 64 36) (ruled 64 tightest)
   opensOne : codeOf (answer (runs (fresh 64) []) (open! (opening 1 32768))) ≡ 0
   burstEachRow : Runs.row (step (runs (fresh 64) []) (open! (opening 1 32768)) .next) burstEach ≡ renames
@@ -328,7 +328,7 @@ not11 e = omega arith
 
 computed : Computed
 unfolding worked tight filled waiting renames answersOf Runs.row saidOf story lastSlot Unsent NotSpent slotsIn bytesIn servesIn runs play Start burst least
-    nextStart classOf framing charged largestCharge creditOf sum below bytesCharged ringEntry ringOn laneDepth laneFirst entry onward someWait anyDue spent
+    nextStart classOf framing charged largestCharge creditOf sum below bytesCharged ringEntry ringOn laneDepth laneFirst entry onward someWait anyDue usedShare
     fresh
     whereIs upd takenIn
     takeRecord release leastReady settle ended sendFrom send lowest begin serveBy serve freeAt openBlock renameBlock quiet step
@@ -405,7 +405,8 @@ bursts-chain s e told made! c = chain-is-run 100 s e byBursts told made! c .answ
 
 -- ---- and there are such passages
 
-met : (L : ℕ) (cs : List Call) (w : Parting) → InRange L → Parts L cs w → (P : Heard → Type 0) → P (ruled L w) → (p : Passing L cs w) × P (heard (p .passage))
+met : (L : ℕ) (cs : List Call) (w : Parting) → InRange L → PartsOfRow L cs w → (P : Heard → Type 0) → P (ruled L w)
+    → (p : Passing L cs w) × P (heard (p .passage))
 met L cs w range parts P h = let p = passing L cs w range parts in (p, subst P (sym (heard-ruled L (p .chain) w (p .passage))) h)
 
 range100 : InRange 100

@@ -49,7 +49,7 @@ parted (x ∷ xs) ys (goes {a = a} d rest) =
     }
 
 -- its first call
-record Begun (s : Holding) (x : Single) (xs : List Single) (said : List Answer) (e : Holding) : Type 0 where
+record FirstCall (s : Holding) (x : Single) (xs : List Single) (said : List Answer) (e : Holding) : Type 0 where
   a : Answer
   then : List Answer
   middle : Holding
@@ -57,8 +57,8 @@ record Begun (s : Holding) (x : Single) (xs : List Single) (said : List Answer) 
   did : Did s (one x) a middle
   on : Chain middle (map one xs) then e
 
-begun : {s e : Holding} (x : Single) (xs : List Single) {said : List Answer} → Chain s (map one (x ∷ xs)) said e → Begun s x xs said e
-begun x xs (goes {m = m} {a = a} {told = told} d rest) = record { a = a; then = told; middle = m; is = refl; did = d; on = rest }
+first-call : {s e : Holding} (x : Single) (xs : List Single) {said : List Answer} → Chain s (map one (x ∷ xs)) said e → FirstCall s x xs said e
+first-call x xs (goes {m = m} {a = a} {told = told} d rest) = record { a = a; then = told; middle = m; is = refl; did = d; on = rest }
 
 pub has-passage : HasPassage
 has-passage L c w e q = record {
@@ -88,14 +88,14 @@ has-passage L c w e q = record {
     p : Parted (c .start) (w .first) (opening ∷ (w .since ++ (w .at ∷ (w .during ++ w .rest)))) (c .said) (c .finish)
     p = parted (w .first) _ (subst (λ (xs : List Single). Chain (c .start) (map one xs) (c .said) (c .finish)) e (c .row .singles))
 
-    o : Begun (p .middle) opening (w .since ++ (w .at ∷ (w .during ++ w .rest))) (p .said₂) (c .finish)
-    o = begun opening _ (p .on)
+    o : FirstCall (p .middle) opening (w .since ++ (w .at ∷ (w .during ++ w .rest))) (p .said₂) (c .finish)
+    o = first-call opening _ (p .on)
 
     s : Parted (o .middle) (w .since) (w .at ∷ (w .during ++ w .rest)) (o .then) (c .finish)
     s = parted (w .since) _ (o .on)
 
-    d : Begun (s .middle) (w .at) (w .during ++ w .rest) (s .said₂) (c .finish)
-    d = begun (w .at) _ (s .on)
+    d : FirstCall (s .middle) (w .at) (w .during ++ w .rest) (s .said₂) (c .finish)
+    d = first-call (w .at) _ (s .on)
 
     l : Parted (d .middle) (w .during) (w .rest) (d .then) (c .finish)
     l = parted (w .during) (w .rest) (d .on)

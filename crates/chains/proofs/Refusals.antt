@@ -33,14 +33,14 @@ use Rattle.chains.specs.Demands.{RefusalChangesNothing}
 
 -- ---- Serving changes no entry
 
-abbrev Kept : Outcome → Type 0
-Kept o = o .entries ≡ kept
+abbrev EntriesKept : Outcome → Type 0
+EntriesKept o = o .entries ≡ kept
 
-serve-keeps : (b : struct.Board) (ids lens : List ℕ) → Kept (call (lent b ids lens) (one serve!))
-serve-keeps b ids lens = call-by (lent b ids lens) (one serve!) Kept (λ code. refl) (λ m e. refl)
+serve-keeps : (b : struct.Board) (ids lens : List ℕ) → EntriesKept (call (lent b ids lens) (one serve!))
+serve-keeps b ids lens = call-by (lent b ids lens) (one serve!) EntriesKept (λ code. refl) (λ m e. refl)
 
-burst-keeps : (b : struct.Board) (ids lens : List ℕ) (bytes : ℕ) (list : List ℕ) → Kept (call (lent b ids lens) (burst! bytes list))
-burst-keeps b ids lens bytes list = call-by (lent b ids lens) (burst! bytes list) Kept (λ code. refl) (λ m e. refl)
+burst-keeps : (b : struct.Board) (ids lens : List ℕ) (bytes : ℕ) (list : List ℕ) → EntriesKept (call (lent b ids lens) (burst! bytes list))
+burst-keeps b ids lens bytes list = call-by (lent b ids lens) (burst! bytes list) EntriesKept (λ code. refl) (λ m e. refl)
 
 pub serve-tables : (b : struct.Board) (ids lens : List ℕ) → (calledServe b ids lens .ids ≡ ids) × (calledServe b ids lens .lens ≡ lens)
 unfolding calledServe

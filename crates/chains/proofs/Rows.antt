@@ -223,7 +223,7 @@ burst-is m bytes list r list′ ids lens k p = record {
     good = goodBurst (m .board) (m .ids) (m .lens) bytes list
 
     q : returned (burstNow r list′) ids lens ≡ returned good (m .ids) (m .lens)
-    q = p ∙ sym (Calling.burst-known (m .board) (m .ids) (m .lens) k bytes list good refl)
+    q = p ∙ sym (Calling.burst-called (m .board) (m .ids) (m .lens) k bytes list good refl)
 
     i : IsServes (reads m) bytes (length list) B
     i = burst-is-serves (reads m) bytes (length list)

@@ -10,7 +10,7 @@ use lib.ListN.{length}
 use Rattle.base.specs.Sums.{sum, below}
 use Rattle.units.specs.Credit.{charged}
 use Rattle.rules.specs.Board
-use Rattle.rules.specs.Board.{tableLength, Record, Place, queued, at, depth, Has}
+use Rattle.rules.specs.Board.{tableLength, Record, Place, queued, at, depth, Has, NoneHas}
 use Rattle.rules.specs.Blocks.{Opening}
 use Rattle.rules.specs.Calls.{open!, rename!, close!, record!, serve!, Sent, sends}
 use Rattle.rules.specs.Runs.{answer}
@@ -63,10 +63,7 @@ ShareOutside share = (share ≡ 0) ⊎ (65536 < share)
 abbrev pub LengthOutside : Board.Board → (length : ℕ) → Type 0
 LengthOutside m length = (length ≡ 0) ⊎ (m .largest < length)
 
--- 6: no open block has that number
-abbrev pub NoneHas : Board.Board → (n : ℕ) → Type 0
-NoneHas m n = (p : ℕ) → Has m p n → ⊥
-
+-- 6: no open block has that number (`NoneHas` of rules/specs/Board)
 -- 5: an open block has the new number, itself included
 abbrev pub SomeHas : Board.Board → (n : ℕ) → Type 0
 SomeHas m n = (p : ℕ) × Has m p n

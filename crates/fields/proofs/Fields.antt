@@ -36,23 +36,23 @@ use Rattle.slots.specs.declared.Choice.the-variants.{Stop, Go}
 use Rattle.slots.specs.Slots.{choiceOf}
 use Rattle.serving.specs.Serving.{Within, engineAfter, withinOf, untold, toldOf, enacted, servedBy, servedWithin, CanServe}
 use Rattle.board.proofs.Fields.{number-is}
-use Rattle.serving.proofs.Within.{fit-serve, Stops, Goes}
+use Rattle.serving.proofs.Within.{fit-serve, Stops, SendsOne}
 use Rattle.board.specs.declared.Reply.{Reply}
 use Rattle.board.specs.Leaving.{Returned, returned, replied, Known, ruled}
 use Rattle.taking.proofs.Answers.{record-known}
 use Rattle.blocks.proofs.Answers.{rename-known, open-known, close-known}
-use Rattle.board.proofs.Next.{Follows, call-follows}
+use Rattle.board.proofs.Next.{ReturnsTurn, call-follows}
 use Rattle.serving.proofs.Known.{within, spells, can-known, by-cases, after-is, known-next, refused-stays}
 use Rattle.listing_rules.specs.Listing.{after, played, fieldLine, servedLine}
 use Rattle.fields.specs.Fields.{Memory, memory, reads, KnownMemory, FieldPlayed, stepLine, ServeNeeds, ServeShown}
 
 -- only a serve sends bytes
-abbrev Sends : Board.Board → Single → Turn → Type 0
-Sends m x t = isServe x ≡ false → bytesOf (told m (t .out)) ≡ 0
+abbrev OnlyServesSend : Board.Board → Single → Turn → Type 0
+OnlyServesSend m x t = isServe x ≡ false → bytesOf (told m (t .out)) ≡ 0
 
-none-sent : (m : Board.Board) → Tidy m → (x : Single) → Sends m x (step m x)
+none-sent : (m : Board.Board) → Tidy m → (x : Single) → OnlyServesSend m x (step m x)
 unfolding send
-none-sent m t = call-cases m t (Sends m) (record {
+none-sent m t = call-cases m t (OnlyServesSend m) (record {
   refused = λ x code n e. refl;
   opens = λ o can e. refl;
   renames = λ p old new can e. refl;
@@ -147,7 +147,7 @@ module _ (s : Memory) (k : KnownMemory s) (e : Event) (before : List ℕ) (count
     more = omega arith;
   }
     where
-      f : Follows b (s .ids) (s .lens) (ruled b (s .ids) (s .lens) x) (step m x)
+      f : ReturnsTurn b (s .ids) (s .lens) (ruled b (s .ids) (s .lens) x) (step m x)
       f = call-follows b (s .ids) (s .lens) k x quiet
 
       code-is : code ≡ codeOf (answer m x)
@@ -216,7 +216,7 @@ module _ (s : Memory) (k : KnownMemory s) (e : Event) (before : List ℕ) (count
           ∙ ap (λ (c : struct.Board). withEngine c (engineOf (encode m))) (sym spelt)
           ∙ spelt
 
-  sending : Goes m (s .ids) (s .lens) 65536 1 w → ServeIs
+  sending : SendsOne m (s .ids) (s .lens) 65536 1 w → ServeIs
   sending g = record {
     good = subst (λ (c : struct.Board). Known c (s .ids) (s .lens)) (sym next-is) (known-next b (s .ids) (s .lens) k (g .holds));
     next = ap (λ (c : struct.Board). view c (s .ids) (s .lens)) next-is
@@ -244,7 +244,7 @@ module _ (s : Memory) (k : KnownMemory s) (e : Event) (before : List ℕ) (count
       why x (inr (inl z)) = absurd (omega arith)
       why x (inr (inr y)) = absurd (omega (arith, y .1, y .2))
 
-      go : Stops m 65536 1 w ⊎ Goes m (s .ids) (s .lens) 65536 1 w → ServeIs
+      go : Stops m 65536 1 w ⊎ SendsOne m (s .ids) (s .lens) 65536 1 w → ServeIs
       go (inl x) = why x (x .why)
       go (inr g) = sending g
 

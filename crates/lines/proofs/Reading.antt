@@ -91,11 +91,11 @@ plain-decimal (d ∷ ds) h (inr z) = rw (z .0, z .1) (decimal-one 0 (lit< tt))
 -- ---- a line tells its numbers, and where the next line begins
 
 -- a text that a digit does not begin
-abbrev Parted : List ℕ → Type 0
-Parted [] = ⊥
-Parted (x ∷ xs) = x < 48
+abbrev NoDigitFirst : List ℕ → Type 0
+NoDigitFirst [] = ⊥
+NoDigitFirst (x ∷ xs) = x < 48
 
-digits-end : (a b x y : List ℕ) → Digits a → Digits b → Parted x → Parted y → a ++ x ≡ b ++ y → (a ≡ b) × (x ≡ y)
+digits-end : (a b x y : List ℕ) → Digits a → Digits b → NoDigitFirst x → NoDigitFirst y → a ++ x ≡ b ++ y → (a ≡ b) × (x ≡ y)
 digits-end [] [] x y da db px py e = (refl, e)
 digits-end [] (d ∷ b) [] y da db px py e = absurd px
 digits-end [] (d ∷ b) (c ∷ x) y da db px py e = absurd (let z : c ≡ d = cc in omega (arith, db .0))
@@ -107,7 +107,7 @@ digits-end (c ∷ a) (d ∷ b) x y da db px py e =
     let r = digits-end a b x y (da .1) (db .1) px py t in
     (ap₂ (λ (k : ℕ) (l : List ℕ). k ∷ l) z (r .0), r .1)
 
-columns-parted : (ns r : List ℕ) → Parted (columns ns ++ (10 ∷ r))
+columns-parted : (ns r : List ℕ) → NoDigitFirst (columns ns ++ (10 ∷ r))
 unfolding columns
 columns-parted [] r = lit< tt
 columns-parted (n ∷ ns) r = lit< tt

@@ -5,7 +5,7 @@ use Rattle.base.specs.Tests.{least}
 use Rattle.units.specs.Classes.{classOf, nextStart}
 use Rattle.units.specs.Credit.{framing, charged, largestCharge, creditOf}
 use Rattle.lanes.specs.Lanes.{ringEntry, ringOn, laneDepth, laneFirst}
-use Rattle.rules.specs.Board.{bytesCharged, entry, onward, someWait, anyDue, spent, fresh}
+use Rattle.rules.specs.Board.{bytesCharged, entry, onward, someWait, anyDue, usedShare, fresh}
 use Rattle.rules.specs.Choice.{whereIs, upd, takenIn, takeRecord, release, leastReady, settle, ended, sendFrom, send, lowest, begin, serveBy, serve}
 use Rattle.rules.specs.Blocks.{freeAt, openBlock}
 use Rattle.rules.specs.Calls.{step}
@@ -18,6 +18,6 @@ use Rattle.listing_rules.specs.Laws.{WorkedLogListed}
 
 pub worked-log-listed : WorkedLogListed
 unfolding listingOf linesOf openLine inLine outLine refusedLine endLine lineOf columns decimal decimalIn sum below least classOf nextStart framing charged
-    largestCharge creditOf bytesCharged ringEntry ringOn laneDepth laneFirst entry onward someWait anyDue spent fresh whereIs upd takenIn takeRecord release
+    largestCharge creditOf bytesCharged ringEntry ringOn laneDepth laneFirst entry onward someWait anyDue usedShare fresh whereIs upd takenIn takeRecord release
     leastReady settle ended sendFrom send lowest begin serveBy serve freeAt openBlock step
 worked-log-listed = ap (λ (r : Reading). linesOf unmade (r .fields) (r .ends)) worked-reading

@@ -234,24 +234,24 @@ fit-of [] s at b h = tt
 fit-of (o ∷ os) s at b h = (omega (arith, number-lt s at (o .width) b, h .0), fit-of os s (at + o .width) b (h .1))
 
 -- a tag that says something, with its length, says an event of that tag, with its numbers
-record Told (s : List ℕ) (at tag n : ℕ) : Type 0 where
+record TagSays (s : List ℕ) (at tag n : ℕ) : Type 0 where
   taken : isPassed (eventOf s tag at) ≡ false
   tagged : tag ≡ tagOf (eventOf s tag at)
   sized : n ≡ widthOf (operandsOf (eventOf s tag at))
   held : StandsAt s at (operandsOf (eventOf s tag at))
 
-told : (s : List ℕ) (at tag n : ℕ) → 1 ≤ tag → tag ≤ lastTag → n ≡ lengthOf tag → Told s at tag n
+tag-says : (s : List ℕ) (at tag n : ℕ) → 1 ≤ tag → tag ≤ lastTag → n ≡ lengthOf tag → TagSays s at tag n
 unfolding eventOf lengthOf
-told s at zero n a b e = absurd (omega arith)
-told s at (suc zero) n a b e = record { taken = refl; tagged = refl; sized = e; held = (refl, (refl, tt)) }
-told s at (suc (suc zero)) n a b e = record { taken = refl; tagged = refl; sized = e; held = (refl, tt) }
-told s at (suc (suc (suc zero))) n a b e = record { taken = refl; tagged = refl; sized = e; held = (refl, (refl, tt)) }
-told s at (suc (suc (suc (suc zero)))) n a b e =
+tag-says s at zero n a b e = absurd (omega arith)
+tag-says s at (suc zero) n a b e = record { taken = refl; tagged = refl; sized = e; held = (refl, (refl, tt)) }
+tag-says s at (suc (suc zero)) n a b e = record { taken = refl; tagged = refl; sized = e; held = (refl, tt) }
+tag-says s at (suc (suc (suc zero))) n a b e = record { taken = refl; tagged = refl; sized = e; held = (refl, (refl, tt)) }
+tag-says s at (suc (suc (suc (suc zero)))) n a b e =
     let q : at + 4 + 4 ≡ at + 8 = omega arith in
     record { taken = refl; tagged = refl; sized = e; held = (refl, (refl, (ap (λ (i : ℕ). numberAt s i 2) q, tt))) }
-told s at (suc (suc (suc (suc (suc zero))))) n a b e = record { taken = refl; tagged = refl; sized = e; held = tt }
-told s at (suc (suc (suc (suc (suc (suc zero)))))) n a b e = record { taken = refl; tagged = refl; sized = e; held = (refl, tt) }
-told s at (suc (suc (suc (suc (suc (suc (suc tag))))))) n a b e = absurd (omega arith)
+tag-says s at (suc (suc (suc (suc (suc zero))))) n a b e = record { taken = refl; tagged = refl; sized = e; held = tt }
+tag-says s at (suc (suc (suc (suc (suc (suc zero)))))) n a b e = record { taken = refl; tagged = refl; sized = e; held = (refl, tt) }
+tag-says s at (suc (suc (suc (suc (suc (suc (suc tag))))))) n a b e = absurd (omega arith)
 
 value-at-length : (s : List ℕ) (at : ℕ) → at + 3 + lengthAt s at ≤ length s → length (valueAt s at) ≡ lengthAt s at
 value-at-length s at l = length-take-le (lengthAt s at) (drop (at + 3) s) (omega (arith, length-drop (at + 3) s))
@@ -266,7 +266,7 @@ says-if false s at tag n b p r l m h =
     let k : (leb 1 tag) && ((leb tag lastTag) && (eqb n (lengthOf tag))) ≡ true = rw p at r in
     let j = and-right (leb 1 tag) _ k in
     let sized = eqb-true n (lengthOf tag) (and-right (leb tag lastTag) _ j) in
-    let w = told s at tag n (leb-true 1 tag (and-left _ _ k)) (leb-true tag lastTag (and-left _ _ j)) sized in
+    let w = tag-says s at tag n (leb-true 1 tag (and-left _ _ k)) (leb-true tag lastTag (and-left _ _ j)) sized in
     let os = operandsOf (eventOf s tag at) in
     rw (w .taken) (
       w .tagged,

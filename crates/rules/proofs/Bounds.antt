@@ -68,7 +68,7 @@ unsent-at b p n (x ∷ xs) t g h w u = (
     quiet! = sym (f .sent) ∙ u .0
 
 -- the block that a call brings a record to the front for: where it stands
-record Fronted (b : Board) (n p : ℕ) (x : Single) : Type 0 where
+record FrontAt (b : Board) (n p : ℕ) (x : Single) : Type 0 where
   has : Has b p n
   after : Has (step b x .next) p n
   front : ToFront b x p
@@ -109,17 +109,17 @@ for-number n p b done e f = absurd (false≢true e)
 for-number n p b (taken a) e f = absurd (false≢true e)
 for-number n p b (sent s) e f = let q = s .place in ap (λ (z : ℕ). at b z .number) (eqb-true p q f) ∙ sym (eqb-true n (at b q .number) e)
 
-fronted : (b : Board) (n : ℕ) (x : Single) → Tidy b → ComesToFront b n x → (p : ℕ) × Fronted b n p x
+fronted : (b : Board) (n : ℕ) (x : Single) → Tidy b → ComesToFront b n x → (p : ℕ) × FrontAt b n p x
 fronted b n x t (intoEmpty r d e) = go (took-by b t n r d)
   where
-    go : (p : ℕ) × (Has b p n) × (1 ≤ length (at (step b (record! n r) .next) p .lane)) → (p : ℕ) × Fronted b n p (record! n r)
+    go : (p : ℕ) × (Has b p n) × (1 ≤ length (at (step b (record! n r) .next) p .lane)) → (p : ℕ) × FrontAt b n p (record! n r)
     go (p, h, l) = (p, record { has = h; after = follows b p n t h (record! n r) .stays refl .0; front = (l, inl (ap length (sym (has-lane b p n t h) ∙ e))) })
 fronted b n x t (nextUp e l) = go (sent-by b t (for-sent n b (step b serve! .out) e))
   where
     nb : Board
     nb = step b serve! .next
 
-    go : (p : ℕ) × (Has b p (at b p .number)) × (fromPlace p (step b serve! .out) ≡ true) → (p : ℕ) × Fronted b n p serve!
+    go : (p : ℕ) × (Has b p (at b p .number)) × (fromPlace p (step b serve! .out) ≡ true) → (p : ℕ) × FrontAt b n p serve!
     go (p, h, f) = (p, record { has = hn; after = ha; front = (rw (← has-lane nb p n (tidy-step b serve! t) ha) l, inr f) })
       where
         hn : Has b p n
@@ -139,7 +139,7 @@ bytes-bound b n x after t g c u = go (fronted b n x t c)
     tn : Tidy nb
     tn = tidy-step b x t
 
-    go : (p : ℕ) × Fronted b n p x → bytesIn nb after ≤ bound (nb .largest) (classAt nb n)
+    go : (p : ℕ) × FrontAt b n p x → bytesIn nb after ≤ bound (nb .largest) (classAt nb n)
     go (p, f) =
         rw (bytes-row nb after, has-share nb p n tn (f .after))
         (bound-good b x after p g (f .front) (unsent-at nb p n after tn (keeps-step b x g .good) (f .after) (front-waits b x p g (f .front)) u))
@@ -156,7 +156,7 @@ serves-bound b n x after t g c u s = go (fronted b n x t c)
     tn : Tidy nb
     tn = tidy-step b x t
 
-    go : (p : ℕ) × Fronted b n p x → servesIn after ≤ bound (nb .largest) (classAt nb n)
+    go : (p : ℕ) × FrontAt b n p x → servesIn after ≤ bound (nb .largest) (classAt nb n)
     go (p, f) =
         rw (has-share nb p n tn (f .after))
         (bound-serves b x after p g (f .front) (unsent-at nb p n after tn (keeps-step b x g .good) (f .after) (front-waits b x p g (f .front)) u) s)

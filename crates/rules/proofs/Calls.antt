@@ -17,7 +17,7 @@ use Rattle.base.proofs.Tests.{and-right}
 use Rattle.units.specs.Classes.{nextStart, classOf}
 use Rattle.rules.specs.Spoilt.{isQueued, isServing, readyNum, isAt}
 use Rattle.lanes.proofs.Lanes.{depth-positive}
-use Rattle.rules.specs.Board.{Record, noRecord, Stand, out, queued, serving, Place, freePlace, blockClass, Board, at, spent}
+use Rattle.rules.specs.Board.{Record, noRecord, Stand, out, queued, serving, Place, freePlace, blockClass, Board, at, NoneHas, usedShare}
 use Rattle.rules.specs.Choice.{upd, done, leastReady, isNone, goOn, more, joins, joining, takenIn, tookAt, Taken, taken}
 use Rattle.rules.specs.Blocks.{Opening, opened, freeAt, quiet, closed, renamed}
 use Rattle.rules.proofs.Potential.{ahead-join}
@@ -25,10 +25,10 @@ use Rattle.rules.proofs.Orders.{pl, ready}
 use Rattle.rules.proofs.Shape.{Shape, Distinct, names-kept, names-set, named-num, PlaceOk, StandOk, All, all-snoc, LeastIs, least-is, InSize, most-pos}
 use Rattle.rules.proofs.Good.{seatOf, Fine, fine-same, fine-join, fine-open, fine-close, fine-close-quiet}
 use Rattle.rules.proofs.Slot.{serving-ok}
-use Rattle.rules.proofs.Turns.{Good, busy, inLine, slotBytesLeft, most, phi, phi-queued, limit, Keeps, lit, Goes, goes-same, handBy, hand, Bars}
+use Rattle.rules.proofs.Turns.{Good, busy, inLine, slotBytesLeft, most, phi, phi-queued, mostAhead, Keeps, lit, WaitsOn, goes-same, handBy, hand, Bars}
 use Rattle.rules.proofs.Turns.{bars-same}
 use Rattle.rules.proofs.Turns.{barBy, barOf, dueTime}
-use Rattle.rules.proofs.Cases.{Nobody, CanOpen, CanRename, CanClose, CanTake, has-at}
+use Rattle.rules.proofs.Cases.{CanOpen, CanRename, CanClose, CanTake, has-at}
 
 -- a stand and a share decide what is ahead
 seat-same : (x y : Place) → x .share ≡ y .share → x .stand ≡ y .stand → seatOf x ≡ seatOf y
@@ -59,7 +59,7 @@ keeps-quiet L c l o s H l′ o′ H′ stands both g = record { good = g; stays 
     shares : (q : ℕ) → inLine (pl l q .stand) ≡ true → pl l′ q .share ≡ pl l q .share
     shares q w = both q w .0
 
-    goes : (q : ℕ) → inLine (pl l q .stand) ≡ true → inLine (pl l′ q .stand) ≡ true → Goes b (record { out = done; next = nb }) q
+    goes : (q : ℕ) → inLine (pl l q .stand) ≡ true → inLine (pl l′ q .stand) ≡ true → WaitsOn b (record { out = done; next = nb }) q
     goes q w v =
         goes-same b (record { out = done; next = nb }) q refl (shares q w) (ap₂ (dueTime c) (shares q w) (stands q)) (ap₂ handBy (both q w .1) (stands q))
 
@@ -70,7 +70,7 @@ keeps-quiet L c l o s H l′ o′ H′ stands both g = record { good = g; stays 
         → (inLine (pl l′ q .stand) ≡ true) × (pl l′ q .share ≡ pl l q .share) × (phi nb q + 0 ≤ phi b q)
     stays q w _ = (rw (stands q) w, shares q w, omega (arith, same q w))
 
-    comes : (q : ℕ) → inLine (pl l′ q .stand) ≡ true → (inLine (pl l q .stand) ≡ false) ⊎ (false ≡ true) → phi nb q ≤ limit L (blockClass (pl l′ q))
+    comes : (q : ℕ) → inLine (pl l′ q .stand) ≡ true → (inLine (pl l q .stand) ≡ false) ⊎ (false ≡ true) → phi nb q ≤ mostAhead L (blockClass (pl l′ q))
     comes q w (inl e) = absurd (true≢false (sym (rw (stands q) at w) ∙ e))
     comes q w (inr e) = absurd (false≢true e)
 
@@ -134,7 +134,7 @@ keeps-join L c l o s H o′ p x h was is g0 g = record { good = g; stays = stays
             ∙ ap (λ (n : ℕ). nextStart (classOf n) c) (sym (ap (λ (z : Place). z .share) (getD-set-same l p x freePlace h)) ∙ rw f at e))))
         go (no f) = le-of-eq (sym (ap (λ (z : Place). barBy c (z .share) (z .stand)) (getD-set-other l p q x freePlace f)))
 
-    goes : (q : ℕ) → inLine (pl l q .stand) ≡ true → inLine (pl (set l p x) q .stand) ≡ true → Goes b (record { out = done; next = nb }) q
+    goes : (q : ℕ) → inLine (pl l q .stand) ≡ true → inLine (pl (set l p x) q .stand) ≡ true → WaitsOn b (record { out = done; next = nb }) q
     goes q w v =
         goes-same b (record { out = done; next = nb }) q refl (ap (λ (z : Place). z .share) same) (ap (λ (z : Place). dueTime c (z .share) (z .stand)) same)
         (ap hand same)
@@ -152,16 +152,16 @@ keeps-join L c l o s H o′ p x h was is g0 g = record { good = g; stays = stays
         less : phi nb q + 0 ≤ phi b q
         less = omega (arith, phi-same L c l (set l p x) o o′ s H H q (getD-set-other l p q x freePlace ne) (left-other l p x s was (g0 .one)))
 
-    new : phi nb p ≤ limit L (blockClass (pl (set l p x) p))
+    new : phi nb p ≤ mostAhead L (blockClass (pl (set l p x) p))
     new = rw (phi-queued nb p (rw (getD-set-same l p x freePlace h) (ap isQueued is)), getD-set-same l p x freePlace h)
         (ahead-join (most L) (slotBytesLeft (set l p x) s) c (busy s) (seatOf x) (ap readyNum is) (busy-le s) (left-most L c (set l p x) o′ s H g))
 
     comes : (q : ℕ) → inLine (pl (set l p x) q .stand) ≡ true → (inLine (pl l q .stand) ≡ false) ⊎ (false ≡ true)
-        → phi nb q ≤ limit L (blockClass (pl (set l p x) q))
+        → phi nb q ≤ mostAhead L (blockClass (pl (set l p x) q))
     comes q w (inr e) = absurd (false≢true e)
     comes q w (inl e) = go (ℕ-discrete q p)
       where
-        go : Dec (q ≡ p) → phi nb q ≤ limit L (blockClass (pl (set l p x) q))
+        go : Dec (q ≡ p) → phi nb q ≤ mostAhead L (blockClass (pl (set l p x) q))
         go (yes f) = rw f new
         go (no f) = absurd (true≢false (sym (rw (getD-set-other l p q x freePlace f) at w) ∙ e))
 
@@ -192,7 +192,7 @@ module _ (b : Board) (sh : Shape (b .largest) (b .clock) (b .places) (b .orders)
   in-places p h = omega (arith, sh .all64)
 
   -- no other open block has the number that the place has now
-  pub names-new : (p : ℕ) (x : Place) → p < 64 → Nobody b (x .number) → Distinct (set (b .places) p x)
+  pub names-new : (p : ℕ) (x : Place) → p < 64 → NoneHas b (x .number) → Distinct (set (b .places) p x)
   names-new p x h nobody = names-set (b .places) p x (in-places p h) (λ q ne a _ f. nobody q (has-at b q (x .number) (sh .all64) a f)) (sh .names)
 
   pub free-out : (o : Opening) → CanOpen b o → at b (freeAt b) .stand ≡ out
@@ -337,7 +337,7 @@ share-else l p x was q w = rw (getD-set-other l p q x freePlace ne) (refl, refl)
 
 -- OPEN
 pub keeps-open : (b : Board) (o : Opening) → CanOpen b o → Good b → Keeps b (record { out = done; next = goOn b (freeAt b) (opened o) })
-unfolding spent
+unfolding usedShare
 keeps-open b o can g =
     keeps-quiet (b .largest) (b .clock) (b .places) (b .orders) (b .slot) (b .held) (set (b .places) p z) (b .orders) (b .held)
     (set-field (λ w. w .stand) (b .places) p z in-p (sym was)) (share-else (b .places) p z was)

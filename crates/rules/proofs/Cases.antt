@@ -12,7 +12,7 @@ use lib.ListN.{length, List·getD-eq-default}
 use Rattle.base.specs.Tests.{least}
 use Rattle.base.proofs.Tests.{least-true, least-false, and-left, and-right}
 use Rattle.base.proofs.Numbers.{split, leb-yes, true-le, false-lt, eqb-true, eqb-yes}
-use Rattle.rules.specs.Board.{Record, Place, freePlace, Board, at, depth, isOpen, Has, freeShare, spent, bytesCharged, front}
+use Rattle.rules.specs.Board.{Record, Place, freePlace, Board, at, depth, isOpen, Has, NoneHas, freeShare, usedShare, bytesCharged, front}
 use Rattle.rules.specs.Choice.{done, Turn, refuse, Check, guarded, whereIs, someHas, noneHas, numberOutside, lengthOutside, recordChecks, takeRecord}
 use Rattle.rules.specs.Choice.{tookAt, goOn}
 use Rattle.rules.specs.Choice.{leastReady, lowest, chosen, begin, beginChecks, send, serve, serveBy, leftOf}
@@ -93,12 +93,8 @@ where-has b n h = record {
     t : isOpen (at b p) && eqb n (at b p .number) ≡ true
     t = least-true (λ q. isOpen (at b q) && eqb n (at b q .number)) 64 h
 
--- no open block has n
-abbrev pub Nobody : Board → ℕ → Type 0
-Nobody b n = (q : ℕ) → Has b q n → ⊥
-
 -- a number that is not found
-pub where-none : (b : Board) (n : ℕ) → ltb (whereIs b n) 64 ≡ false → Nobody b n
+pub where-none : (b : Board) (n : ℕ) → ltb (whereIs b n) 64 ≡ false → NoneHas b n
 unfolding whereIs
 where-none b n e q h = true≢false (sym isT ∙ least-false t 64 q (omega (arith, h .inside, false-lt (suc (least t 64)) 64 e)))
   where
@@ -133,15 +129,15 @@ free-found b h = eqb-true (at b (freeAt b) .share) 0 (least-true (λ p. eqb (at 
 pub record CanOpen (b : Board) (o : Opening) : Type 0 where
   pub number : 1 ≤ o .number
   pub share : 1 ≤ o .share
-  pub nobody : Nobody b (o .number)
+  pub nobody : NoneHas b (o .number)
   pub inside : freeAt b < 64
   pub free : at b (freeAt b) .share ≡ 0
-  pub room : spent b + o .share ≤ 65536
+  pub room : usedShare b + o .share ≤ 65536
 
 pub record CanRename (b : Board) (p old new : ℕ) : Type 0 where
   pub has : Has b p old
   pub number : 1 ≤ new
-  pub nobody : Nobody b new
+  pub nobody : NoneHas b new
 
 pub record CanClose (b : Board) (p n : ℕ) : Type 0 where
   pub has : Has b p n

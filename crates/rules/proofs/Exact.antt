@@ -12,7 +12,7 @@ use Rattle.base.specs.Tests.{Decides}
 use Rattle.base.proofs.Decides.{d-iff, d-leb}
 use Rattle.base.proofs.Numbers.{split, leb-yes, true-le, eqb-no}
 use Rattle.base.proofs.Tests.{least-none, least-false}
-use Rattle.rules.specs.Board.{Record, Place, freePlace, Board, at, waits, someWait, spent, freeShare, Has}
+use Rattle.rules.specs.Board.{Record, Place, freePlace, Board, at, waits, someWait, usedShare, freeShare, Has}
 use Rattle.rules.specs.Choice.{whereIs, noneHas, someHas, leastReady}
 use Rattle.rules.specs.Blocks.{freeAt, allTaken, overFree, quiet}
 use Rattle.rules.proofs.Cases.{or-left, or-right, not-zero, where-has, where-none}
@@ -54,7 +54,7 @@ taken-decides b = record {
     taken : (p : ℕ) → 1 ≤ at b p .share → test p ≡ false
     taken p h = eqb-no (at b p .share) 0 (λ e. omega arith)
 
-pub free-decides : (b : Board) (s : ℕ) → spent b ≤ 65536 → Decides (overFree b s) (65536 < spent b + s)
+pub free-decides : (b : Board) (s : ℕ) → usedShare b ≤ 65536 → Decides (overFree b s) (65536 < usedShare b + s)
 free-decides b s h = d-iff (d-leb (suc (freeShare b)) s) (λ l. omega arith) (λ l. omega arith)
 
 -- ---- waiting

@@ -13,7 +13,7 @@ use Rattle.base.specs.Tests.{least, allBelow}
 use Rattle.units.specs.Classes.{Start, classOf, nextStart}
 use Rattle.units.specs.Credit.{framing, charged, largestCharge, creditOf}
 use Rattle.lanes.specs.Lanes.{ringEntry, ringOn, laneDepth, laneFirst}
-use Rattle.rules.specs.Board.{Record, bytesCharged, queued, Board, at, entry, onward, someWait, anyDue, spent, fresh, pending, freePlace}
+use Rattle.rules.specs.Board.{Record, bytesCharged, queued, Board, at, entry, onward, someWait, anyDue, usedShare, fresh, pending, freePlace}
 use Rattle.rules.specs.Choice.{whereIs, upd, takenIn, takeRecord, release, leastReady, settle, ended, sendFrom, send, lowest, begin, serveBy, serve, find}
 use Rattle.rules.specs.Choice.{openAt}
 use Rattle.rules.specs.Blocks.{opening, freeAt, openBlock, renameBlock, quiet, closed, closeBlock}
@@ -142,14 +142,15 @@ pub record Computed : Type 0 where
       ≡ took ∷ took ∷ took ∷ gives 0 ∷ out 2 1 40 2 ∷ gives 0 ∷ out 3 2 20 2 ∷ gives 0 ∷ took ∷ out 4 3 64 4 ∷ []
   pub renamedStory : story (begins 1) (step (fresh 64) (opens 1 32768) .next) renames
       ≡ record { number = 4; taken = rec 1 40 ∷ rec 2 20 ∷ rec 3 64 ∷ rec 4 9 ∷ []; sent = rec 1 40 ∷ rec 2 20 ∷ rec 3 64 ∷ []; closed = false }
-  -- the clock is spent for the late board
+  -- the clock is usedShare for the late board
   pub lateIsSound : spoilt late ≡ false
   pub lateAnswer : answer late serve! ≡ gives 11
 
 pub computed : Computed
 unfolding answers worked emptied thenOpened fraction filled tight waiting renames story allBelow numbersApart lengthsIn count allPlaces ordersListed
     neverFalling unspoilt Start play bytesIn slotsIn holds stillHeld Unsent NotSpent servesIn least nextStart classOf framing charged largestCharge creditOf sum
-    below bytesCharged ringEntry ringOn laneDepth laneFirst entry onward someWait anyDue spent fresh whereIs upd takenIn takeRecord release leastReady settle
+    below bytesCharged ringEntry ringOn laneDepth laneFirst entry onward someWait anyDue usedShare fresh whereIs upd takenIn takeRecord release leastReady
+    settle
     ended
     sendFrom send lowest begin serveBy serve freeAt openBlock renameBlock quiet closed closeBlock step
 computed =

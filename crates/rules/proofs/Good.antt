@@ -134,7 +134,7 @@ fine-close {L} {c} {d} {l} {o} {H} p h was f =
     record {
       shape =
           shape-other p freePlace H′ h was refl (names-free l p h (f .shape .names)) (free-ok L (f .shape .least))
-          (omega (arith, f .shape .spent, below-one H′ H 17 k (omega (arith, class-le (pl l p .share))) (holds .there), holds .here)) (f .shape);
+          (omega (arith, f .shape .usedShare, below-one H′ H 17 k (omega (arith, class-le (pl l p .share))) (holds .there), holds .here)) (f .shape);
       inTime =
           rw (map-set seatOf l p freePlace)
           (close-in-time (seats l) H H′ c d p (rw (length-seats l) h) (rw (seat-at l p) was) (rw (seat-at l p) holds) (f .inTime));
@@ -155,7 +155,7 @@ pub fine-close-quiet : {L c d : ℕ} {l : List Place} {o : ℕ → List ℕ} {H 
 fine-close-quiet {L} {c} {d} {l} {o} {H} p h was f =
     record {
       shape =
-          shape-other p freePlace H h (was p) refl (names-free l p h (f .shape .names)) (free-ok L (f .shape .least)) (omega (arith, f .shape .spent))
+          shape-other p freePlace H h (was p) refl (names-free l p h (f .shape .names)) (free-ok L (f .shape .least)) (omega (arith, f .shape .usedShare))
           (f .shape);
       inTime = rw (map-set seatOf l p freePlace) (idle-in-time (set (seats l) p free) H c d none less);
     }

@@ -54,17 +54,17 @@ unfoldable pub live : ℕ → ℕ → Hold → ℕ
 live d k h = cond (ltb d (h .until)) (heldOf k h) 0
 
 -- for every clock from c on, what release leaves of H is what the holds keep
-abbrev pub Agrees : ℕ → (ℕ → ℕ) → List Hold → Type 0
-Agrees c H hs = (d : ℕ) → c ≤ d → (k : ℕ) → release c d H k ≡ sum (live d k) hs
+abbrev pub HeldByHolds : ℕ → (ℕ → ℕ) → List Hold → Type 0
+HeldByHolds c H hs = (d : ℕ) → c ≤ d → (k : ℕ) → release c d H k ≡ sum (live d k) hs
 
-agrees-now : (c : ℕ) (H : ℕ → ℕ) (hs : List Hold) → Agrees c H hs → (k : ℕ) → H k ≡ sum (live c k) hs
+agrees-now : (c : ℕ) (H : ℕ → ℕ) (hs : List Hold) → HeldByHolds c H hs → (k : ℕ) → H k ≡ sum (live c k) hs
 agrees-now c H hs a k = sym (release-none c H k) ∙ a c (le-refl c) k
 
 -- the clock moves on
-agrees-move : (c d : ℕ) (H : ℕ → ℕ) (hs : List Hold) → c ≤ d → Agrees c H hs → Agrees d (release c d H) hs
+agrees-move : (c d : ℕ) (H : ℕ → ℕ) (hs : List Hold) → c ≤ d → HeldByHolds c H hs → HeldByHolds d (release c d H) hs
 agrees-move c d H hs h a e l k = release-twice c d e H k h l ∙ a e (omega arith) k
 
-agrees-none : (c : ℕ) (H : ℕ → ℕ) → ((k : ℕ) → H k ≡ 0) → Agrees c H []
+agrees-none : (c : ℕ) (H : ℕ → ℕ) → ((k : ℕ) → H k ≡ 0) → HeldByHolds c H []
 unfolding release sum
 agrees-none c H z d h k = go (leb (nextStart k c) d)
   where
@@ -82,7 +82,7 @@ module _ (c s j : ℕ) where
   abbrev newHold : Hold
   newHold = record { share = s; class = j; until = nextStart j c }
 
-  agrees-close : (H : ℕ → ℕ) (hs : List Hold) → Agrees c H hs → Agrees c (upd H j (H j + s)) (hs ++ (newHold ∷ []))
+  agrees-close : (H : ℕ → ℕ) (hs : List Hold) → HeldByHolds c H hs → HeldByHolds c (upd H j (H j + s)) (hs ++ (newHold ∷ []))
   unfolding release live
   agrees-close H hs a d h k = go (ℕ-discrete k j) ∙ sym (sum-snoc (live d k) hs newHold)
     where
@@ -152,14 +152,14 @@ settle-same l H e = λ i k. each k i
     each : (k : ℕ) → cond (isNone (leastReady l)) 0 (H k) ≡ H k
     each k = rw e
 
-ended-agrees : (c : ℕ) (H : ℕ → ℕ) (l : List Place) (hs : List Hold) → isNone (leastReady l) ≡ false → Agrees c H hs
-    → Agrees (suc c) (settle l (release c (suc c) H)) hs
+ended-agrees : (c : ℕ) (H : ℕ → ℕ) (l : List Place) (hs : List Hold) → isNone (leastReady l) ≡ false → HeldByHolds c H hs
+    → HeldByHolds (suc c) (settle l (release c (suc c) H)) hs
 ended-agrees c H l hs e a d h k =
     ap (λ (F : ℕ → ℕ). release (suc c) d F k) (settle-same l (release c (suc c) H) e) ∙ agrees-move c (suc c) H hs (omega arith) a d h k
 
 -- a send: the slot goes on, or it ends, and what is due is released
-send-agrees : (m : Board) (p : ℕ) (hs : List Hold) → Tidy (sendFrom m p) → Agrees (m .clock) (m .held) hs → someWait (sendFrom m p .places) ≡ true
-    → Agrees (sendFrom m p .clock) (sendFrom m p .held) hs
+send-agrees : (m : Board) (p : ℕ) (hs : List Hold) → Tidy (sendFrom m p) → HeldByHolds (m .clock) (m .held) hs → someWait (sendFrom m p .places) ≡ true
+    → HeldByHolds (sendFrom m p .clock) (sendFrom m p .held) hs
 unfolding sendFrom ended
 send-agrees m p hs g a w =
     go (leb (length (at m p .lane)) 1) refl (ltb (leftAfter (at m p)) (bytesCharged (getD (drop 1 (at m p .lane)) 0 noRecord) * 65536)) refl
@@ -171,12 +171,12 @@ send-agrees m p hs g a w =
     next t u = cond t (ended m p (emptied (at m p)) (m .orders)) (cond u (ended m p (short (m .clock) (at m p)) o′) (goOn m p (going (at m p))))
 
     over : (y : Place) (o : ℕ → List ℕ) → Tidy (ended m p y o) → someWait (set (m .places) p y) ≡ true
-        → Agrees (suc (m .clock)) (settle (set (m .places) p y) (release (m .clock) (suc (m .clock)) (m .held))) hs
+        → HeldByHolds (suc (m .clock)) (settle (set (m .places) p y) (release (m .clock) (suc (m .clock)) (m .held))) hs
     over y o t v d h k = ended-agrees (m .clock) (m .held) (set (m .places) p y) hs (waits-ordered (ended m p y o) t refl v) a d h k
 
     go : (t : Bool) → leb (length (at m p .lane)) 1 ≡ t → (u : Bool)
         → ltb (leftAfter (at m p)) (bytesCharged (getD (drop 1 (at m p .lane)) 0 noRecord) * 65536) ≡ u
-        → Agrees (cond (leb (length (at m p .lane)) 1) (ended m p (emptied (at m p)) (m .orders))
+        → HeldByHolds (cond (leb (length (at m p .lane)) 1) (ended m p (emptied (at m p)) (m .orders))
         (cond (ltb (leftAfter (at m p)) (bytesCharged (getD (drop 1 (at m p .lane)) 0 noRecord) * 65536)) (ended m p (short (m .clock) (at m p)) o′)
         (goOn m p (going (at m p)))) .clock)
         (cond (leb (length (at m p .lane)) 1) (ended m p (emptied (at m p)) (m .orders))
@@ -186,16 +186,16 @@ send-agrees m p hs g a w =
     go false e true f = rw (e, f) (over (short (m .clock) (at m p)) o′ (rw (e, f) at g) (rw (e, f) at w))
     go false e false f = rw (e, f) a
 
-begin-agrees : (b : Board) (t : ℕ) (hs : List Hold) → b .clock ≤ t → Agrees (b .clock) (b .held) hs → Agrees (begin b t .clock) (begin b t .held) hs
+begin-agrees : (b : Board) (t : ℕ) (hs : List Hold) → b .clock ≤ t → HeldByHolds (b .clock) (b .held) hs → HeldByHolds (begin b t .clock) (begin b t .held) hs
 unfolding begin
 begin-agrees b t hs h a = agrees-move (b .clock) t (b .held) hs h a
 
-module _ (b : Board) (hs : List Hold) (g : Tidy b) (a : Agrees (b .clock) (b .held) hs) where
+module _ (b : Board) (hs : List Hold) (g : Tidy b) (a : HeldByHolds (b .clock) (b .held) hs) where
   abbrev Steps : Single → Turn → Type 0
-  Steps x u = someWait (u .next .places) ≡ true → Agrees (u .next .clock) (u .next .held) (hs ++ closing b x (told b (u .out)))
+  Steps x u = someWait (u .next .places) ≡ true → HeldByHolds (u .next .clock) (u .next .held) (hs ++ closing b x (told b (u .out)))
 
   -- nothing is added
-  as-was : Agrees (b .clock) (b .held) (hs ++ [])
+  as-was : HeldByHolds (b .clock) (b .held) (hs ++ [])
   as-was = rw (append-nil hs) a
 
   closing-refused : (x : Single) (code : ℕ) → Refusal code → closing b x (gives code) ≡ []
@@ -212,7 +212,7 @@ module _ (b : Board) (hs : List Hold) (g : Tidy b) (a : Agrees (b .clock) (b .he
       k : ℕ
       k = blockClass (at b p)
 
-      go : (t : Bool) → Agrees (b .clock) (cond t (b .held) (upd (b .held) k (b .held k + at b p .share)))
+      go : (t : Bool) → HeldByHolds (b .clock) (cond t (b .held) (upd (b .held) k (b .held k + at b p .share)))
           (hs ++ cond (not t) (record { share = at b p .share; class = k; until = nextStart k (b .clock) } ∷ []) [])
       go true = as-was
       go false = agrees-close (b .clock) (at b p .share) k (b .held) hs a
@@ -221,7 +221,7 @@ module _ (b : Board) (hs : List Hold) (g : Tidy b) (a : Agrees (b .clock) (b .he
   unfolding takenIn
   steps-take p n r c w = go (leb (length (at b p .lane)) 0)
     where
-      go : (t : Bool) → Agrees (cond t (joining b p (joins (b .clock) (at b p) r)) (goOn b p (more (at b p) r)) .clock)
+      go : (t : Bool) → HeldByHolds (cond t (joining b p (joins (b .clock) (at b p) r)) (goOn b p (more (at b p) r)) .clock)
           (cond t (joining b p (joins (b .clock) (at b p) r)) (goOn b p (more (at b p) r)) .held) (hs ++ [])
       go true = as-was
       go false = as-was
@@ -251,7 +251,7 @@ module _ (b : Board) (hs : List Hold) (g : Tidy b) (a : Agrees (b .clock) (b .he
 -- ---- over a row of calls
 
 pub record HeldIs (b : Board) (hs : List Hold) : Type 0 where
-  pub agrees : Agrees (b .clock) (b .held) hs
+  pub agrees : HeldByHolds (b .clock) (b .held) hs
   pub alive : (k : ℕ) → sum (live (b .clock) k) hs ≡ sum (heldOf k) hs
 
 held-step : (b : Board) (hs : List Hold) (x : Single) → Tidy b → HeldIs b hs
@@ -267,7 +267,7 @@ held-step b hs x g h = record { agrees = go (someWait (nb .places)) refl; alive 
     tn : Tidy nb
     tn = tidy-step b x g
 
-    go : (t : Bool) → someWait (nb .places) ≡ t → Agrees (nb .clock) (nb .held) (stillHeld nb new)
+    go : (t : Bool) → someWait (nb .places) ≡ t → HeldByHolds (nb .clock) (nb .held) (stillHeld nb new)
     go true w = λ d l k. steps b hs g (h .agrees) x w d l k ∙ sym (kept-live nb w new d k l)
     go false w = rw (dropped nb w new) (agrees-none (nb .clock) (nb .held) (tn .calm (quiet-when (quiet nb) (sym (some-quiet nb tn) ∙ w))))
       where

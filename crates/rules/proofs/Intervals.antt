@@ -36,13 +36,13 @@ begins-at : (lo hi : ℕ) (b : Board) (p n : ℕ) (x : Single) → isFor n (answ
 begins-at lo hi b p n x e = rw (e, clock-told b (step b x .out))
 
 -- the calls up to the one that closes the block at p, and no slot of it after them
-record Lives (lo hi : ℕ) (b : Board) (p n : ℕ) (xs : List Single) : Type 0 where
+record UntilClosed (lo hi : ℕ) (b : Board) (p n : ℕ) (xs : List Single) : Type 0 where
   first : List Single
   keeping : Keeping p b first
   counts : slotsIn lo hi n b xs ≡ slotsAt lo hi p b first
   end : (first ≡ xs) ⊎ (inLine (at (play b first) p .stand) ≡ false)
 
-lives : (lo hi : ℕ) (b : Board) (p n : ℕ) (xs : List Single) → Tidy b → Good b → Has b p n → Lives lo hi b p n xs
+lives : (lo hi : ℕ) (b : Board) (p n : ℕ) (xs : List Single) → Tidy b → Good b → Has b p n → UntilClosed lo hi b p n xs
 unfolding slotsIn slotsAt Keeping play
 lives lo hi b p n [] t g h = record { first = []; keeping = tt; counts = refl; end = inl refl }
 lives lo hi b p n (x ∷ xs) t g h =
@@ -64,8 +64,8 @@ lives lo hi b p n (x ∷ xs) t g h =
         ∙ never (isNone (b .slot)) (leb lo (clockOf (answer b x))) (ltb (clockOf (answer b x)) hi)
 
     go : (c : Bool) → closes n x (answer b x) ≡ c
-        → (Has (step b x .next) p (numberAfter n x (answer b x)) → Lives lo hi (step b x .next) p (numberAfter n x (answer b x)) xs)
-        → Lives lo hi b p n (x ∷ xs)
+        → (Has (step b x .next) p (numberAfter n x (answer b x)) → UntilClosed lo hi (step b x .next) p (numberAfter n x (answer b x)) xs)
+        → UntilClosed lo hi b p n (x ∷ xs)
     go true c rest = record {
       first = [];
       keeping = tt;
@@ -89,7 +89,7 @@ slots-twice b n p lo after t g e m =
     h : Has b p n
     h = find-has b p n e
 
-    l : Lives lo (lo + 2 ^ blockClass (at b p)) b p n after
+    l : UntilClosed lo (lo + 2 ^ blockClass (at b p)) b p n after
     l = lives lo (lo + 2 ^ blockClass (at b p)) b p n after t g h
 
 -- a block whose lane is not empty has a place
@@ -167,7 +167,7 @@ slots-once b n lo x after t g w end = go (lane-has b n (w .before)) (moves b t x
         hn : Has nb p n
         hn = subst (Has nb p) same (f .stays stay .0)
 
-        l : Lives lo (lo + 2 ^ k) nb p n after
+        l : UntilClosed lo (lo + 2 ^ k) nb p n after
         l = lives lo (lo + 2 ^ k) nb p n after tn gn hn
 
         how : (1 ≤ length (laneOf nb n)) ⊎ ((beginsSlot n b x ≡ true) × (lo ≤ clockOf (answer b x)))

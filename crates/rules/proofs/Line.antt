@@ -119,10 +119,10 @@ abbrev pub Fits : List Seat → (ℕ → ℕ) → ℕ → ℕ → ℕ → Type 0
 Fits l H c d k = 65536 * sum (pend k c) l ≤ sum (room k c d) l + below (hroom c d H) (suc k)
 
 -- the held shares of a class go when the clock reaches its next start
-abbrev pub Kept : ℕ → ℕ → (ℕ → ℕ) → (ℕ → ℕ) → Type 0
-Kept c c′ H H′ = (j : ℕ) → c′ < nextStart j c → H′ j ≡ H j
+abbrev pub HeldStays : ℕ → ℕ → (ℕ → ℕ) → (ℕ → ℕ) → Type 0
+HeldStays c c′ H H′ = (j : ℕ) → c′ < nextStart j c → H′ j ≡ H j
 
-pub tick-held : (c : ℕ) (H H′ : ℕ → ℕ) → Kept c (suc c) H H′ → (j : ℕ) → hroom c 1 H j ≤ hroom (suc c) 0 H′ j
+pub tick-held : (c : ℕ) (H H′ : ℕ → ℕ) → HeldStays c (suc c) H H′ → (j : ℕ) → hroom c 1 H j ≤ hroom (suc c) 0 H′ j
 unfolding hroom
 tick-held c H H′ kept j = go (split (nextStart j c) (suc c))
   where
@@ -130,7 +130,8 @@ tick-held c H H′ kept j = go (split (nextStart j c) (suc c))
     go (inl l) = let z : nextStart j c - c - 1 ≡ 0 = omega arith in rw z (omega (arith, mul-zero (H j)))
     go (inr l) = rw (kept j l) (mul-le-mul-left (H j) (omega (arith, next-mono j c (suc c) (omega arith))))
 
-pub tick-fits : (l : List Seat) (H H′ : ℕ → ℕ) (c k : ℕ) → ((i : ℕ) → Ok c 1 (getD l i free)) → Kept c (suc c) H H′ → Fits l H c 1 k → Fits l H′ (suc c) 0 k
+pub tick-fits : (l : List Seat) (H H′ : ℕ → ℕ) (c k : ℕ) → ((i : ℕ) → Ok c 1 (getD l i free)) → HeldStays c (suc c) H H′ → Fits l H c 1 k
+    → Fits l H′ (suc c) 0 k
 tick-fits l H H′ c k ok kept b =
     omega (
       arith,

@@ -38,16 +38,16 @@ abbrev pub pl : List Place → ℕ → Place
 pl l p = getD l p freePlace
 
 -- the order of class k lists each waiting block of the class that is not in the slot, once, and nothing else
-abbrev pub Listed : List Place → (ℕ → List ℕ) → Type 0
-Listed l o = (k q : ℕ) → count q (o k) ≡ oneIf (inClass k (pl l q))
+abbrev pub InOrders : List Place → (ℕ → List ℕ) → Type 0
+InOrders l o = (k q : ℕ) → count q (o k) ≡ oneIf (inClass k (pl l q))
 
 -- a block has one class
 not-both : (b : Bool) (j k m : ℕ) → j ≢ k → b && eqb k m ≡ true → b && eqb j m ≡ false
 not-both false j k m n e = refl
 not-both true j k m n e = eqb-no j m (λ f. n (f ∙ sym (eqb-true k m e)))
 
-pub listed-same : (l : List Place) (o : ℕ → List ℕ) (p : ℕ) (x : Place) → p < length l → ((k : ℕ) → inClass k x ≡ inClass k (pl l p)) → Listed l o
-    → Listed (set l p x) o
+pub listed-same : (l : List Place) (o : ℕ → List ℕ) (p : ℕ) (x : Place) → p < length l → ((k : ℕ) → inClass k x ≡ inClass k (pl l p)) → InOrders l o
+    → InOrders (set l p x) o
 listed-same l o p x h e li k q = go (ℕ-discrete q p)
   where
     go : Dec (q ≡ p) → count q (o k) ≡ oneIf (inClass k (pl (set l p x) q))
@@ -55,7 +55,7 @@ listed-same l o p x h e li k q = go (ℕ-discrete q p)
     go (no w) = rw (getD-set-other l p q x freePlace w) (li k q)
 
 pub listed-join : (l : List Place) (o : ℕ → List ℕ) (p : ℕ) (x : Place) → p < length l → isQueued (pl l p .stand) ≡ false → isQueued (x .stand) ≡ true
-    → Listed l o → Listed (set l p x) (upd o (blockClass x) (o (blockClass x) ++ (p ∷ [])))
+    → InOrders l o → InOrders (set l p x) (upd o (blockClass x) (o (blockClass x) ++ (p ∷ [])))
 listed-join l o p x h was is li k q = go (ℕ-discrete k (blockClass x)) (ℕ-discrete q p)
   where
     o′ : ℕ → List ℕ
@@ -80,7 +80,7 @@ listed-join l o p x h was is li k q = go (ℕ-discrete k (blockClass x)) (ℕ-di
 
 -- the first of an order leaves it
 pub listed-leave : (l : List Place) (o : ℕ → List ℕ) (k p : ℕ) (ps : List ℕ) (x : Place) → p < length l → o k ≡ p ∷ ps → isQueued (x .stand) ≡ false
-    → Listed l o → Listed (set l p x) (upd o k ps)
+    → InOrders l o → InOrders (set l p x) (upd o k ps)
 unfolding count
 listed-leave l o k p ps x h first is li j q = go (ℕ-discrete j k) (ℕ-discrete q p)
   where

@@ -22,7 +22,7 @@ use Rattle.rules.specs.Choice.{joining, takenIn}
 use Rattle.rules.specs.Blocks.{closed}
 use Rattle.rules.specs.Runs.{play}
 use Rattle.rules.proofs.Shape.{LeastIs, Chosen, choose}
-use Rattle.rules.proofs.Turns.{Good, busy, inLine, fromPlace, begun, slotClock, dueOf, due-queued, due-serving, queued-waits, Keeps, Goes}
+use Rattle.rules.proofs.Turns.{Good, busy, inLine, fromPlace, begun, slotClock, dueOf, due-queued, due-serving, queued-waits, Keeps, WaitsOn}
 use Rattle.rules.proofs.Run.{keeps-step}
 use Rattle.rules.proofs.Stretch.{slotsAt, due-ok, Keeping, never-two}
 use Rattle.rules.proofs.Cases.{MayBegin, least-of, other-cases, serve-turns}
@@ -68,8 +68,8 @@ clock-up b = other-cases b (λ x u. b .clock ≤ u .next .clock) (record {
     (λ r m. up-begin b (max (b .clock) r) (chosen b (max (b .clock) r)) (omega arith)))
 
 -- A SEND FROM p: its slot was open, or it begins now, not before the clock and before the end of its interval
-abbrev Sends : Board → Turn → ℕ → Type 0
-Sends b t p =
+abbrev InSlotOrBegins : Board → Turn → ℕ → Type 0
+InSlotOrBegins b t p =
     ((isNone (b .slot) ≡ false) × (isServing (at b p .stand) ≡ true))
     ⊎ ((isNone (b .slot) ≡ true) × (b .clock ≤ slotClock (t .out)) × (slotClock (t .out) < dueOf b p + 2 ^ blockClass (at b p)))
 
@@ -97,22 +97,22 @@ begin-clock b r p g e li q = (
     isQ : isQueued (at b p .stand) ≡ true
     isQ = rw q (ch .isQ)
 
-sends : (b : Board) (c : Single) (p : ℕ) → Good b → fromPlace p (step b c .out) ≡ true → Sends b (step b c) p
+sends : (b : Board) (c : Single) (p : ℕ) → Good b → fromPlace p (step b c .out) ≡ true → InSlotOrBegins b (step b c) p
 unfolding send
-sends b c p g = other-cases b (λ x u. fromPlace p (u .out) ≡ true → Sends b u p) (record {
+sends b c p g = other-cases b (λ x u. fromPlace p (u .out) ≡ true → InSlotOrBegins b u p) (record {
   refused = λ x code r f. absurd (false≢true f);
   opens = λ o c f. absurd (false≢true f);
   renames = λ old new c f. absurd (false≢true f);
   closes = λ n c f. absurd (false≢true f);
   takes = λ n x c f. absurd (false≢true f);
 })
-    (serve-turns b (λ u. fromPlace p (u .out) ≡ true → Sends b u p)
+    (serve-turns b (λ u. fromPlace p (u .out) ≡ true → InSlotOrBegins b u p)
     (λ code u f. absurd (false≢true f))
     (λ q e f. inl (ap isNone e, g .one p ∙ ap (isAt p) e ∙ f))
     begins) c
   where
     begins : (r : ℕ) → MayBegin b r → eqb p (chosen b (max (b .clock) r)) ≡ true
-        → Sends b (send true (begin b (max (b .clock) r)) (chosen b (max (b .clock) r))) p
+        → InSlotOrBegins b (send true (begin b (max (b .clock) r)) (chosen b (max (b .clock) r))) p
     begins r m f =
         let w = begin-clock b r p g (m .slot) (least-of b r (m .least)) (eqb-true p (chosen b (max (b .clock) r)) f) in
         inr (ap isNone (m .slot), w .0, w .1)
@@ -150,7 +150,8 @@ comes-from b (x ∷ xs) p k lo g c w d e kp h =
         omega (arith, rest (s .0) (omega (arith, o .idle no)) (ap classOf (s .1) ∙ e) (kp .1) h)
     go true f rest = by (sends b x p g f)
       where
-        by : Sends b (step b x) p → 1 ≤ oneIf (begun b (step b x) p && leb lo t && leb (suc t) (lo + 2 ^ k)) + slotsAt lo (lo + 2 ^ k) p (step b x .next) xs
+        by : InSlotOrBegins b (step b x) p
+            → 1 ≤ oneIf (begun b (step b x) p && leb lo t && leb (suc t) (lo + 2 ^ k)) + slotsAt lo (lo + 2 ^ k) p (step b x .next) xs
         by (inl s) = absurd (omega (arith, d, due-serving (b .clock) (at b p .share) (at b p .stand) (s .1), next-gt (blockClass (at b p)) (b .clock)))
         by (inr s) =
             omega (
@@ -197,12 +198,13 @@ slot-when-reached b x xs p lo g m before after w how kp end = omega (arith, neve
         → 1 ≤ oneIf (begun b (step b x) p && leb lo t && leb (suc t) (lo + 2 ^ k)) + slotsAt lo (lo + 2 ^ k) p (step b x .next) xs
     least! (inr (bg, l)) = by (sends b x p g (both (isNone (b .slot)) (fromPlace p (step b x .out)) bg .1))
       where
-        by : Sends b (step b x) p → 1 ≤ oneIf (begun b (step b x) p && leb lo t && leb (suc t) (lo + 2 ^ k)) + slotsAt lo (lo + 2 ^ k) p (step b x .next) xs
+        by : InSlotOrBegins b (step b x) p
+            → 1 ≤ oneIf (begun b (step b x) p && leb lo t && leb (suc t) (lo + 2 ^ k)) + slotsAt lo (lo + 2 ^ k) p (step b x .next) xs
         by (inl s) = absurd (true≢false (sym (both (isNone (b .slot)) (fromPlace p (step b x .out)) bg .0) ∙ s .0))
         by (inr s) = omega (arith, counts lo k t (begun b (step b x) p) bg l (omega (arith, s .2, early)))
     least! (inl v) = go (begun b (step b x) p) refl
       where
-        o : Goes b (step b x) p
+        o : WaitsOn b (step b x) p
         o = ks .goes p w v
 
         rest : dueOf (step b x .next) p ≤ lo → 1 ≤ slotsAt lo (lo + 2 ^ k) p (step b x .next) xs

@@ -18,18 +18,18 @@ use Rattle.rules.specs.Promises.{KeepsAll}
 use Rattle.rules.proofs.Cases.{Unserved, nobody, late, other-cases, serve-turns}
 
 -- a turn is a refusal of the board as it was, or its answer's code is 0
-Kind : Board → Turn → Type 0
-Kind b u = ((code : ℕ) × (u ≡ refuse b code)) ⊎ (codeOf (told b (u .out)) ≡ 0)
+RefusedOrDone : Board → Turn → Type 0
+RefusedOrDone b u = ((code : ℕ) × (u ≡ refuse b code)) ⊎ (codeOf (told b (u .out)) ≡ 0)
 
-kind-step : (b : Board) (x : Single) → Kind b (step b x)
-unfolding Kind send
-kind-step b = other-cases b (λ x u. Kind b u) (record {
+kind-step : (b : Board) (x : Single) → RefusedOrDone b (step b x)
+unfolding RefusedOrDone send
+kind-step b = other-cases b (λ x u. RefusedOrDone b u) (record {
   refused = λ x code r. inl (code, refl);
   opens = λ o c. inr refl;
   renames = λ old new c. inr refl;
   closes = λ n c. inr refl;
   takes = λ n r c. inr refl;
-}) (serve-turns b (Kind b) (λ code u. inl (code, refl)) (λ p e. inr refl) (λ r m. inr refl))
+}) (serve-turns b (RefusedOrDone b) (λ code u. inl (code, refl)) (λ p e. inr refl) (λ r m. inr refl))
 
 -- no refusal writes an entry
 pub writes-refused : (x : Single) (code : ℕ) → writes x (refused code) ≡ kept
@@ -61,11 +61,11 @@ kept-all : (lent : Lent) (c : Call) (code : ℕ) → KeepsAll lent c (refusedBy 
 kept-all lent c code = record { alone = refl; board = refl; entries = refl; list = refl }
 
 pub refusal-keeps : (lent : Lent) (x : Single) → codeOf (call lent (one x) .answer) ≢ 0 → KeepsAll lent (one x) (call lent (one x))
-unfolding Kind
+unfolding RefusedOrDone
 refusal-keeps lent x =
     call-by lent (one x) (λ o. codeOf (o .answer) ≢ 0 → KeepsAll lent (one x) o) (λ code n. kept-all lent (one x) code) (λ b e. go b e (kind-step b x))
   where
-    go : (b : Board) → lent .board ≡ some b → Kind b (step b x) → codeOf (done! b (one x) .answer) ≢ 0 → KeepsAll lent (one x) (done! b (one x))
+    go : (b : Board) → lent .board ≡ some b → RefusedOrDone b (step b x) → codeOf (done! b (one x) .answer) ≢ 0 → KeepsAll lent (one x) (done! b (one x))
     go b e (inr z) n = absurd (n z)
     go b e (inl (code, z)) n = record {
       alone = ap (λ (t : Turn). told b (t .out)) z ∙ sym (ap (λ (t : Turn). gives (codeOf (told b (t .out)))) z);

@@ -17,7 +17,7 @@ use Rattle.rules.proofs.Steps.{idle-in-time}
 use Rattle.rules.proofs.Orders.{Rising}
 use Rattle.rules.proofs.Shape.{free-ok, StandOk, All}
 use Rattle.rules.proofs.Good.{seatOf, seats, seat-at, Fine}
-use Rattle.rules.proofs.Turns.{Good, inLine, most, phi, bytesSent, fromPlace, limit, Keeps, keeps-refuse}
+use Rattle.rules.proofs.Turns.{Good, inLine, most, phi, bytesSent, fromPlace, mostAhead, Keeps, keeps-refuse}
 use Rattle.rules.proofs.Cases.{other-cases}
 use Rattle.rules.proofs.Serve.{keeps-serve}
 use Rattle.rules.proofs.Calls.{keeps-record, keeps-rename, keeps-open, keeps-close}
@@ -60,7 +60,7 @@ good-fresh L lo hi = record { fine = fine; one = λ p. rw (all-free 64 p) }
         all64 = length-replicate 64 freePlace;
         placeOk = λ p. rw (all-free 64 p) (free-ok L lo);
         seat = λ p. rw (all-free 64 p) (λ e. absurd (false≢true e));
-        spent = omega (arith, sum-zero (λ (x : Place). x .share) freePlace l (λ i. rw (all-free 64 i)), below-zero (λ j. 0) 17 (λ j _. refl));
+        usedShare = omega (arith, sum-zero (λ (x : Place). x .share) freePlace l (λ i. rw (all-free 64 i)), below-zero (λ j. 0) 17 (λ j _. refl));
         names = λ p q a _ _. absurd (omega (arith, ap (λ (x : Place). x .share) (all-free 64 p)));
         listed = λ k q. rw (all-free 64 q);
         rising = λ k. tt;
@@ -113,7 +113,7 @@ front-waits b x p g f =
     nb = step b x .next
 
 pub bound-good : (b : Board) (x : Single) (after : List Single) (p : ℕ) → Good b → ToFront b x p → UnsentAt p (step b x .next) after
-    → sentBytes (step b x .next) after ≤ limit (step b x .next .largest) (blockClass (at (step b x .next) p))
+    → sentBytes (step b x .next) after ≤ mostAhead (step b x .next .largest) (blockClass (at (step b x .next) p))
 bound-good b x after p g f u = omega (arith, run-phi nb after p (k .good) w u, k .comes p w (came (f .1)))
   where
     nb : Board

@@ -25,8 +25,8 @@ use Rattle.rules.specs.Spoilt.{isQueued, readyNum, inClass, count}
 use Rattle.lanes.proofs.Lanes.{depth-positive}
 use Rattle.rules.specs.Board.{Record, noRecord, bytesCharged, Stand, out, queued, serving, Place, moved, freePlace, depth, blockClass, anyDue}
 use Rattle.rules.specs.Choice.{upd, readyOf, lesser, leastReady, isNone, release, settle, started}
-use Rattle.rules.proofs.Line.{Kept}
-use Rattle.rules.proofs.Orders.{pl, ready, Listed, listed-same, listed-join, listed-leave, Rising, rising-away, rising-kept, rising-snoc, first-due}
+use Rattle.rules.proofs.Line.{HeldStays}
+use Rattle.rules.proofs.Orders.{pl, ready, InOrders, listed-same, listed-join, listed-leave, Rising, rising-away, rising-kept, rising-snoc, first-due}
 use Rattle.rules.proofs.Orders.{due-any, upd-same, upd-other, in-head, count-head, rising-tail}
 use Rattle.rules.proofs.Orders
 
@@ -148,9 +148,9 @@ pub record Shape (L c : ℕ) (l : List Place) (o : ℕ → List ℕ) (H : ℕ �
   pub all64 : length l ≡ 64
   pub placeOk : (p : ℕ) → PlaceOk L (pl l p)
   pub seat : (p : ℕ) → SeatP c (pl l p)
-  pub spent : sum (λ x. x .share) l + below H 17 ≤ 65536
+  pub usedShare : sum (λ x. x .share) l + below H 17 ≤ 65536
   pub names : Distinct l
-  pub listed : Listed l o
+  pub listed : InOrders l o
   pub rising : (k : ℕ) → Rising l (o k)
 
 -- a new holder of place p has a number that no other open block has
@@ -182,10 +182,10 @@ both true k m e = (refl, eqb-true k m e)
 both false k m e = absurd (false≢true e)
 
 -- what an order lists is waiting, in its class
-pub listed-in : (l : List Place) (o : ℕ → List ℕ) → Listed l o → (k q : ℕ) → 1 ≤ count q (o k) → (isQueued (pl l q .stand) ≡ true) × (k ≡ blockClass (pl l q))
+pub listed-in : (l : List Place) (o : ℕ → List ℕ) → InOrders l o → (k q : ℕ) → 1 ≤ count q (o k) → (isQueued (pl l q .stand) ≡ true) × (k ≡ blockClass (pl l q))
 listed-in l o li k q h = both (isQueued (pl l q .stand)) k (blockClass (pl l q)) (oneIf-true (inClass k (pl l q)) (omega (arith, li k q)))
 
-pub listed-out : (l : List Place) (o : ℕ → List ℕ) → Listed l o → (k q : ℕ) → isQueued (pl l q .stand) ≡ false → count q (o k) ≡ 0
+pub listed-out : (l : List Place) (o : ℕ → List ℕ) → InOrders l o → (k q : ℕ) → isQueued (pl l q .stand) ≡ false → count q (o k) ≡ 0
 listed-out l o li k q e = rw (li k q, e)
 
 -- HELD SHARES only fall
@@ -197,7 +197,7 @@ release-le c t H j = go (leb (nextStart j c) t)
     go true = omega arith
     go false = omega arith
 
-pub release-kept : (c t : ℕ) (H : ℕ → ℕ) → Kept c t H (release c t H)
+pub release-kept : (c t : ℕ) (H : ℕ → ℕ) → HeldStays c t H (release c t H)
 unfolding release
 release-kept c t H j h = rw (leb-no (nextStart j c) t h)
 
@@ -215,14 +215,14 @@ cons-of l t [] e = absurd (false≢true e)
 cons-of l t (p ∷ ps) e = refl
 
 -- a block in an order that is due makes its class pending
-pub due-pending : (l : List Place) (o : ℕ → List ℕ) (t : ℕ) → Listed l o → (i : ℕ) → isQueued (pl l i .stand) ≡ true → ready l i ≤ t
+pub due-pending : (l : List Place) (o : ℕ → List ℕ) (t : ℕ) → InOrders l o → (i : ℕ) → isQueued (pl l i .stand) ≡ true → ready l i ≤ t
     → anyDue l t (o (blockClass (pl l i))) ≡ true
 due-pending l o t li i e a = due-any l t i (o (blockClass (pl l i))) (omega (arith, li (blockClass (pl l i)) i, ap oneIf here)) e a
   where
     here : inClass (blockClass (pl l i)) (pl l i) ≡ true
     here = rw (e, eqb-yes (blockClass (pl l i)) (blockClass (pl l i)) refl)
 
-pub choose : (l : List Place) (o : ℕ → List ℕ) (t r : ℕ) → Listed l o → ((k : ℕ) → Rising l (o k)) → LeastIs l (some r) → r ≤ t
+pub choose : (l : List Place) (o : ℕ → List ℕ) (t r : ℕ) → InOrders l o → ((k : ℕ) → Rising l (o k)) → LeastIs l (some r) → r ≤ t
     → Chosen l o t (least (λ k. anyDue l t (o k)) 17) (getD (o (least (λ k. anyDue l t (o k)) 17)) 0 0)
 unfolding LeastIs
 choose l o t r li ri least h = record { first = first; isKind = w .1; isQ = w .0; isDue = due; isLow = low }
@@ -315,7 +315,7 @@ shape-same {L} {c} {l} {o} {H} p x h e q r dis new f =
       all64 = length-set l p x ∙ f .all64;
       placeOk = set-all (PlaceOk L) l p x h new (f .placeOk);
       seat = set-all (SeatP c) l p x h seat (f .seat);
-      spent = omega (arith, f .spent, sum-share l p x h e);
+      usedShare = omega (arith, f .usedShare, sum-share l p x h e);
       names = dis;
       listed = listed-same l o p x h (λ k. ap₂ (λ (b : Bool) (n : ℕ). b && eqb k (classOf n)) q e) (f .listed);
       rising = λ k. rising-kept l (o k) p x h r (f .rising k);
@@ -339,7 +339,7 @@ shape-join {L} {c} {l} {o} {H} p start lane owed h was new f =
       all64 = length-set l p x ∙ f .all64;
       placeOk = set-all (PlaceOk L) l p x h new (f .placeOk);
       seat = set-all (SeatP c) l p x h (λ _. (next-start k c, le-refl (nextStart k c))) (f .seat);
-      spent = omega (arith, f .spent, sum-share l p x h refl);
+      usedShare = omega (arith, f .usedShare, sum-share l p x h refl);
       names = names-kept l p x h refl refl (f .names);
       listed = listed-join l o p x h was refl (f .listed);
       rising = rising;
@@ -380,7 +380,7 @@ shape-clock {L} {c} {l} {o} {H} t H′ h less f =
       all64 = f .all64;
       placeOk = f .placeOk;
       seat = λ p a. let w = f .seat p a in (w .0, omega (arith, w .1, next-mono (blockClass (pl l p)) c t h));
-      spent = omega (arith, f .spent, below-le H′ H 17 (λ j _. less j));
+      usedShare = omega (arith, f .usedShare, below-le H′ H 17 (λ j _. less j));
       names = f .names;
       listed = f .listed;
       rising = f .rising;
@@ -404,7 +404,7 @@ shape-begin {L} {c} {l} {o} {H} t k p ch f =
       all64 = length-set l p x ∙ f .all64;
       placeOk = set-all (PlaceOk L) l p x h (started-ok L (pl l p) (f .least) (ch .isQ) (f .placeOk p)) (f .placeOk);
       seat = set-all (SeatP c) l p x h (λ e. absurd (false≢true e)) (f .seat);
-      spent = omega (arith, f .spent, sum-share l p x h refl);
+      usedShare = omega (arith, f .usedShare, sum-share l p x h refl);
       names = names-kept l p x h refl refl (f .names);
       listed = listed-leave l o k p (drop 1 (o k)) x h (ch .first) refl (f .listed);
       rising = rising;
@@ -448,7 +448,7 @@ shape-other {L} {c} {l} {o} {H} p x H′ h was is dis new room f =
       all64 = length-set l p x ∙ f .all64;
       placeOk = set-all (PlaceOk L) l p x h new (f .placeOk);
       seat = set-all (SeatP c) l p x h (λ e. absurd (false≢true (sym is ∙ e))) (f .seat);
-      spent = omega (arith, room, sum-set (λ y. y .share) freePlace l p x h);
+      usedShare = omega (arith, room, sum-set (λ y. y .share) freePlace l p x h);
       names = dis;
       listed = listed-same l o p x h (λ k. rw (was, is)) (f .listed);
       rising = λ k. rising-away l (o k) p x (listed-out l o (f .listed) k p was) (f .rising k);

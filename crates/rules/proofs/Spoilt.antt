@@ -19,7 +19,7 @@ use Rattle.units.specs.Classes.{Start, nextStart}
 use Rattle.units.specs.Credit.{largestCharge}
 use Rattle.units.proofs.Classes.{class-le}
 use Rattle.rules.specs.Board.{Record, bytesCharged, Stand, out, queued, serving, Place, freePlace, Board, at, Seventeen, depth, front, blockClass, isOpen}
-use Rattle.rules.specs.Board.{waits, spent}
+use Rattle.rules.specs.Board.{waits, usedShare}
 use Rattle.rules.specs.Spoilt.{everyPlace, numbersApart, numberInRange, shareInRange, ringInRange, lengthsIn, isQueued, isServing, deficitInRange}
 use Rattle.rules.specs.Spoilt.{freeIsZero, heldWhileWaiting, standsByLane, isAt, count, inClass, allPlaces, slotAtPlace, ordersListed, readyNum}
 use Rattle.rules.specs.Spoilt.{readyInRange, neverFalling, slotOf, slotInTime, clauses, unspoilt, clockInRange}
@@ -272,7 +272,7 @@ slot-inside b g = go (b .slot) refl
     go (some p) e = leb-yes (suc p) 64 (omega (arith, serving-in (b .places) p (g .one p ∙ ap (isAt p) e ∙ eqb-yes p p refl), g .shape .all64))
 
 tidy-of : (b : Board) → Seventeen b → Each (clauses b) → Tidy b
-unfolding spent Rising count
+unfolding usedShare Rising count
 tidy-of b high (
   all64,
   (
@@ -295,7 +295,7 @@ tidy-of b high (
         seat =
             everywhere (SeatP (b .clock)) b long (λ e. absurd (false≢true e))
             (λ p l. d-ready (b .clock) (at b p) .yes (at-place b (readyInRange (b .clock)) times p l));
-        spent = true-le (spent b) 65536 shares;
+        usedShare = true-le (usedShare b) 65536 shares;
         names = distinct b long numbers;
         listed = λ k p. listed k p (split 17 k) (split 64 p);
         rising = λ k. rises k (split 17 k);
@@ -356,7 +356,7 @@ tidy-of b high (
         none (inr a) = omega arith
 
 clauses-of : (b : Board) → Tidy b → Each (clauses b)
-unfolding spent
+unfolding usedShare
 clauses-of b g = (
   eqb-yes (length (b .places)) 64 (g .shape .all64),
   (
@@ -378,7 +378,7 @@ clauses-of b g = (
                   (
                     every-place b freeIsZero (λ p. passes p .free),
                     (
-                      leb-yes (spent b) 65536 (g .shape .spent),
+                      leb-yes (usedShare b) 65536 (g .shape .usedShare),
                       (
                         d-held b .no (λ q k _. g .calm q k),
                         (

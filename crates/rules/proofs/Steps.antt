@@ -14,7 +14,8 @@ use Rattle.base.proofs.Sums.{sum-le, sum-mul, sum-zero, sum-set, below-le, belo
 use Rattle.units.specs.Classes.{nextStart}
 use Rattle.units.proofs.Starts.{next-gt, next-start, next-mono, next-at}
 use Rattle.units.proofs.Classes.{class-le, class-lo}
-use Rattle.rules.proofs.Line.{Seat, free, class, pend, pend-yes, pend-off, pend-late, pend-high, room, room-in, room-high, SeatOk, Ok, hroom, Fits, Kept}
+use Rattle.rules.proofs.Line.{Seat, free, class, pend, pend-yes, pend-off, pend-late, pend-high, room, room-in, room-high, SeatOk, Ok, hroom, Fits}
+use Rattle.rules.proofs.Line.{HeldStays}
 use Rattle.rules.proofs.Line.{Bought, Lowest, off, begun, begin-fits, tick-fits, deadline, ok-other, in-reach}
 use Rattle.rules.proofs.Line
 
@@ -40,7 +41,7 @@ begin-in-time l H c p s low = record { ok = λ i. deadline (begun l p) H c i fit
     bought = omega (arith, s .bought, sum-set (λ t. t .share) free l p (off (getD l p free)) h)
 
 -- a slot ends: the clock goes on by one
-pub tick-in-time : (l : List Seat) (H H′ : ℕ → ℕ) (c : ℕ) → InTime l H c 1 → Kept c (suc c) H H′ → ((j : ℕ) → H′ j ≤ H j) → InTime l H′ (suc c) 0
+pub tick-in-time : (l : List Seat) (H H′ : ℕ → ℕ) (c : ℕ) → InTime l H c 1 → HeldStays c (suc c) H H′ → ((j : ℕ) → H′ j ≤ H j) → InTime l H′ (suc c) 0
 tick-in-time l H H′ c s kept less =
     record { ok = oks; fits = λ k a. tick-fits l H H′ c k (s .ok) kept (s .fits k a); bought = omega (arith, s .bought, below-le H′ H 17 (λ j _. less j)) }
   where

@@ -32,17 +32,17 @@ no-length [] e = refl
 no-length (x ∷ xs) e = absurd (omega arith)
 
 -- a story so far, for the block at p
-record Told (s : Story) (b : Board) (p : ℕ) : Type 0 where
+record AccountedAt (s : Story) (b : Board) (p : ℕ) : Type 0 where
   whenClosed : s .closed ≡ true → s .taken ≡ s .sent
   whenOpen : s .closed ≡ false → Has b p (s .number) × (s .taken ≡ s .sent ++ at b p .lane)
 
-told-step : (s : Story) (b : Board) (p : ℕ) (x : Single) → Tidy b → Told s b p → Told (tells (s .closed) s x (answer b x)) (step b x .next) p
+told-step : (s : Story) (b : Board) (p : ℕ) (x : Single) → Tidy b → AccountedAt s b p → AccountedAt (tells (s .closed) s x (answer b x)) (step b x .next) p
 told-step s b p x g t = go (s .closed) refl
   where
     nb : Board
     nb = step b x .next
 
-    go : (c : Bool) → s .closed ≡ c → Told (tells c s x (answer b x)) nb p
+    go : (c : Bool) → s .closed ≡ c → AccountedAt (tells c s x (answer b x)) nb p
     go true e = record { whenClosed = λ _. t .whenClosed e; whenOpen = λ f. absurd (true≢false (sym e ∙ f)) }
     go false e = record { whenClosed = shut; whenOpen = λ c. (f .stays c .0, goes) }
       where
@@ -64,7 +64,7 @@ told-step s b p x g t = go (s .closed) refl
         shut : closes (s .number) x (answer b x) ≡ true → s .taken ++ takenFor (s .number) x (answer b x) ≡ s .sent ++ sentFor (s .number) (answer b x)
         shut c = goes ∙ ap (λ (u : List Record). (s .sent ++ sentFor (s .number) (answer b x)) ++ u) (no-length (at nb p .lane) (f .ends c .1)) ∙ append-nil _
 
-told-story : (s : Story) (b : Board) (p : ℕ) (xs : List Single) → Tidy b → Told s b p → Told (story s b xs) (play b xs) p
+told-story : (s : Story) (b : Board) (p : ℕ) (xs : List Single) → Tidy b → AccountedAt s b p → AccountedAt (story s b xs) (play b xs) p
 unfolding story play
 told-story s b p [] g t = t
 told-story s b p (x ∷ xs) g t = told-story (tells (s .closed) s x (answer b x)) (step b x .next) p xs (tidy-step b x g) (told-step s b p x g t)
@@ -105,7 +105,7 @@ conserved b g o after e = go (opened-by b g o e)
               );
         }
       where
-        t : Told (story (begins (o .number)) nb after) (play nb after) p
+        t : AccountedAt (story (begins (o .number)) nb after) (play nb after) p
         t =
             told-story (begins (o .number)) nb p after gb
             (record { whenClosed = λ f. absurd (false≢true f); whenOpen = λ _. (h, sym (ap (λ (x : Place). x .lane) l)) })

@@ -17,7 +17,7 @@ use Rattle.base.proofs.Numbers.{true-le, false-lt}
 use Rattle.units.proofs.Classes.{class-le}
 use Rattle.rules.specs.Calls.{Single, step}
 use Rattle.rules.specs.Spoilt.{isQueued, isServing}
-use Rattle.rules.specs.Board.{Record, out, Place, freePlace, blockClass, Board, at, spent}
+use Rattle.rules.specs.Board.{Record, out, Place, freePlace, blockClass, Board, at, usedShare}
 use Rattle.rules.specs.Choice.{upd, leastReady, readyOf, isNone, goOn, more, joins, joining, takenIn, whereIs, send, serve}
 use Rattle.rules.specs.Blocks.{Opening, opened, freeAt, quiet, closed, renamed}
 use Rattle.rules.proofs.Orders.{pl, upd-same, upd-other}
@@ -94,7 +94,7 @@ tidy-rename b p old new can g =
     (shape-same p z in-p refl refl refl (names-new b (g .shape) p z (can .has .inside) (can .nobody)) (renamed-ok b (g .shape) p old new can) (g .shape)) g
 
 tidy-open : (b : Board) (o : Opening) → CanOpen b o → Tidy b → Tidy (goOn b (freeAt b) (opened o))
-unfolding spent
+unfolding usedShare
 tidy-open b o can g =
     let p = freeAt b in
     let z = opened o in
@@ -129,11 +129,11 @@ tidy-close b p n can g =
     names = names-free (b .places) p in-p (g .shape .names)
 
     room : (t : Bool) → sum (λ y. y .share) (b .places) + below (cond t (b .held) held) 17 + 0 ≤ 65536 + at b p .share
-    room true = omega (arith, g .shape .spent)
+    room true = omega (arith, g .shape .usedShare)
     room false =
         omega (
           arith,
-          g .shape .spent,
+          g .shape .usedShare,
           below-one held (b .held) 17 k (omega (arith, class-le (at b p .share))) (λ j e. upd-other (b .held) k (b .held k + at b p .share) j e),
           upd-same (b .held) k (b .held k + at b p .share),
         )

@@ -82,8 +82,9 @@ fromPlace p done = false
 fromPlace p (taken a) = false
 fromPlace p (sent s) = eqb p (s .place)
 
-abbrev pub limit : ℕ → ℕ → ℕ
-limit L k = (2 ^ suc k - 1) * most L
+-- the bytes of others that can go before a record of class k: the promise's bound, as `most` counts a slot
+abbrev pub mostAhead : (L k : ℕ) → ℕ
+mostAhead L k = (2 ^ suc k - 1) * most L
 
 -- the next time from which a waiting block may begin a slot: its ready time; for the slot's own block, the next start above the clock
 abbrev pub dueTime : ℕ → ℕ → Stand → ℕ
@@ -127,7 +128,7 @@ pub record Bars (b : Board) (t : Turn) (p : ℕ) : Type 0 where
   pub slot : begun b t p ≡ true → (barOf b p ≤ slotClock (t .out)) × (nextStart (blockClass (at b p)) (slotClock (t .out)) ≤ barOf (t .next) p)
 
 -- what happens to a block that waits before and after
-pub record Goes (b : Board) (t : Turn) (p : ℕ) : Type 0 where
+pub record WaitsOn (b : Board) (t : Turn) (p : ℕ) : Type 0 where
   pub share : at (t .next) p .share ≡ at b p .share
   pub idle : begun b t p ≡ false → dueOf (t .next) p ≡ dueOf b p
   pub slot : begun b t p ≡ true
@@ -143,11 +144,11 @@ pub record Keeps (b : Board) (t : Turn) : Type 0 where
       → (inLine (at (t .next) p .stand) ≡ true) × (at (t .next) p .share ≡ at b p .share) × (phi (t .next) p + bytesSent (t .out) ≤ phi b p)
   -- a record that is sent has at least one byte
   pub some! : isSent (t .out) ≡ true → 1 ≤ bytesSent (t .out)
-  pub goes : (p : ℕ) → inLine (at b p .stand) ≡ true → inLine (at (t .next) p .stand) ≡ true → Goes b t p
+  pub goes : (p : ℕ) → inLine (at b p .stand) ≡ true → inLine (at (t .next) p .stand) ≡ true → WaitsOn b t p
   pub bars : (p : ℕ) → at (t .next) p .share ≡ at b p .share → Bars b t p
   -- where a record comes to the front
   pub comes : (p : ℕ) → inLine (at (t .next) p .stand) ≡ true → (inLine (at b p .stand) ≡ false) ⊎ (fromPlace p (t .out) ≡ true)
-      → phi (t .next) p ≤ limit (t .next .largest) (blockClass (at (t .next) p))
+      → phi (t .next) p ≤ mostAhead (t .next .largest) (blockClass (at (t .next) p))
 
 and-false : (b : Bool) → b && false ≡ false
 and-false true = refl
@@ -155,7 +156,7 @@ and-false false = refl
 
 -- nothing of the block changes
 pub goes-same : (b : Board) (t : Turn) (p : ℕ) → fromPlace p (t .out) ≡ false → at (t .next) p .share ≡ at b p .share → dueOf (t .next) p ≡ dueOf b p
-    → hand (at (t .next) p) ≡ hand (at b p) → Goes b t p
+    → hand (at (t .next) p) ≡ hand (at b p) → WaitsOn b t p
 goes-same b t p f e d h =
     record {
       share = e;
@@ -185,7 +186,7 @@ keeps-refuse b n g =
       comes = comes;
     }
   where
-    comes : (p : ℕ) → inLine (at b p .stand) ≡ true → (inLine (at b p .stand) ≡ false) ⊎ (false ≡ true) → phi b p ≤ limit (b .largest) (blockClass (at b p))
+    comes : (p : ℕ) → inLine (at b p .stand) ≡ true → (inLine (at b p .stand) ≡ false) ⊎ (false ≡ true) → phi b p ≤ mostAhead (b .largest) (blockClass (at b p))
     comes p w (inl e) = absurd (true≢false (sym w ∙ e))
     comes p w (inr e) = absurd (false≢true e)
 
@@ -210,7 +211,7 @@ pub record Sends (b nb : Board) (p n t given : ℕ) : Type 0 where
   pub good : Good nb
   pub others : (q : ℕ) → q ≢ p → at nb q ≡ at b q
   pub paid : (q : ℕ) → q ≢ p → isQueued (at b q .stand) ≡ true → still nb (at b q) + n ≤ still b (at b q)
-  pub last : inLine (at nb p .stand) ≡ true → phi nb p ≤ limit (nb .largest) (blockClass (at nb p))
+  pub last : inLine (at nb p .stand) ≡ true → phi nb p ≤ mostAhead (nb .largest) (blockClass (at nb p))
   pub kept : at nb p .share ≡ at b p .share
   pub past : t ≤ nb .clock
   pub onward : b .clock ≤ nb .clock
@@ -269,7 +270,7 @@ keeps-sent b nb z only w long timely s = record { good = s .good; stays = stays;
         idle true f = absurd (ne (only q f))
         idle false f = f
 
-    own : inLine (at nb p .stand) ≡ true → Goes b turn p
+    own : inLine (at nb p .stand) ≡ true → WaitsOn b turn p
     own v = record {
       share = s .kept;
       idle = λ e. s .again v ∙ sym (timely .inSlot (sym now ∙ e));
@@ -280,10 +281,10 @@ keeps-sent b nb z only w long timely s = record { good = s .good; stays = stays;
         now : begun b turn p ≡ isNone (b .slot)
         now = rw (eqb-yes p p refl) (and-true (isNone (b .slot)))
 
-    goes : (q : ℕ) → inLine (at b q .stand) ≡ true → inLine (at nb q .stand) ≡ true → Goes b turn q
+    goes : (q : ℕ) → inLine (at b q .stand) ≡ true → inLine (at nb q .stand) ≡ true → WaitsOn b turn q
     goes q v v′ = go (ℕ-discrete q p)
       where
-        go : Dec (q ≡ p) → Goes b turn q
+        go : Dec (q ≡ p) → WaitsOn b turn q
         go (yes e) = rw e (own (rw e at v′))
         go (no e) = goes-same b turn q (eqb-no q p e) (ap (λ (x : Place). x .share) (s .others q e))
             (rw (s .others q e) (due-queued (nb .clock) (at b q .share) (at b q .stand) (isQ q e v)
@@ -332,10 +333,10 @@ keeps-sent b nb z only w long timely s = record { good = s .good; stays = stays;
         go (no f) = bars-same b turn q (eqb-no q p f) (rw (s .others q f) (bar-mono (b .clock) (nb .clock) (at b q .share) (at b q .stand) (s .onward)))
 
     comes : (q : ℕ) → inLine (at nb q .stand) ≡ true → (inLine (at b q .stand) ≡ false) ⊎ (eqb q p ≡ true)
-        → phi nb q ≤ limit (nb .largest) (blockClass (at nb q))
+        → phi nb q ≤ mostAhead (nb .largest) (blockClass (at nb q))
     comes q v c = go (ℕ-discrete q p) c
       where
-        go : Dec (q ≡ p) → (inLine (at b q .stand) ≡ false) ⊎ (eqb q p ≡ true) → phi nb q ≤ limit (nb .largest) (blockClass (at nb q))
+        go : Dec (q ≡ p) → (inLine (at b q .stand) ≡ false) ⊎ (eqb q p ≡ true) → phi nb q ≤ mostAhead (nb .largest) (blockClass (at nb q))
         go (yes e) f = rw e (s .last (rw e at v))
         go (no e) (inl f) = absurd (true≢false (sym (rw (s .others q e) at v) ∙ f))
         go (no e) (inr f) = absurd (e (eqb-true q p f))

@@ -79,16 +79,16 @@ some-quiet b g = go (b .slot) refl (leastReady (b .places)) refl
 
 -- ---- the codes of a serve
 
-abbrev Codes : Board → Turn → Type 0
-Codes b u = ((told b (u .out) ≡ gives 1) × (someWait (b .places) ≡ false))
+abbrev ServeCode : Board → Turn → Type 0
+ServeCode b u = ((told b (u .out) ≡ gives 1) × (someWait (b .places) ≡ false))
     ⊎ (((told b (u .out) ≡ gives 11) × (someWait (b .places) ≡ true) × (b .slot ≡ none)
     × ((r : ℕ) × (leastReady (b .places) ≡ some r) × (2 ^ 62 ≤ max (b .clock) r)))
     ⊎ (((s : Sent) × (told b (u .out) ≡ sends s)) × (someWait (b .places) ≡ true)))
 
-codes : (b : Board) → Tidy b → Codes b (serve b)
+codes : (b : Board) → Tidy b → ServeCode b (serve b)
 unfolding send
 codes b g =
-    serve-cases b g (Codes b)
+    serve-cases b g (ServeCode b)
     (record {
       unserved = un;
       goesOn = λ p c. inr (inr ((_, refl), slot-waits b p g (c .slot)));
@@ -96,7 +96,7 @@ codes b g =
           λ r t p c e. inr (inr ((_, refl), order-waits b r g (c .least)));
     })
   where
-    un : (code : ℕ) → Unserved b code → Refusal code → Codes b (refuse b code)
+    un : (code : ℕ) → Unserved b code → Refusal code → ServeCode b (refuse b code)
     un code (nobody e f) k = inl (refl, none-waits b g e f)
     un code (late r e f h) k = inr (inl (refl, order-waits b r g f, e, (r, f, h)))
 
@@ -114,7 +114,7 @@ serve-refusals b g = go (codes b g)
     never : (i : ℕ) (s : Sent) → gives i ≡ sends s → ⊥
     never i s e = let z : _≡_ {A = ℕ} 0 1 = cc in omega arith
 
-    go : Codes b (serve b) → ServeCodes b
+    go : ServeCode b (serve b) → ServeCodes b
     go (inl (e, w)) = record {
       one = (λ _. w, λ _. e);
       eleven = λ f. absurd (omega (arith, differ 1 11 (sym e ∙ f)));
@@ -136,7 +136,7 @@ pub serve-sends : (b : Board) → Tidy b → someWait (b .places) ≡ true → (
 unfolding step
 serve-sends b g w = go (codes b g)
   where
-    go : Codes b (serve b) → (told b (serve b .out) ≡ gives 11) ⊎ ((s : Sent) × (told b (serve b .out) ≡ sends s))
+    go : ServeCode b (serve b) → (told b (serve b .out) ≡ gives 11) ⊎ ((s : Sent) × (told b (serve b .out) ≡ sends s))
     go (inl (e, f)) = absurd (true≢false (sym w ∙ f))
     go (inr (inl (e, _, _, _))) = inl e
     go (inr (inr (s, _))) = inr s

@@ -109,6 +109,10 @@ pub record Has (b : Board) (p n : ℕ) : Type 0 where
   pub bought : 1 ≤ at b p .share
   pub named : at b p .number ≡ n
 
+-- No open block is called n.
+abbrev pub NoneHas : Board → (n : ℕ) → Type 0
+NoneHas b n = (p : ℕ) → Has b p n → ⊥
+
 -- A block waits if its lane holds a record.
 abbrev pub waits : Place → Bool
 waits x = ltb 0 (length (x .lane))
@@ -139,11 +143,11 @@ abbrev pub pending : Board → (k : ℕ) → Bool
 pending b k = anyDue (b .places) (b .clock) (b .orders k)
 
 -- Free share = 65,536 - shares of open blocks - held shares.
-unfoldable pub spent : Board → ℕ
-spent b = sum (λ x. x .share) (b .places) + below (b .held) 17
+unfoldable pub usedShare : Board → ℕ
+usedShare b = sum (λ x. x .share) (b .places) + below (b .held) 17
 
 abbrev pub freeShare : Board → ℕ
-freeShare b = 65536 - spent b
+freeShare b = 65536 - usedShare b
 
 -- ---- A fresh board: every place free, clock 0, that L.
 unfoldable pub fresh : (L : ℕ) → Board

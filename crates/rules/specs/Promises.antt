@@ -114,7 +114,7 @@ SentInTime = (L : ℕ) (b : Board) → OfRun L b → (n : ℕ) (x : Single) (aft
     → Runs.ComesToFront b n x → Runs.Unsent n (step b x .next) after → Runs.NotSpent (step b x .next) after
     → Runs.servesIn after ≤ bound L (Runs.classAt (step b x .next) n)
 
--- While any record waits, each single serving call sends a record, unless the clock is spent.
+-- While any record waits, each single serving call sends a record, unless the clock is usedShare.
 abbrev pub ServesSend : Type 0
 ServesSend = (L : ℕ) (b : Board) → OfRun L b → someWait (b .places) ≡ true
     → (Runs.answer b serve! ≡ gives 11) ⊎ ((s : Sent) × (Runs.answer b serve! ≡ sends s))

@@ -13,7 +13,7 @@ use Rattle.units.specs.Classes.{nextStart}
 use Rattle.units.specs.Credit.{largestCharge}
 use Rattle.rules.specs.Board.{Record, bytesCharged, Stand, out, queued, serving, Place, freePlace, Board, at}
 use Rattle.rules.specs.Board.{depth}
-use Rattle.rules.specs.Board.{front, blockClass, isOpen, waits, spent}
+use Rattle.rules.specs.Board.{front, blockClass, isOpen, waits, usedShare}
 use Rattle.rules.specs.Blocks.{quiet}
 
 -- a test of every place
@@ -147,7 +147,7 @@ clauses b =
     ∷ everyPlace b (λ x. lengthsIn (b .largest) (x .lane))
     ∷ everyPlace b (deficitInRange (b .largest))
     ∷ everyPlace b freeIsZero
-    ∷ leb (spent b) 65536
+    ∷ leb (usedShare b) 65536
     ∷ heldWhileWaiting b
     ∷ everyPlace b standsByLane
     ∷ ordersListed b

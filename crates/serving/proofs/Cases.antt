@@ -13,7 +13,7 @@ use Rattle.serving.specs.declared.Step.{Step}
 use Rattle.slots.specs.declared.Choice.the-variants.{Stop, Go}
 use Rattle.board.specs.Memory.{Engine, engineNow, numbersNow}
 use Rattle.slots.specs.Slots.{EmptyEnd, endedEmpty, WaitingEnd, endedWaiting, opened, choiceOf}
-use Rattle.serving.specs.Serving.{sentFrom, lostFrom, enacted, CanEnact, stayed, withinNow, Told, withinOf, servedWithin}
+use Rattle.serving.specs.Serving.{sentFrom, lostFrom, enacted, CanEnact, stayed, withinNow, ServeTells, withinOf, servedWithin}
 
 -- ---- A send: entry, charge and start are what the code computed
 module _ (shares lens : List ℕ) (p : ℕ) (e : Engine) (entry bytesCharged on k : ℕ) (entry-is : entry ≡ laneEntry p (getD (e .starts) p 0) 0)
@@ -98,7 +98,7 @@ module _ (shares lens : List ℕ) (L bytes room : ℕ) (e : Engine) where
       pub within-done : bytesCharged ≤ bytes → (n : Engine) (lost : ℕ)
           → (n ≡ enacted shares lens L p t e) × (lost ≡ lostFrom lens p (opened shares L p t e))
           → let b = eqb (e .now .slot) 0 in
-          let told : Told = record { place = p; entry = entry; bytes = bytesCharged; clock = t; began = b; lost = lost } in
+          let told : ServeTells = record { place = p; entry = entry; bytes = bytesCharged; clock = t; began = b; lost = lost } in
           withinOf 0 told n ≡ servedWithin shares lens L bytes room e
       unfolding servedWithin
       within-done h n lost (n-is, lost-is) =

@@ -14,7 +14,7 @@ use Rattle.board.proofs.Reading.{Fit}
 use Rattle.board.proofs.Sound.{sound-encode, fit-view, holds-view}
 use Rattle.serving.specs.Serving.{Within, engineAfter, servedWithin, CanServe}
 use Rattle.serving.proofs.Serves.{ByAnswer, serve-by, can-serve}
-use Rattle.serving.proofs.Within.{fit-serve, Stops, Goes, within-by}
+use Rattle.serving.proofs.Within.{fit-serve, Stops, SendsOne, within-by}
 
 -- the engine's answer on a value
 abbrev pub within : struct.Board → List ℕ → ℕ → ℕ → Within
@@ -41,9 +41,9 @@ module _ (b : struct.Board) (ids lens : List ℕ) (known : Known b ids lens) whe
   pub can-known : CanServe (b .shares) lens (b .largest) (engineOf b)
   can-known = subst (λ (c : struct.Board). CanServe (c .shares) lens (c .largest) (engineOf c)) spells (can-serve m fit ids lens holds (known .lens-all))
 
-  pub by-cases : (bytes room : ℕ) (w : Within) → w ≡ within b lens bytes room → Stops m bytes room w ⊎ Goes m ids lens bytes room w
+  pub by-cases : (bytes room : ℕ) (w : Within) → w ≡ within b lens bytes room → Stops m bytes room w ⊎ SendsOne m ids lens bytes room w
   by-cases bytes room w e =
-      subst (λ (x : Within). Stops m bytes room x ⊎ Goes m ids lens bytes room x) (ap (λ (c : struct.Board). within c lens bytes room) spells ∙ sym e)
+      subst (λ (x : Within). Stops m bytes room x ⊎ SendsOne m ids lens bytes room x) (ap (λ (c : struct.Board). within c lens bytes room) spells ∙ sym e)
       (within-by m fit ids lens holds bytes room)
 
   pub after-is : (w : Within) → withEngine (encode m) (engineAfter w) ≡ encode (serve m .next) → withEngine b (engineAfter w) ≡ encode (serve m .next)
@@ -53,7 +53,7 @@ module _ (b : struct.Board) (ids lens : List ℕ) (known : Known b ids lens) whe
   pub sent-index : (bytes room : ℕ) (w : Within) → w ≡ within b lens bytes room → w .step .code ≡ 0 → (w .step .place < 64) × (w .step .entry < 2048)
   sent-index bytes room w e z = go (by-cases bytes room w e)
     where
-      go : Stops m bytes room w ⊎ Goes m ids lens bytes room w → (w .step .place < 64) × (w .step .entry < 2048)
+      go : Stops m bytes room w ⊎ SendsOne m ids lens bytes room w → (w .step .place < 64) × (w .step .entry < 2048)
       go (inl s) = absurd (s .code z)
       go (inr g) = (g .inside, g .entry)
 

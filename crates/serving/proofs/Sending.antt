@@ -22,7 +22,7 @@ use Rattle.rules.specs.Board
 use Rattle.rules.specs.Board.{Stand, out, queued, serving, Place, freePlace, blockClass, waits, at, onward, anyDue, anyWaits, dueBy}
 use Rattle.rules.specs.Choice.{upd, leftOf, leftAfter, leastReady, isNone, release, settle, emptied, short, going, ended, goOn}
 use Rattle.rules.specs.Spoilt.{count, isQueued, isServing, readyNum, isAt}
-use Rattle.rules.proofs.Orders.{pl, map-set, upd-same, upd-other, Listed}
+use Rattle.rules.proofs.Orders.{pl, map-set, upd-same, upd-other, InOrders}
 use Rattle.rules.proofs.Shape.{SeatP, set-all, listed-out, LeastIs, least-is}
 use Rattle.rules.proofs.Slot.{serving-not-queued, serving-ready, serving-in, serving-ok}
 use Rattle.rules.proofs.Calls.{set-field}
@@ -277,7 +277,7 @@ module _ (m : Board.Board) (fit : Fit m) (p : ℕ) (held! : m .slot ≡ some p) 
             ∙ due-away l (m .clock) p y1 (o k) (gone k))
         go (no e) = ap (anyDue (set l p y1) (m .clock)) (upd-other o k (o k ++ (p ∷ [])) j e) ∙ away
 
-    listed1 : Listed (set l p y1) o1
+    listed1 : InOrders (set l p y1) o1
     unfolding ended
     listed1 = next! .shape .listed
 

@@ -26,7 +26,7 @@ use Rattle.slots.specs.declared.Choice.{Choice}
 use Rattle.slots.specs.declared.Choice.the-variants.{Go}
 use Rattle.board.specs.Memory.{Engine, engineOf, withEngine}
 use Rattle.slots.specs.Slots.{choiceOf, opened}
-use Rattle.serving.specs.Serving.{lostFrom, enacted, Within, engineAfter, Told, untold, withinOf, servedBy, servedWithin}
+use Rattle.serving.specs.Serving.{lostFrom, enacted, Within, engineAfter, ServeTells, untold, withinOf, servedBy, servedWithin}
 use Rattle.board.proofs.Fields.{start-is}
 use Rattle.serving.proofs.Serves.{Serves, ByAnswer, serve-by}
 
@@ -71,7 +71,7 @@ pub record Stops (m : Board.Board) (bytes room : ℕ) (w : Within) : Type 0 wher
 
 -- ---- Or a record is sent
 
-pub record Goes (m : Board.Board) (ids lens : List ℕ) (bytes room : ℕ) (w : Within) : Type 0 where
+pub record SendsOne (m : Board.Board) (ids lens : List ℕ) (bytes room : ℕ) (w : Within) : Type 0 where
   pub code : w .step .code ≡ 0
   pub sends : Sending
   pub out : serve m .out ≡ sent sends
@@ -101,7 +101,7 @@ module _ (m : Board.Board) (fit : Fit m) (ids lens : List ℕ) (holds : Holds m 
   made c = servedBy (encode m .shares) lens (encode m .largest) bytes room (engineOf (encode m)) c
 
   go-on : (s : Sending) → serve m .out ≡ sent s → Serves m ids lens s (serve m .next)
-      → let c = Go (s .place) (s .clock) in Stops m bytes room (made c) ⊎ Goes m ids lens bytes room (made c)
+      → let c = Go (s .place) (s .clock) in Stops m bytes room (made c) ⊎ SendsOne m ids lens bytes room (made c)
   unfolding bytesCharged
   go-on s e w = rw (start-is m p, w .bytes) (by-room (split 1 room))
     where
@@ -129,7 +129,7 @@ module _ (m : Board.Board) (fit : Fit m) (ids lens : List ℕ) (holds : Holds m 
       E : Engine
       E = enacted (encode m .shares) lens (encode m .largest) p t (engineOf (encode m))
 
-      told : Told
+      told : ServeTells
       told = record { place = p; entry = entry; bytes = c; clock = t; began = eqb (encode m .slot) 0; lost = lost }
 
       result : Bool → Bool → Within
@@ -138,7 +138,7 @@ module _ (m : Board.Board) (fit : Fit m) (ids lens : List ℕ) (holds : Holds m 
           (cond long (withinOf 13 untold (engineOf (encode m))) (withinOf 0 told E))
 
       by-bytes : 1 ≤ room → (bytes < c) ⊎ (c ≤ bytes)
-          → Stops m bytes room (result false (ltb bytes c)) ⊎ Goes m ids lens bytes room (result false (ltb bytes c))
+          → Stops m bytes room (result false (ltb bytes c)) ⊎ SendsOne m ids lens bytes room (result false (ltb bytes c))
       by-bytes some (inl h) =
           rw (lt-ltb bytes c h)
           (inl (record { code = λ z. omega arith; same = refl; burst-is = burst-long m bytes s e room (λ z. omega arith) h; why = inr (inr (r, h, small)) }))
@@ -167,7 +167,7 @@ module _ (m : Board.Board) (fit : Fit m) (ids lens : List ℕ) (holds : Holds m 
           entry-small = lane-inside p (at m p .start) 0 (w .inside)
 
       by-room : (1 ≤ room) ⊎ (room < 1)
-          → Stops m bytes room (result (eqb room 0) (ltb bytes c)) ⊎ Goes m ids lens bytes room (result (eqb room 0) (ltb bytes c))
+          → Stops m bytes room (result (eqb room 0) (ltb bytes c)) ⊎ SendsOne m ids lens bytes room (result (eqb room 0) (ltb bytes c))
       by-room (inl h) = rw (ne-eqb room 0 (λ z. omega arith)) (by-bytes h (turn (split c bytes)))
         where
           turn : (c ≤ bytes) ⊎ (bytes < c) → (bytes < c) ⊎ (c ≤ bytes)
@@ -179,11 +179,11 @@ module _ (m : Board.Board) (fit : Fit m) (ids lens : List ℕ) (holds : Holds m 
 
   -- A SERVE WITHIN, by the rules
   pub within-by : Stops m bytes room (servedWithin (encode m .shares) lens (encode m .largest) bytes room (engineOf (encode m)))
-      ⊎ Goes m ids lens bytes room (servedWithin (encode m .shares) lens (encode m .largest) bytes room (engineOf (encode m)))
+      ⊎ SendsOne m ids lens bytes room (servedWithin (encode m .shares) lens (encode m .largest) bytes room (engineOf (encode m)))
   unfolding servedWithin ByAnswer
   within-by = go (serve m .out) refl (serve-by m fit ids lens holds)
     where
       go : (o : Out) → serve m .out ≡ o → ByAnswer m ids lens o (serve m .next)
-          → Stops m bytes room (made (choiceOf (engineOf (encode m)))) ⊎ Goes m ids lens bytes room (made (choiceOf (engineOf (encode m))))
+          → Stops m bytes room (made (choiceOf (engineOf (encode m)))) ⊎ SendsOne m ids lens bytes room (made (choiceOf (engineOf (encode m))))
       go (refused code) e w = rw (w .stops) (inl (record { code = w .refusal; same = refl; burst-is = burst-refused m bytes room code e; why = inl e }))
       go (sent s) e w = rw (w .chooses) (go-on s e w)

@@ -85,7 +85,7 @@ engineAfter w = record { starts = w .starts; counts = w .counts; queues = w .que
 
 -- what a serve tells of the record sent: its place, its entry and its charge; the slot's clock, whether the slot began
 -- with it, and the parts lost
-pub record Told : Type 0 where
+pub record ServeTells : Type 0 where
   pub place : ℕ
   pub entry : ℕ
   pub bytes : ℕ
@@ -93,10 +93,10 @@ pub record Told : Type 0 where
   pub began : Bool
   pub lost : ℕ
 
-abbrev pub untold : Told
+abbrev pub untold : ServeTells
 untold = record { place = 0; entry = 0; bytes = 0; clock = 0; began = false; lost = 0 }
 
-abbrev pub stepOf : (code : ℕ) → Told → After → Step
+abbrev pub stepOf : (code : ℕ) → ServeTells → After → Step
 stepOf code t now =
     record {
       code = code;
@@ -114,11 +114,11 @@ abbrev pub stayed : (code : ℕ) → After → Step
 stayed code now = stepOf code untold now
 
 -- a code and what is told; the rest is the engine's
-abbrev pub withinOf : (code : ℕ) → Told → Engine → Within
+abbrev pub withinOf : (code : ℕ) → ServeTells → Engine → Within
 withinOf code t e = record { step = stepOf code t (e .now); starts = e .starts; counts = e .counts; queues = e .queues }
 
 -- the record that is sent from a place in the slot of that clock
-abbrev pub toldOf : (shares lens : List ℕ) (largest place time : ℕ) → Engine → Told
+abbrev pub toldOf : (shares lens : List ℕ) (largest place time : ℕ) → Engine → ServeTells
 toldOf shares lens largest place time e =
     let entry = laneEntry place (getD (e .starts) place 0) 0 in
     record {

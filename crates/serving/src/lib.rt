@@ -19,7 +19,7 @@ use units::Parts;
 
 // What a send leaves besides the arrays: the numbers after it, and what was left of the slot where the lane emptied,
 // which is lost.
-pub struct Sent {
+pub struct AfterSend {
     pub after: After,
     pub lost: Parts,
 }
@@ -54,7 +54,7 @@ fn send(
     tails: &mut [u8; CLASSES],
     held: &mut [u32; CLASSES],
     lens: &[u16],
-) -> Sent
+) -> AfterSend
     requires { ⌜
         (let before = engineNow (now starts) (now counts) (now deficits) (now ready) (now next)
         (now heads) (now tails) (now held) (numbersNow clock active pending (place + 1) (left .0)) in
@@ -80,7 +80,7 @@ fn send(
     let k = units::class_of(shares[place]) as usize;
     if count == 0 {
         let after = slots::end_empty(k, clock, active, pending, heads, held);
-        return Sent {
+        return AfterSend {
             after: after,
             lost: rest,
         };
@@ -95,7 +95,7 @@ fn send(
             slot: (place + 1) as u8,
             left: rest,
         };
-        return Sent {
+        return AfterSend {
             after: after,
             lost: Parts(0),
         };
@@ -114,7 +114,7 @@ fn send(
         tails,
         held,
     );
-    Sent {
+    AfterSend {
         after: after,
         lost: Parts(0),
     }
@@ -192,7 +192,7 @@ fn enact(
     tails: &mut [u8; CLASSES],
     held: &mut [u32; CLASSES],
     lens: &[u16],
-) -> Sent
+) -> AfterSend
     requires { ⌜
         (let before = engineNow (now starts) (now counts) (now deficits) (now ready) (now next)
         (now heads) (now tails) (now held) (numbersNow clock active pending slot (left .0)) in

@@ -19,7 +19,7 @@ use Rattle.units.proofs.Starts.{next-gt, next-is, next-align}
 use Rattle.rules.specs.Board.{Place, blockClass, anyDue}
 use Rattle.rules.specs.Choice.{release}
 use Rattle.rules.specs.Spoilt.{count, isQueued}
-use Rattle.rules.proofs.Orders.{pl, ready, Listed, any-due, due-any, in-head}
+use Rattle.rules.proofs.Orders.{pl, ready, InOrders, any-due, due-any, in-head}
 use Rattle.rules.proofs.Shape.{SeatP, listed-in}
 use Rattle.board.specs.Reading.{tab, firstLink}
 use Rattle.board.proofs.Lists.{getD-tab, tab-ext, tab-set}
@@ -166,7 +166,7 @@ module _ (c t : ℕ) (h : c ≤ t) (full : ℕ → Bool) (heads : List ℕ) (her
 -- ---- So the pending classes and the held shares after it are the rules'
 
 -- what the clock meets: ready times are starts of the class, and none is above the next start above the old clock
-due-later : (l : List Place) (o : ℕ → List ℕ) (c t : ℕ) → Listed l o → ((q : ℕ) → SeatP c (pl l q)) → c ≤ t → (k : ℕ)
+due-later : (l : List Place) (o : ℕ → List ℕ) (c t : ℕ) → InOrders l o → ((q : ℕ) → SeatP c (pl l q)) → c ≤ t → (k : ℕ)
     → anyDue l c (o k) || (leb (nextStart k c) t && not (eqb (firstLink (o k)) 0)) ≡ anyDue l t (o k)
 unfolding anyDue
 due-later l o c t listed seat h k = go (true-or (anyDue l c (o k)))
@@ -205,7 +205,7 @@ due-later l o c t listed seat h k = go (true-or (anyDue l c (o k)))
     go (inl e) = let w = any-due l c (o k) e in rw e (sym (due-any l t (w .0) (o k) (w .1) (isIn (w .0) (w .1) .0) (omega (arith, w .2))))
     go (inr e) = rw e (later e (o k) refl)
 
-pub clock-is : (l : List Place) (o : ℕ → List ℕ) (H : ℕ → ℕ) (c t : ℕ) → Listed l o → ((q : ℕ) → SeatP c (pl l q)) → c ≤ t
+pub clock-is : (l : List Place) (o : ℕ → List ℕ) (H : ℕ → ℕ) (c t : ℕ) → InOrders l o → ((q : ℕ) → SeatP c (pl l q)) → c ≤ t
     → turned c t (tab 17 (λ k. firstLink (o k))) (turnedNow (setBelow 17 (λ k. anyDue l c (o k))) (tab 17 H))
     ≡ turnedNow (setBelow 17 (λ k. anyDue l t (o k))) (tab 17 (release c t H))
 clock-is l o H c t listed seat h =

@@ -24,7 +24,7 @@ use Rattle.units.specs.Credit.{charged, largestCharge, chargeOf}
 use Rattle.units.proofs.Classes.{class-le}
 use Rattle.lanes.specs.Lanes.{laneEntry}
 use Rattle.rules.specs.Board
-use Rattle.rules.specs.Board.{Record, bytesCharged, out, queued, serving, Place, at, front, blockClass, isOpen, waits, spent}
+use Rattle.rules.specs.Board.{Record, bytesCharged, out, queued, serving, Place, at, front, blockClass, isOpen, waits, usedShare}
 use Rattle.rules.specs.Spoilt
 use Rattle.rules.specs.Spoilt.{everyPlace, isQueued, isServing, lengthsIn, standsByLane, isAt, count, inClass, allPlaces, slotAtPlace, ordersListed, readyNum}
 use Rattle.rules.specs.Spoilt.{neverFalling, slotOf, slotInTime, clauses, unspoilt}
@@ -49,9 +49,9 @@ unfolding tab sum below
 sum-tab f zero g = refl
 sum-tab f (suc n) g = omega (arith, sum-tab f n (λ i. g (suc i)), below-first (λ i. f (g i)) n)
 
-pub spent-is : (b : struct.Board) (ids lens : List ℕ) → Sized b → spent (view b ids lens) ≡ totalOf (b .shares) + totalOf (b .held)
-unfolding spent view placeOf bareOf
-spent-is b ids lens z =
+pub used-is : (b : struct.Board) (ids lens : List ℕ) → Sized b → usedShare (view b ids lens) ≡ totalOf (b .shares) + totalOf (b .held)
+unfolding usedShare view placeOf bareOf
+used-is b ids lens z =
     ap₂ (λ (m n : ℕ). m + n)
     (sum-tab (λ (x : Place). x .share) 64 (placeOf b ids lens) ∙ sym (total-below (b .shares) 64 (λ p. getD (b .shares) p 0) (z .shares) (λ p l. refl)))
     (sym (total-below (b .held) 17 (λ k. getD (b .held) k 0) (z .held) (λ k l. refl)))
@@ -146,9 +146,9 @@ module _ (b : struct.Board) (ids lens : List ℕ) (z : Sized b) (r : Rules b len
   unfolding view clockInRange
   clock = r .clock
 
-  fits : leb (spent v) 65536 ≡ true
+  fits : leb (usedShare v) 65536 ≡ true
   unfolding sharesFit
-  fits = ap (λ (n : ℕ). leb n 65536) (spent-is b ids lens z) ∙ r .shares
+  fits = ap (λ (n : ℕ). leb n 65536) (used-is b ids lens z) ∙ r .shares
 
   rising : (k : ℕ) → k < 17 → neverFalling (v .places) (v .orders k) ≡ true
   unfolding view

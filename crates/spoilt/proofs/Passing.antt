@@ -23,7 +23,7 @@ use Rattle.units.specs.Classes.{classOf, nextStart}
 use Rattle.units.specs.Credit.{largestCharge, chargeOf}
 use Rattle.lanes.specs.Lanes.{laneEntry}
 use Rattle.rules.specs.Board
-use Rattle.rules.specs.Board.{out, queued, serving, Place, freePlace, at, front, bytesCharged, blockClass, isOpen, waits, spent, active, pending}
+use Rattle.rules.specs.Board.{out, queued, serving, Place, freePlace, at, front, bytesCharged, blockClass, isOpen, waits, usedShare, active, pending}
 use Rattle.rules.specs.Spoilt.{isQueued, isServing, isAt, count, readyNum, slotOf}
 use Rattle.rules.proofs.Orders.{ready}
 use Rattle.rules.proofs.Shape.{listed-in}
@@ -48,7 +48,7 @@ use Rattle.spoilt.proofs.Places.{lengths-to, queued-at}
 use Rattle.spoilt.proofs.Sets.{in-class, Ordered, active-is, pending-is, quiet-is}
 use Rattle.spoilt.proofs.Rules.{SlotRule, d-serves, Rules, placeRulesAt, belong-all, Belongs, d-belongs}
 use Rattle.spoilt.proofs.Spelling.{falls-as, last-is}
-use Rattle.spoilt.proofs.Clauses.{spent-is, front-charge}
+use Rattle.spoilt.proofs.Clauses.{used-is, front-charge}
 
 module _ (b : struct.Board) (ids lens : List ℕ) (z : Sized b) (s : Sound b ids lens) where
   abbrev v : Board.Board
@@ -282,7 +282,7 @@ module _ (b : struct.Board) (ids lens : List ℕ) (z : Sized b) (s : Sound b ids
           (number-at b ids lens p h ∙ e ∙ sym (number-at b ids lens q l)))
 
   pub rules-of : Rules b lens
-  unfolding view spent sizeInRange clockInRange sharesFit heldWhileWaiting noneHeld
+  unfolding view usedShare sizeInRange clockInRange sharesFit heldWhileWaiting noneHeld
   rules-of = record {
     size =
         and-both (leb 64 (b .largest)) (leb (b .largest) 2048) (leb-yes 64 (b .largest) (tidy .shape .least)) (leb-yes (b .largest) 2048 (tidy .shape .most));
@@ -290,7 +290,7 @@ module _ (b : struct.Board) (ids lens : List ℕ) (z : Sized b) (s : Sound b ids
     apart = apart;
     places = place-rules;
     lanes = λ p h. lengths-to b ids lens p (passes p h .lengths);
-    shares = ap (λ (n : ℕ). leb n 65536) (sym (spent-is b ids lens z)) ∙ leb-yes (spent v) 65536 (tidy .shape .spent);
+    shares = ap (λ (n : ℕ). leb n 65536) (sym (used-is b ids lens z)) ∙ leb-yes (usedShare v) 65536 (tidy .shape .usedShare);
     held =
         ap (λ (t : Bool). not t || allBelow 17 (λ k. eqb (getD (b .held) k 0) 0)) (ap (λ (n : ℕ). eqb n 0) active-field ∙ sym (quiet-is b ids lens ordered))
         ∙ d-held v .no (λ q k _. tidy .calm q k);

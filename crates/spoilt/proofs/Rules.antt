@@ -60,13 +60,13 @@ d-slot b lens = go (b .slot) refl
         same p f = omega (arith, e)
 
 -- what the open slot asks, as facts
-pub record Serves (largest clock left count len : ℕ) : Type 0 where
+pub record SlotAsks (largest clock left count len : ℕ) : Type 0 where
   pub waits : eqb count 0 ≡ false
   pub fits : chargeOf len ≤ left
   pub under : left < 3 * chargeOf largest
   pub early : clock < 2 ^ 62
 
-pub d-serves : (largest clock left count len : ℕ) → Decides (slotOpen largest clock left count len) (Serves largest clock left count len)
+pub d-serves : (largest clock left count len : ℕ) → Decides (slotOpen largest clock left count len) (SlotAsks largest clock left count len)
 unfolding slotOpen
 d-serves largest clock left count len =
     d-iff (d-and (d-true (not (eqb count 0)))

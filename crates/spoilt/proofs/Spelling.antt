@@ -36,7 +36,7 @@ use Rattle.spoilt.proofs.Counts.{all-listed}
 use Rattle.spoilt.proofs.Walk.{risesFrom, lastFrom, Walked, walked, orderOf, lengthOf}
 use Rattle.spoilt.proofs.Places.{inner, lane-long, ready-is, share-at, queued-at}
 use Rattle.spoilt.proofs.Sets.{in-class, Ordered, active-is, pending-is}
-use Rattle.spoilt.proofs.Rules.{Rules, belong-at, Belongs, d-belongs, Serves, d-serves}
+use Rattle.spoilt.proofs.Rules.{Rules, belong-at, Belongs, d-belongs, SlotAsks, d-serves}
 
 -- ---- along a list of places
 
@@ -158,7 +158,7 @@ module _ (b : struct.Board) (ids lens : List ℕ) (r : Rules b lens) where
       ∙ below-ext _ _ 64 (λ p h. ap oneIf (sym (queued-at b ids lens p h))))
 
   pub slot-serves : (p : ℕ) → b .slot ≡ suc p
-      → Serves (b .largest) (b .clock) (b .left .0) (getD (b .counts) p 0) (getD lens (laneEntry p (getD (b .starts) p 0) 0) 0)
+      → SlotAsks (b .largest) (b .clock) (b .left .0) (getD (b .counts) p 0) (getD lens (laneEntry p (getD (b .starts) p 0) 0) 0)
   slot-serves p e =
       d-serves (b .largest) (b .clock) (b .left .0) (getD (b .counts) p 0) (getD lens (laneEntry p (getD (b .starts) p 0) 0) 0) .yes (r .slot .serves p e)
 

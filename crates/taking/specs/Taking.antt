@@ -12,7 +12,7 @@ use Rattle.lanes.specs.Lanes.{laneDepth, laneEntry}
 use Rattle.board.specs.Memory.{Orders, ordersNow, Taking, taking, Seen}
 use Rattle.rules.specs.Choice.{Taken}
 use Rattle.finding.specs.Finding.{foundIn, byFound}
-use Rattle.taking.specs.declared.Took.{Took}
+use Rattle.taking.specs.declared.AfterTaking.{AfterTaking}
 
 -- ---- JOINING
 
@@ -67,14 +67,14 @@ pub record Recording : Type 0 where
 abbrev pub recording : (code : ℕ) → Taken → Taking → (ids lens : List ℕ) → Recording
 recording code tells t ids lens = record { code = code; tells = tells; taking = t; ids = ids; lens = lens }
 
-abbrev pub tookTells : Took → Taken
+abbrev pub tookTells : AfterTaking → Taken
 tookTells t = record { place = t .place; entry = t .entry; before = t .before }
 
 -- a refusal tells of no record
 abbrev pub noTaken : Taken
 noTaken = record { place = 0; entry = 0; before = 0 }
 
-abbrev pub notTaken : (code active : ℕ) → Took
+abbrev pub notTaken : (code active : ℕ) → AfterTaking
 notTaken code active = record { code = code; active = active; place = 0; entry = 0; before = 0 }
 
 -- it comes for the block at this place, and goes to the entry behind the last record there

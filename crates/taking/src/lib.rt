@@ -76,7 +76,7 @@ fn take_in(
 
 // What taking a record leaves besides the arrays: the code, and the set of active classes; and what it tells: the place
 // and the table entry of the record, and how many stood before it in its lane, all 0 where it was refused.
-pub struct Took {
+pub struct AfterTaking {
     pub code: u8,
     pub active: u32,
     pub place: usize,
@@ -85,10 +85,10 @@ pub struct Took {
 }
 
 // No record is taken: a code, and the set as it was.
-fn not_taken(code: u8, active: u32) -> Took
+fn not_taken(code: u8, active: u32) -> AfterTaking
     ensures { λ r. ⌜ r ≡ notTaken code active ⌝ }
 {
-    Took {
+    AfterTaking {
         code: code,
         active: active,
         place: 0,
@@ -115,7 +115,7 @@ pub fn record_in(
     ready: &mut [u64; PLACES],
     ids: &mut [u32],
     lens: &mut [u16],
-) -> Took
+) -> AfterTaking
     requires { ⌜ RecordNeeds (seen (now numbers) (now shares) (now starts)) (now tails) clock (now ids) (now lens) ⌝ }
     ensures { λ r. ⌜
         recording (r .code) (tookTells r)
@@ -143,7 +143,7 @@ pub fn record_in(
     ids[at] = id;
     lens[at] = length;
     let set = take_in(i, clock, active, shares, counts, next, heads, tails, ready);
-    Took {
+    AfterTaking {
         code: codes::DONE,
         active: set,
         place: i,

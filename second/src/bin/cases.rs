@@ -1,4 +1,5 @@
-//! Reads a case file on standard input. `cases` writes the answers to standard output, `cases bytes` the byte form of the file.
+//! Reads a case file on standard input. `cases` writes the answers to standard output, `cases bytes` the byte form of
+//! the file.
 
 use std::env;
 use std::io::{self, Read, Write};

@@ -10,8 +10,8 @@ use second::maker::case_shapes::CASE_SHAPES;
 use second::maker::log_shapes::{LogShape, LOG_SHAPES};
 use second::words::number;
 
-const USE: &str =
-    "use: maker log SHAPE SEED, maker logs SHAPE SEEDS FOLDER, maker cases SHAPE SEED, maker shapes, maker text, or maker bytes";
+const USE: &str = "use: maker log SHAPE SEED, maker logs SHAPE SEEDS FOLDER, maker cases SHAPE SEED, maker shapes, \
+     maker text, or maker bytes";
 
 fn main() -> Result<(), String> {
     let arguments: Vec<String> = env::args().skip(1).collect();

@@ -1,5 +1,5 @@
-//! Reads a log on standard input and writes its listing to standard output. `second FOLDER` plays each NAME.log of a folder to NAME.listing,
-//! so that thousands of logs cost one start.
+//! Reads a log on standard input and writes its listing to standard output. `second FOLDER` plays each NAME.log of a
+//! folder to NAME.listing, so that thousands of logs cost one start.
 
 use std::env;
 use std::ffi::OsStr;

@@ -1,4 +1,5 @@
-//! Boards for the clauses of 'spoilt': for each clause some that break just that one, and their neighbours on the allowed side.
+//! Boards for the clauses of 'spoilt': for each clause some that break just that one, and their neighbours on the
+//! allowed side.
 //!
 //! Each is one of five base boards with a few lines of the case text laid over it.
 
@@ -18,8 +19,9 @@ fn fresh() -> String {
     "largest 100\n".to_string()
 }
 
-/// Clock 5: three blocks wait in class 3, the first of them pending, one in class 2, pending, and one in class 16. Place 4 is open
-/// with an empty lane. The lane of place 2 is full. Shares are held in three classes, and the whole line is taken.
+/// Clock 5: three blocks wait in class 3, the first of them pending, one in class 2, pending, and one in class 16.
+/// Place 4 is open with an empty lane. The lane of place 2 is full. Shares are held in three classes, and the whole
+/// line is taken.
 fn waiting() -> String {
     let mut lines = "largest 100\nclock 5
 number 0 11\nshare 0 8192\ncount 0 2\ndeficit 0 6553599\nentry 0 1 1\nentry 1 2 100
@@ -37,7 +39,8 @@ order 3 0 1 2\norder 2 3\norder 16 9\n"
     lines + "sets\n"
 }
 
-/// Clock 4: the slot of place 1 is open, and its front needs all that is left. Its class has one more block, not yet ready.
+/// Clock 4: the slot of place 1 is open, and its front needs all that is left. Its class has one more block, not yet
+/// ready.
 fn in_slot() -> String {
     "largest 64\nclock 4
 number 0 6\nshare 0 16384\ncount 0 1\nready 0 8\nentry 0 1 64
@@ -60,7 +63,8 @@ fn crowded() -> String {
     let mut lines = "largest 2048\nclock 63\n".to_string();
     for place in 0..PLACES {
         let ready = if place < 10 { 0 } else { 64 };
-        lines += &format!("number {place} {}\nshare {place} 1024\ncount {place} 1\nready {place} {ready}\n", 1_000 + place);
+        lines +=
+            &format!("number {place} {}\nshare {place} 1024\ncount {place} 1\nready {place} {ready}\n", 1_000 + place);
         lines += &format!("entry {} {place} 2048\n", LANE_DEPTH * place);
     }
     let places: Vec<String> = (0..PLACES).map(|place| place.to_string()).collect();
@@ -109,8 +113,16 @@ pub fn trials() -> Vec<Trial> {
         breaks(Spelling, in_slot, "next 1 1"),
         breaks(Spelling, in_slot, "slot 65"),
         breaks(Spelling, in_slot, "slot 255"),
-        keeps(Spelling, fresh, "number 63 5; share 63 65536; count 63 1; entry 2016 1 100; slot 64; left 6553600; sets"),
-        keeps(Spelling, fresh, "number 63 5; share 63 65536; count 63 1; entry 2016 1 100; ready 63 1; order 0 63; sets"),
+        keeps(
+            Spelling,
+            fresh,
+            "number 63 5; share 63 65536; count 63 1; entry 2016 1 100; slot 64; left 6553600; sets",
+        ),
+        keeps(
+            Spelling,
+            fresh,
+            "number 63 5; share 63 65536; count 63 1; entry 2016 1 100; ready 63 1; order 0 63; sets",
+        ),
         breaks(Largest, fresh, "largest 0"),
         breaks(Largest, fresh, "largest 63"),
         keeps(Largest, fresh, "largest 64"),
@@ -186,7 +198,11 @@ pub fn trials() -> Vec<Trial> {
         keeps(TotalShare, fresh, "number 0 5; share 0 32767; number 1 6; share 1 32769"),
         breaks(HeldShares, fresh, "held 3 1"),
         breaks(HeldShares, fresh, "number 0 5; share 0 1; held 16 65535"),
-        keeps(HeldShares, fresh, "number 0 5; share 0 1; count 0 1; entry 0 1 1; ready 0 65536; order 16 0; held 16 65535; sets"),
+        keeps(
+            HeldShares,
+            fresh,
+            "number 0 5; share 0 1; count 0 1; entry 0 1 1; ready 0 65536; order 16 0; held 16 65535; sets",
+        ),
         keeps(HeldShares, in_slot, "held 0 1"),
         keeps(HeldShares, in_last_slot, "share 0 32768; held 1 32768; sets"),
         breaks(Orders, waiting, "order 3 0 1; ready 2 0; next 2 0; sets"),

@@ -95,7 +95,8 @@ fn renames(seed: u64) -> String {
     maker.text
 }
 
-/// Ways to use the box that each reach something else: a crowd fills the places, a fill the lanes, a sale exhausts the shares.
+/// Ways to use the box that each reach something else: a crowd fills the places, a fill the lanes, a sale exhausts the
+/// shares.
 fn all_habits() -> [Habits; 5] {
     let mixed = Habits { record: 60, serve: 24, burst: 3, out_of_range: 3, ..Habits::mixed() };
     [

@@ -166,7 +166,16 @@ fn busy(seed: u64, blocks: usize, bytes: usize) -> Vec<u8> {
 /// Few numbers for many opens, closes and renames, so that unknown and repeated ones are common.
 fn churn(seed: u64) -> Vec<u8> {
     let mut maker = LogMaker::new(Random::new(seed));
-    let habits = Habits { open: 15, rename: 10, close: 15, record: 30, serve: 30, numbers: 12, lowest_class: 2, ..Habits::mixed() };
+    let habits = Habits {
+        open: 15,
+        rename: 10,
+        close: 15,
+        record: 30,
+        serve: 30,
+        numbers: 12,
+        lowest_class: 2,
+        ..Habits::mixed()
+    };
     maker.calls_until(12_000, &habits);
     maker.log
 }
@@ -188,7 +197,10 @@ fn full(seed: u64) -> Vec<u8> {
     for _ in 0..=LANE_DEPTH {
         maker.record_for(2);
     }
-    maker.calls_until(14_000, &Habits { open: 0, rename: 1, close: 1, record: 65, serve: 33, numbers: 3, ..Habits::mixed() });
+    maker.calls_until(
+        14_000,
+        &Habits { open: 0, rename: 1, close: 1, record: 65, serve: 33, numbers: 3, ..Habits::mixed() },
+    );
     maker.log
 }
 
@@ -211,7 +223,16 @@ fn held(seed: u64) -> Vec<u8> {
     maker.open(9, 32_768);
     maker.calls_until(
         14_000,
-        &Habits { open: 24, rename: 0, close: 24, record: 22, serve: 30, numbers: 30, lowest_class: 0, ..Habits::mixed() },
+        &Habits {
+            open: 24,
+            rename: 0,
+            close: 24,
+            record: 22,
+            serve: 30,
+            numbers: 30,
+            lowest_class: 0,
+            ..Habits::mixed()
+        },
     );
     maker.log
 }
@@ -300,7 +321,8 @@ fn padded(seed: u64, bytes: usize) -> Vec<u8> {
     maker.log
 }
 
-/// Over the longest log by more than one byte, and by so much that a count of 16 bits begins anew. What it holds does not matter.
+/// Over the longest log by more than one byte, and by so much that a count of 16 bits begins anew. What it holds does
+/// not matter.
 fn long(seed: u64) -> Vec<u8> {
     let mut random = Random::new(seed);
     let any = random.between(LONGEST_LOG as u64 + 2, 150_000) as usize;
@@ -402,7 +424,8 @@ fn broken_length(seed: u64) -> Vec<u8> {
     let mut maker = begun(seed);
     let (tag, right) = maker.random().pick(&[(1, 8), (2, 4), (3, 8), (4, 10), (5, 0)]);
     let any = maker.random().between(0, 40) as usize;
-    let lengths: Vec<usize> = [right + 1, right + 256, any, 4, 10].into_iter().filter(|&length| length != right).collect();
+    let lengths: Vec<usize> =
+        [right + 1, right + 256, any, 4, 10].into_iter().filter(|&length| length != right).collect();
     let length = maker.random().pick(&lengths);
     maker.any_field(tag, length);
     go_on(maker)
@@ -436,7 +459,8 @@ fn broken_past_end(seed: u64) -> Vec<u8> {
     maker.log
 }
 
-/// A log of the longest length whose last field is cut: one more byte would be `long`. The last field of a padded log has over 80 bytes.
+/// A log of the longest length whose last field is cut: one more byte would be `long`. The last field of a padded log
+/// has over 80 bytes.
 fn broken_exact(seed: u64) -> Vec<u8> {
     let missing = Random::new(seed).between(1, 80) as usize;
     let mut log = padded(seed, LONGEST_LOG + missing);

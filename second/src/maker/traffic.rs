@@ -1,4 +1,5 @@
-//! Random calls that fit the board they are made for: the calls made so far are played beside, to know what is open and what waits.
+//! Random calls that fit the board they are made for: the calls made so far are played beside, to know what is open and
+//! what waits.
 
 use super::random::Random;
 use crate::codes::code_of;
@@ -35,7 +36,17 @@ pub struct Habits {
 impl Habits {
     /// A little of everything, but no block with the whole line: it would leave no room for others.
     pub fn mixed() -> Habits {
-        Habits { open: 8, rename: 4, close: 8, record: 46, serve: 34, burst: 0, numbers: 24, lowest_class: 1, out_of_range: 0 }
+        Habits {
+            open: 8,
+            rename: 4,
+            close: 8,
+            record: 46,
+            serve: 34,
+            burst: 0,
+            numbers: 24,
+            lowest_class: 1,
+            out_of_range: 0,
+        }
     }
 }
 
@@ -101,7 +112,11 @@ impl Traffic {
     fn rename(&mut self, habits: &Habits) -> Call {
         let (old, new) = (self.likely_open(habits), self.any_number(habits));
         if self.random.percent(habits.out_of_range) {
-            return self.random.pick(&[Call::Rename { old, new: 0 }, Call::Rename { old: 0, new }, Call::Rename { old: 0, new: 0 }]);
+            return self.random.pick(&[
+                Call::Rename { old, new: 0 },
+                Call::Rename { old: 0, new },
+                Call::Rename { old: 0, new: 0 },
+            ]);
         }
         Call::Rename { old, new }
     }
@@ -195,7 +210,8 @@ impl Traffic {
 /// L of the renaming story.
 pub const STORY_LARGEST: u32 = 100;
 
-/// A block renamed while its records wait, while its slot is open, and twice; a second block then takes its first number. All is sent.
+/// A block renamed while its records wait, while its slot is open, and twice; a second block then takes its first
+/// number. All is sent.
 pub fn renaming_story(seed: u64) -> Vec<Call> {
     let mut traffic = Traffic::new(Random::new(seed), STORY_LARGEST);
     let mut story = vec![Call::Open { block: 11, share: 24_576 }, Call::Open { block: 12, share: 8_192 }];

@@ -1,6 +1,6 @@
 -- `calls::burst` meets its contract: a code but 0 that comes before all others refuses the burst (early-burst); else
--- the value is known, and what the rules say is the promise (burst-known). Assumes nothing.
-use Rattle.calls.proofs.Calling.{early-burst, burst-known}
+-- the value is known, and what the rules say is the promise (burst-called). Assumes nothing.
+use Rattle.calls.proofs.Calling.{early-burst, burst-called}
 use borrow.Author.Needs.{needs}
 use Rattle.calls.proofs.burst.Statement.{statement}
 use Rattle.calls.proofs.burst.Tie as tie
@@ -31,7 +31,7 @@ returns-2 c =
     let at-burst-board = c .before .before in
     let at-if1 = at-burst-board .before .before in
     let at-early = at-if1 .before in
-    burst-known _ _ _ (at-early .early .ensures .1 (at-if1 .if1 .left)) _ _ _ (at-burst-board .burst-board .ensures)
+    burst-called _ _ _ (at-early .early .ensures .1 (at-if1 .if1 .left)) _ _ _ (at-burst-board .burst-board .ensures)
 
 pub burst-spec : {M : Type 1} → statement M
 burst-spec = tie.close (tie.spec early-requires returns burst-board-requires same-length returns-2)

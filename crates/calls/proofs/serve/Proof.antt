@@ -1,6 +1,6 @@
 -- `calls::serve` meets its contract: a code but 0 that comes before all others refuses the call (early-serve); else the
--- value is known, and what the rules say is the promise (serve-known). Assumes nothing.
-use Rattle.calls.proofs.Calling.{early-serve, serve-known}
+-- value is known, and what the rules say is the promise (serve-called). Assumes nothing.
+use Rattle.calls.proofs.Calling.{early-serve, serve-called}
 use borrow.Author.Needs.{needs}
 use Rattle.calls.proofs.serve.Statement.{statement}
 use Rattle.calls.proofs.serve.Tie as tie
@@ -26,7 +26,7 @@ returns-2 : tie.Need-returns-2
 returns-2 c =
     let at-if1 = c .before in
     let at-early = at-if1 .before in
-    serve-known _ _ _ (at-early .early .ensures .1 (at-if1 .if1 .left)) _ (c .serve-board .ensures)
+    serve-called _ _ _ (at-early .early .ensures .1 (at-if1 .if1 .left)) _ (c .serve-board .ensures)
 
 pub serve-spec : {M : Type 1} → statement M
 serve-spec = tie.close (tie.spec early-requires returns serve-board-requires returns-2)
