@@ -79,6 +79,17 @@ pub struct Sent {
     pub clock: u64,
 }
 
+/// What a send tells beside its answer, for whoever keeps the accounts of blocks.
+#[derive(Clone, Copy, Debug, PartialEq, Eq)]
+pub struct Told {
+    /// The credit of the slot, if it began with this send.
+    pub credit_given: Option<Parts>,
+    pub bytes: Bytes,
+    /// What is left of the slot after this send.
+    pub left: Parts,
+    pub lane_is_empty: bool,
+}
+
 #[derive(Clone, Copy, Debug, PartialEq, Eq)]
 pub struct Burst {
     pub count: usize,
@@ -209,6 +220,11 @@ impl Engine {
     }
 
     pub fn serve(&mut self) -> Result<Sent, Refusal> {
+        let (sent, _) = self.serve_and_tell()?;
+        Ok(sent)
+    }
+
+    pub fn serve_and_tell(&mut self) -> Result<(Sent, Told), Refusal> {
         let next = self.next()?;
         Ok(self.send(next))
     }
@@ -228,7 +244,7 @@ impl Engine {
             if charged_bytes(self.front_of(&next).length) > budget - bytes {
                 break Refusal::RecordOverBudget;
             }
-            let sent = self.send(next);
+            let (sent, _) = self.send(next);
             list[count] = sent.record;
             count += 1;
             bytes = bytes + charged_bytes(sent.length);
@@ -273,12 +289,14 @@ impl Engine {
         *self.block(place).lane.front().expect("the block of a turn or a slot waits")
     }
 
-    fn send(&mut self, next: Next) -> Sent {
-        let slot = match next {
-            Next::OpenSlot(slot) => slot,
-            Next::NewSlot { class, clock } => self.begin_slot(class, clock),
-        };
-        self.send_front(slot)
+    fn send(&mut self, next: Next) -> (Sent, Told) {
+        match next {
+            Next::OpenSlot(slot) => self.send_front(slot, None),
+            Next::NewSlot { class, clock } => {
+                let slot = self.begin_slot(class, clock);
+                self.send_front(slot, Some(self.block(slot.place).credit))
+            }
+        }
     }
 
     /// Rule 3: the first block of the class leaves its order, and its slot begins at this clock.
@@ -292,13 +310,14 @@ impl Engine {
     }
 
     /// Rules 2 and 4: sends the front record of the slot's block, then ends the slot or leaves it open.
-    fn send_front(&mut self, slot: Slot) -> Sent {
+    fn send_front(&mut self, slot: Slot, credit_given: Option<Parts>) -> (Sent, Told) {
         let clock = self.clock;
         let block = self.block_mut(slot.place);
         let record = block.lane.pop_front().expect("a slot's block waits");
         block.start = (block.start + 1) % LANE_DEPTH;
         let sent = Sent { block: block.number, record: record.number, length: record.length, clock };
         let left = slot.left - charge(record.length);
+        let lane_is_empty = block.lane.is_empty();
         match block.lane.front() {
             None => {
                 let deficit = Parts(0);
@@ -309,7 +328,7 @@ impl Engine {
             Some(front) if charge(front.length) > left => self.end_slot(slot.place, left),
             Some(_) => self.slot = Some(Slot { left, ..slot }),
         }
-        sent
+        (sent, Told { credit_given, bytes: charged_bytes(record.length), left, lane_is_empty })
     }
 
     /// Rule 5: the clock moves on by one, and a block that still waits joins its order anew.
@@ -349,7 +368,8 @@ impl Engine {
         self.places.iter().flatten().map(|block| block.lane.len()).sum()
     }
 
-    fn find(&self, number: u32) -> Result<usize, Refusal> {
+    /// The place of the open block with this number.
+    pub fn find(&self, number: u32) -> Result<usize, Refusal> {
         self.place_of.get(&number).copied().ok_or(Refusal::UnknownBlock)
     }
 

@@ -1,10 +1,13 @@
 //! The independent second program of the field box.
 //!
-//! Written from document 01 alone, with queues, vectors and a map. It is what the proved program's listings and cases
-//! are held against. Reading order: `numbers`, `codes`, `engine` are the rules; `log`, `listing`, `play` turn a log
-//! into its listing; `board`, `spoilt`, `convert`, `calls`, `case_text` play calls on a board given field by field; the
-//! rest makes logs and cases to try.
+//! Written from documents 01 and 02 alone, with queues, vectors and maps. It is what the proved program's listings,
+//! reports and cases are held against. Reading order: `numbers`, `codes`, `engine` are the rules; `log`, `listing`,
+//! `play` turn a log into its listing; `account`, `report`, `report_case` turn it into its report; `board`, `spoilt`,
+//! `convert`, `calls`, `case_text` play calls on a board given field by field; the rest makes logs and cases to try.
 
+pub mod account;
+#[cfg(test)]
+mod account_slips;
 pub mod board;
 pub mod calls;
 pub mod case_text;
@@ -18,6 +21,9 @@ pub mod log_text;
 pub mod maker;
 pub mod numbers;
 pub mod play;
+pub mod programs;
+pub mod report;
+pub mod report_case;
 #[cfg(test)]
 mod slips;
 pub mod spoilt;

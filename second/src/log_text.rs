@@ -54,7 +54,8 @@ pub fn bytes(text: &str) -> Result<Vec<u8>, String> {
     Ok(log)
 }
 
-fn write_line(log: &mut Vec<u8>, words: &[&str]) -> Result<(), String> {
+/// Adds the field that a line says to a log.
+pub fn write_line(log: &mut Vec<u8>, words: &[&str]) -> Result<(), String> {
     match *words {
         ["largest", largest] => Field::Largest { largest: short(largest)? }.write(log),
         ["open", block, share] => Field::Open { block: long(block)?, share: long(share)? }.write(log),

@@ -8,6 +8,8 @@ pub const TABLE_ENTRIES: usize = 2_048;
 pub const CLASSES: usize = 17;
 pub const WHOLE_LINE: u32 = 65_536;
 pub const PARTS_PER_BYTE: u64 = 65_536;
+/// L is at least this, and no slot has less credit than so many bytes.
+pub const LEAST_LARGEST: u32 = 64;
 /// No slot begins at this clock or later.
 pub const CLOCK_END: u64 = 1 << 62;
 
@@ -48,7 +50,7 @@ sums_within!(Bytes);
 sums_within!(Parts);
 
 pub fn largest_in_range(largest: u32) -> bool {
-    (64..=2_048).contains(&largest)
+    (LEAST_LARGEST..=2_048).contains(&largest)
 }
 
 pub fn number_in_range(block: u32) -> bool {

@@ -1,4 +1,4 @@
-//! The three programs, run as they are.
+//! The five programs, run as they are.
 
 use std::fs;
 use std::io::Write;
@@ -8,6 +8,8 @@ use std::process::{Command, Output, Stdio};
 const SECOND: &str = env!("CARGO_BIN_EXE_second");
 const CASES: &str = env!("CARGO_BIN_EXE_cases");
 const MAKER: &str = env!("CARGO_BIN_EXE_maker");
+const REPORT: &str = env!("CARGO_BIN_EXE_report");
+const REPORT_CASE: &str = env!("CARGO_BIN_EXE_report_case");
 
 fn run(program: &str, arguments: &[&str], input: &[u8]) -> Output {
     let mut child = Command::new(program)
@@ -40,8 +42,11 @@ fn a_log_written_by_hand_is_made_and_played() {
     let log = output_of(MAKER, &["bytes"], text);
     assert_eq!(output_of(MAKER, &["text"], &log), text);
     assert_eq!(output_of(SECOND, &[], &log), b"open 11 0\nin 1 0\nout 11 1 100 2\nout - 1\nend 3 100 0\n");
-    assert_eq!(output_of(SECOND, &[], b""), b"broken 0\n");
-    assert_eq!(output_of(SECOND, &[], &[0; 40_000]), b"long\n");
+    assert_eq!(output_of(REPORT, &[], &log), b"11 1 6553600 100 0 0\n");
+    for program in [SECOND, REPORT] {
+        assert_eq!(output_of(program, &[], b""), b"broken 0\n");
+        assert_eq!(output_of(program, &[], &[0; 40_000]), b"long\n");
+    }
 }
 
 #[test]
@@ -50,13 +55,34 @@ fn a_folder_of_logs_is_made_and_played_as_one_log_is() {
     fs::create_dir_all(&folder).unwrap();
     output_of(MAKER, &["logs", "tiny", "3", folder.to_str().unwrap()], b"");
     output_of(SECOND, &[folder.to_str().unwrap()], b"");
+    output_of(REPORT, &[folder.to_str().unwrap()], b"");
     for seed in ["1", "2", "3"] {
         let log = output_of(MAKER, &["log", "tiny", seed], b"");
         assert_eq!(fs::read(folder.join(format!("tiny-{seed}.log"))).unwrap(), log);
         assert_eq!(fs::read(folder.join(format!("tiny-{seed}.listing"))).unwrap(), output_of(SECOND, &[], &log));
+        assert_eq!(fs::read(folder.join(format!("tiny-{seed}.report"))).unwrap(), output_of(REPORT, &[], &log));
     }
-    assert_eq!(fs::read_dir(&folder).unwrap().count(), 6);
+    assert_eq!(fs::read_dir(&folder).unwrap().count(), 9);
     fs::remove_dir_all(&folder).unwrap();
+}
+
+#[test]
+fn the_stories_of_a_folder_are_told_by_name() {
+    let folder = Path::new(env!("CARGO_TARGET_TMPDIR")).join("stories");
+    fs::create_dir_all(&folder).unwrap();
+    output_of(MAKER, &["logs", "emptied", "2", folder.to_str().unwrap()], b"");
+    output_of(MAKER, &["logs", "over", "1", folder.to_str().unwrap()], b"");
+    let told = output_of(MAKER, &["stories", folder.to_str().unwrap()], b"");
+    assert_eq!(told, b"emptied-1 empty\nemptied-2 empty\nover-1 long\n");
+    fs::remove_dir_all(&folder).unwrap();
+}
+
+#[test]
+fn a_report_case_is_reported_and_written_as_bytes() {
+    let text = b"counts 0 0 1 0 1\nlargest 64\nopen 7 1\n";
+    assert_eq!(output_of(REPORT_CASE, &[], text), b"7 0 1 0 -1 1\n");
+    let bytes = output_of(REPORT_CASE, &["bytes"], text);
+    assert_eq!((bytes.len(), bytes[0], bytes[40], &bytes[41..44]), (1 + 40 + 16, 1, 1, &[6, 0, 2][..]));
 }
 
 #[test]
@@ -65,16 +91,22 @@ fn every_shape_that_is_listed_is_made_and_played() {
     assert!(shapes.lines().count() > 25);
     for line in shapes.lines() {
         let (kind, name) = line.split_once(' ').unwrap();
-        let made = output_of(MAKER, &[kind, name, "4"], b"");
+        let verb = if kind == "report" { "log" } else { kind };
+        let made = output_of(MAKER, &[verb, name, "4"], b"");
         match kind {
-            "log" => {
+            "log" | "report" => {
                 assert!(output_of(SECOND, &[], &made).ends_with(b"\n"), "{name}");
+                assert!(output_of(REPORT, &[], &made).last().is_none_or(|&byte| byte == b'\n'), "{name}");
                 let text = output_of(MAKER, &["text"], &made);
                 assert_eq!(output_of(MAKER, &["bytes"], &text), made, "{name}");
             }
             "cases" => {
                 assert!(output_of(CASES, &[], &made).starts_with(b"case 1\n"), "{name}");
                 assert!(output_of(CASES, &["bytes"], &made).starts_with(&[1, 0, 0, 0, 0, 0, 0, 0, 1]), "{name}");
+            }
+            "report_case" => {
+                assert!(output_of(REPORT_CASE, &[], &made).ends_with(b"\n"), "{name}");
+                assert!(output_of(REPORT_CASE, &["bytes"], &made).starts_with(&[4]), "{name}");
             }
             _ => panic!("{line} is not a shape"),
         }
@@ -83,7 +115,7 @@ fn every_shape_that_is_listed_is_made_and_played() {
 
 #[test]
 fn what_cannot_be_read_is_refused_with_a_message_and_no_output() {
-    let tries: [(&str, &[&str], &[u8]); 13] = [
+    let tries: [(&str, &[&str], &[u8]); 20] = [
         (CASES, &[], b"case a\nclock x\n"),
         (CASES, &["bytes"], b"case a\nmake 1\nclock x\n"),
         (CASES, &[], &[255, 254]),
@@ -94,6 +126,13 @@ fn what_cannot_be_read_is_refused_with_a_message_and_no_output() {
         (MAKER, &["log", "tiny", "-1"], b""),
         (MAKER, &["logs", "tiny", "1", "/no/such/folder"], b""),
         (SECOND, &["/no/such/folder"], b""),
+        (REPORT, &["/no/such/folder"], b""),
+        (MAKER, &["stories", "/no/such/folder"], b""),
+        (MAKER, &["report_case", "tiny", "1"], b""),
+        (REPORT_CASE, &["report"], b""),
+        (REPORT_CASE, &[], b"counts 64 0 0 0 0\n"),
+        (REPORT_CASE, &["bytes"], b"largest 64\ncounts 0 0 0 0 0\n"),
+        (REPORT_CASE, &[], &[255, 254]),
         (MAKER, &["cases", "tiny", "1"], b""),
         (MAKER, &["bytes"], b"serve\nbogus\n"),
         (MAKER, &["bytes"], &[255, 254]),
