@@ -36,6 +36,15 @@ boardNow numbers shares starts counts deficits ready next heads tails held large
       left = now .left;
     }
 
+-- what is held between two calls: the board and both tables
+pub record Holding : Type 0 where
+  pub board : Board
+  pub ids : List ℕ
+  pub lens : List ℕ
+
+abbrev pub holding : Board → (ids lens : List ℕ) → Holding
+holding board ids lens = record { board = board; ids = ids; lens = lens }
+
 -- ---- What opening, renaming and closing change
 
 pub record Blocks : Type 0 where

@@ -30,7 +30,8 @@ use Rattle.calls.specs.declared.Served.{Served}
 use Rattle.board.specs.Leaving.{Known, Returned, returned, ruled}
 use Rattle.calls.specs.Promises.{made}
 use Rattle.calls.specs.Contract.{servedBy, goodServe, BurstOutcome, burstNow, goodBurst}
-use Rattle.chains.specs.Chains.{Holding, isRecord, replyTells, servedTells, burstTells, byReply, byServe, byBurst, Chain, stops, goes, Made, answersOf}
+use Rattle.board.specs.Memory.{Holding}
+use Rattle.chains.specs.Chains.{isRecord, replyTells, servedTells, burstTells, byReply, byServe, byBurst, Chain, stops, goes, Made, answersOf}
 use Rattle.chains.specs.Demands.{reads, KnownHolding, CallAgrees, IsRun, ChainIsRun, ChainOfRun}
 use Rattle.board.proofs.Next.{ReturnsTurn, call-follows}
 use Rattle.calls.proofs.Making.{StartsBy, made-starts}

@@ -36,7 +36,8 @@ use Rattle.board.specs.Leaving.{Returned}
 use Rattle.calls.specs.Promises.{called, made}
 use Rattle.calls.specs.declared.Served.{Served}
 use Rattle.calls.specs.Contract.{BurstOutcome, calledServe, calledBurst}
-use Rattle.chains.specs.Chains.{Holding, replyTells, servedTells, burstTells, Did, byReply, byServe, byBurst, Chain, stops, goes, Made}
+use Rattle.board.specs.Memory.{Holding}
+use Rattle.chains.specs.Chains.{replyTells, servedTells, burstTells, Did, byReply, byServe, byBurst, Chain, stops, goes, Made}
 use Rattle.chains.specs.Demands.{reads, clock, bytesIn, slotBytes, NoneRefused, NotSpent, Unsent, story, lastSlot, slotAfter, HasRow, SameBytes, Agrees}
 use Rattle.chains.specs.Demands.{BurstIsServes, NeverRefused, Opened, Life, Conserved, SendsFront, ComesToFront, intoEmpty, nextUp, StaysInFront}
 use Rattle.chains.specs.Demands.{ServesSend, BurstSends, beginsSlot, slotsIn, WaitsAt, SlotsSmall, OnlyOne, HasChain}
@@ -73,10 +74,10 @@ never-refused L s e cs told made! chain = not-refused L (at-made L s made!) chai
 -- ---- a block, as the rules tell it
 
 -- it has the place p, with that share, until it is closed
-abbrev KeepsPlace : ℕ → Story → Board.Board → ℕ → Type 0
+abbrev pub KeepsPlace : ℕ → Story → Board.Board → ℕ → Type 0
 KeepsPlace share st b p = st .closed ≡ false → Has b p (st .number) × (at b p .share ≡ share)
 
-seat-step : (share : ℕ) (st : Story) (b : Board.Board) (p : ℕ) (x : Single) → Tidy b → KeepsPlace share st b p
+pub seat-step : (share : ℕ) (st : Story) (b : Board.Board) (p : ℕ) (x : Single) → Tidy b → KeepsPlace share st b p
     → KeepsPlace share (tells (st .closed) st x (answer b x)) (step b x .next) p
 seat-step share st b p x g s = go (st .closed) refl
   where
@@ -96,14 +97,14 @@ record Lives (given : Opening) (st : Story) (b : Board.Board) : Type 0 where
   accounted : Accounted st b
   seat : st .closed ≡ false → (p : ℕ) × KeepsPlace (given .share) st b p
 
-record FromOpening (L : ℕ) (given : Opening) (st : Story) (b : Board.Board) : Type 0 where
-  from : Board.Board
-  run : OfRun L from
-  tidy : Tidy from
-  opens : codeOf (answer from (open! given)) ≡ 0
-  xs : List Single
-  is : b ≡ play (step from (open! given) .next) xs
-  tale : st ≡ Runs.story (begins (given .number)) (step from (open! given) .next) xs
+pub record FromOpening (L : ℕ) (given : Opening) (st : Story) (b : Board.Board) : Type 0 where
+  pub from : Board.Board
+  pub run : OfRun L from
+  pub tidy : Tidy from
+  pub opens : codeOf (answer from (open! given)) ≡ 0
+  pub xs : List Single
+  pub is : b ≡ play (step from (open! given) .next) xs
+  pub tale : st ≡ Runs.story (begins (given .number)) (step from (open! given) .next) xs
 
 opening-lives : (L : ℕ) (given : Opening) (st : Story) (b : Board.Board) → FromOpening L given st b → Lives given st b
 opening-lives L given st b o = rw (o .is, o .tale) (record {
@@ -140,13 +141,13 @@ opening-more L given st b x o = record {
       ∙ sym (story-more (begins (given .number)) (step (o .from) (open! given) .next) (o .xs) x);
 }
 
-opened-at : (L : ℕ) (given : Opening) (last : Option ℕ) (o : Holding) → Opened L given last o → At L o
+pub opened-at : (L : ℕ) (given : Opening) (last : Option ℕ) (o : Holding) → Opened L given last o → At L o
 opened-at L given last o w = at-did L (at-on L (at-made L (w .start) (w .made)) (w .row .chain)) (w .opens)
 
-life-at : (L : ℕ) (given : Opening) (st : Story) (last : Option ℕ) (e : Holding) → Life L given st last e → At L e
+pub life-at : (L : ℕ) (given : Opening) (st : Story) (last : Option ℕ) (e : Holding) → Life L given st last e → At L e
 life-at L given st last e l = at-on L (opened-at L given (l .first) (l .opening) (l .opened)) (l .row .chain)
 
-life-opening : (L : ℕ) (given : Opening) (st : Story) (last : Option ℕ) (e : Holding) → Life L given st last e → FromOpening L given st (reads e)
+unfoldable pub life-opening : (L : ℕ) (given : Opening) (st : Story) (last : Option ℕ) (e : Holding) → Life L given st last e → FromOpening L given st (reads e)
 life-opening L given st last e l = record {
   from = reads (w .before);
   run = h .run;
@@ -177,13 +178,13 @@ pub conserved : Conserved
 conserved L given st last e l = opening-lives L given st (reads e) (life-opening L given st last e l) .accounted
 
 -- a place that is sent from has an open block
-abbrev Named : Board.Board → Out → Type 0
+abbrev pub Named : Board.Board → Out → Type 0
 Named b (refused code) = Unit {0}
 Named b done = Unit {0}
 Named b (taken a) = Unit {0}
 Named b (sent s) = Has b (s .place) (at b (s .place) .number)
 
-named : (b : Board.Board) → Tidy b → Named b (step b serve! .out)
+pub named : (b : Board.Board) → Tidy b → Named b (step b serve! .out)
 unfolding step send
 named b g = serve-cases b g (λ t. Named b (t .out)) (record {
   unserved = λ code u r. tt;
@@ -441,7 +442,7 @@ made-fresh L s made! = chain-is-run L s s [] [] made! stops .board
 last-same : {u v : Option ℕ} {b c : Board.Board} → u ≡ v → b ≡ c → LastSend u b → LastSend v c
 last-same {v = v} {b = b} e f s = subst (LastSend v) f (subst (λ (o : Option ℕ). LastSend o b) e s)
 
-life-last : (L : ℕ) (given : Opening) (st : Story) (last : Option ℕ) (e : Holding) → Life L given st last e → LastSend last (reads e)
+pub life-last : (L : ℕ) (given : Opening) (st : Story) (last : Option ℕ) (e : Holding) → Life L given st last e → LastSend last (reads e)
 life-last L given st last e l =
     last-same (ap (lastSlot (l .first)) (sym (at-end .answers)) ∙ l .latest) (sym (at-end .board))
     (last-play (l .first) (reads (l .opening)) (l .xs) (at-tidy L (l .opening) o) opening)

@@ -15,7 +15,7 @@ use Rattle.rules.specs.Board
 use Rattle.lanes.specs.Lanes.{ringEntry, ringOn, laneDepth, laneFirst}
 use Rattle.rules.specs.Board.{bytesCharged, entry, onward, someWait, anyDue, usedShare, fresh}
 use Rattle.rules.specs.Choice.{whereIs, upd, takenIn, takeRecord, release, leastReady, settle, ended, sendFrom, send, lowest, begin, serveBy, serve}
-use Rattle.rules.specs.Blocks.{opening, freeAt, openBlock, renameBlock, quiet}
+use Rattle.rules.specs.Blocks.{Opening, opening, freeAt, openBlock, renameBlock, quiet}
 use Rattle.rules.specs.Burst.{burst}
 use Rattle.rules.specs.Calls.{Single, open!, rename!, record!, serve!, step, Call, one, burst!, Answer, gives, takes, sends, bursts, codeOf}
 use Rattle.rules.specs.Runs
@@ -23,12 +23,17 @@ use Rattle.rules.specs.Runs.{play, answer, runs, servesIn, Story, begins}
 use Rattle.rules.specs.Promises.{InRange}
 use Rattle.rules.proofs.Examples
 use Rattle.rules.proofs.Examples.{worked, tight, filled, waiting, renames}
-use Rattle.chains.specs.Chains.{Holding, Chain, Made, answersOf}
+use Rattle.accounts.specs.Accounts.{noAccount, added}
+use Rattle.accounts.specs.Promises.{accountOf}
+use Rattle.board.specs.Memory.{Holding}
+use Rattle.chains.specs.Chains.{Did, Chain, stops, Made, answersOf}
 use Rattle.chains.specs.Demands.{reads, clock, bytesIn, NotSpent, story, lastSlot, Life, Chained, Parting, callsOf, Passage, Agrees}
 use Rattle.chains.specs.Demands.{StaysInFront, intoEmpty, nextUp, Unsent, slotsIn, WaitsAt}
+use Rattle.chains.specs.Accounts.{accountAlong}
 use Rattle.chains.proofs.Chains.{did-agrees, chain-is-run}
 use Rattle.chains.proofs.Rows.{At, at-made, at-on, at-did, saidOf, Along, along, row-from}
 use Rattle.chains.proofs.Demands.{made-fresh, clock-reads, has-chain}
+use Rattle.chains.proofs.Accounts.{account-opened}
 use Rattle.chains.proofs.Passages.{has-passage, spelt-row, has-life}
 
 abbrev rec : ℕ → ℕ → Board.Record
@@ -321,13 +326,20 @@ record Computed : Type 0 where
   tightParts : PartsOfRow 64 lastInBurst tightest
   tightPassed : Passed tightest 382 6 (out 9 5 64 36) (ruled 64 tightest)
   opensOne : codeOf (answer (runs (fresh 64) []) (open! (opening 1 32768))) ≡ 0
+  elevenBought : accountOf 11 (step (play (fresh 100) []) (open! (opening 11 32768)) .next) (drop 1 worked) noAccount
+      ≡ record { slots = 2; credit = 13107200; bytes = 160; lost = 2621440 }
+  twelveBought : accountOf 12 (step (play (fresh 100) (take 1 worked)) (open! (opening 12 24576)) .next) (drop 2 worked) noAccount
+      ≡ record { slots = 2; credit = 19660800; bytes = 300; lost = 0 }
+  renamedBought : accountOf 1 (step (play (fresh 64) []) (open! (opening 1 32768)) .next) renames noAccount
+      ≡ record { slots = 2; credit = 8388608; bytes = 124; lost = 0 }
   burstEachRow : Runs.row (step (runs (fresh 64) []) (open! (opening 1 32768)) .next) burstEach ≡ renames
 
 not11 : _≢_ {A = ℕ} 0 11
 not11 e = omega arith
 
 computed : Computed
-unfolding worked tight filled waiting renames answersOf Runs.row saidOf story lastSlot Unsent NotSpent slotsIn bytesIn servesIn runs play Start burst least
+unfolding added accountOf worked tight filled waiting renames answersOf Runs.row saidOf story lastSlot Unsent NotSpent slotsIn bytesIn servesIn runs play Start
+    burst least
     nextStart classOf framing charged largestCharge creditOf sum below bytesCharged ringEntry ringOn laneDepth laneFirst entry onward someWait anyDue usedShare
     fresh
     whereIs upd takenIn
@@ -380,6 +392,9 @@ computed = record {
     sent = refl;
   };
   opensOne = refl;
+  elevenBought = refl;
+  twelveBought = refl;
+  renamedBought = refl;
   burstEachRow = refl;
 }
   where
@@ -402,6 +417,33 @@ pub bursts-chain : (s e : Holding) (told : List Answer) → Made 100 s → Chain
     → told ≡ gives 0 ∷ gives 0 ∷ took ∷ took ∷ took ∷ took ∷ took ∷ took ∷ took
     ∷ bursts (record { count = 4; total = 400; code = 14 }) ∷ gives 0 ∷ gives 0 ∷ bursts (record { count = 3; total = 300; code = 1 }) ∷ []
 bursts-chain s e told made! c = chain-is-run 100 s e byBursts told made! c .answer ∙ computed .burstsTold
+
+-- ---- what the growers of the worked log bought and got, along every chain of its calls
+
+bought : (L : ℕ) {s f o e : Holding} {told said : List Answer} (first : List Single) (given : Opening) (xs : List Single) → Made L s
+    → Chain s (map one first) told f → Did f (one (open! given)) (gives 0) o → (c : Chain o (map one xs) said e)
+    → accountAlong (given .number) xs c noAccount ≡ accountOf (given .number) (step (play (fresh L) first) (open! given) .next) xs noAccount
+bought L {s = s} first given xs made! before opens c =
+    let h = at-made L s made! in
+    account-opened given xs (at-on L h before .good) opens c
+    ∙ ap (λ (b : Board.Board). accountOf (given .number) (step b (open! given) .next) xs noAccount)
+    (along first (h .good) before .board ∙ ap (λ (b : Board.Board). play b first) (made-fresh L s made!))
+
+pub worked-eleven : (s o e : Holding) (said : List Answer) → Made 100 s → Did s (one (open! (opening 11 32768))) (gives 0) o
+    → (c : Chain o (map one (drop 1 worked)) said e)
+    → accountAlong 11 (drop 1 worked) c noAccount ≡ record { slots = 2; credit = 13107200; bytes = 160; lost = 2621440 }
+worked-eleven s o e said made! opens c = bought 100 [] (opening 11 32768) (drop 1 worked) made! stops opens c ∙ computed .elevenBought
+
+pub worked-twelve : (s f o e : Holding) (told said : List Answer) → Made 100 s → Chain s (map one (take 1 worked)) told f
+    → Did f (one (open! (opening 12 24576))) (gives 0) o → (c : Chain o (map one (drop 2 worked)) said e)
+    → accountAlong 12 (drop 2 worked) c noAccount ≡ record { slots = 2; credit = 19660800; bytes = 300; lost = 0 }
+worked-twelve s f o e told said made! first opens c =
+    bought 100 (take 1 worked) (opening 12 24576) (drop 2 worked) made! first opens c ∙ computed .twelveBought
+
+-- a block that is renamed three times, once while its slot is open
+pub renamed-bought : (s o e : Holding) (said : List Answer) → Made 64 s → Did s (one (open! (opening 1 32768))) (gives 0) o
+    → (c : Chain o (map one renames) said e) → accountAlong 1 renames c noAccount ≡ record { slots = 2; credit = 8388608; bytes = 124; lost = 0 }
+renamed-bought s o e said made! opens c = bought 64 [] (opening 1 32768) renames made! stops opens c ∙ computed .renamedBought
 
 -- ---- and there are such passages
 

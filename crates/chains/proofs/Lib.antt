@@ -1,4 +1,5 @@
 -- The laws and the theorems of this crate; no other crate stands on it.
+pub mod Values
 pub mod Refusals
 pub mod Chains
 pub mod Rows
@@ -7,4 +8,5 @@ pub mod Demands
 pub mod Passages
 pub mod Codes
 pub mod Limits
+pub mod Accounts
 pub mod Examples

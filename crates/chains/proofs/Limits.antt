@@ -1,11 +1,9 @@
 -- No answered clock is 2^62 or later, and no deficit that is left comes to L bytes.
-use mathlib.Core.Path.{_≡_, sym, ap, subst, _∙_}
+use mathlib.Core.Path.{sym, ap, subst}
 use mathlib.Core.List.{List, [], _∷_}
-use Prim.Native.Nat.{ℕ, _^_, _<_}
+use Prim.Native.Nat.{_^_, _<_}
 use native.Mathlib.Omega.{arith}
-use lib.ListN.{getD, List·getD-map}
 use Rattle.rules.specs.Board
-use Rattle.rules.specs.Board.{Place, freePlace, at}
 use Rattle.rules.specs.Choice.{send, begin}
 use Rattle.rules.specs.Calls.{Single, step, told}
 use Rattle.rules.specs.Runs.{answer, clockOf}
@@ -14,15 +12,14 @@ use Rattle.rules.proofs.Promises
 use Rattle.rules.proofs.Tidy.{Tidy}
 use Rattle.rules.proofs.TidyCalls.{tidy-step}
 use Rattle.rules.proofs.Turns.{busy}
-use Rattle.board.specs.declared.Board as struct
-use Rattle.board.specs.Reading.{encode}
 use Rattle.chains.specs.Demands.{reads}
 use Rattle.chains.specs.Limits.{InTime, ClocksInTime, DeficitsSmall}
+use Rattle.chains.proofs.Values.{deficit-is}
 use Rattle.chains.proofs.Rows.{At, at-made, at-tidy, at-on, saidOf, along}
 
 -- ---- clocks
 
-answer-in-time : (b : Board.Board) → Tidy b → (x : Single) → clockOf (answer b x) < 2 ^ 62
+pub answer-in-time : (b : Board.Board) → Tidy b → (x : Single) → clockOf (answer b x) < 2 ^ 62
 unfolding send begin
 answer-in-time b g = call-cases b g (λ x u. clockOf (told b (u .out)) < 2 ^ 62) (record {
   refused = λ x code r. omega arith;
@@ -46,15 +43,8 @@ clocks-in-time L s e cs told xs said made! r =
 
 -- ---- deficits
 
-deficit-at : (m : Board.Board) (p : ℕ) → getD (encode m .deficits) p 0 ≡ at m p .deficit
-unfolding encode
-deficit-at m p = List·getD-map (λ (x : Place). x .deficit) (m .places) p freePlace
-
 pub deficits-small : DeficitsSmall
-deficits-small L s e cs told made! chain p = rw is (Promises.deficits-small L (reads e) (h .run) p)
+deficits-small L s e cs told made! chain p = rw (deficit-is e (h .good) p) (Promises.deficits-small L (reads e) (h .run) p)
   where
     h : At L e
     h = at-on L (at-made L s made!) chain
-
-    is : getD (e .board .deficits) p 0 ≡ at (reads e) p .deficit
-    is = ap (λ (b : struct.Board). getD (b .deficits) p 0) (sym (h .good .sound .spells)) ∙ deficit-at (reads e) p

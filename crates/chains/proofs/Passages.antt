@@ -15,7 +15,8 @@ use Rattle.rules.specs.Runs
 use Rattle.rules.specs.Runs.{runs, answer, Story, begins, tells}
 use Rattle.rules.specs.Promises.{serves}
 use Rattle.rules.proofs.Cases.{open-cases}
-use Rattle.chains.specs.Chains.{Holding, Did, Chain, stops, goes, Made, answersOf}
+use Rattle.board.specs.Memory.{Holding}
+use Rattle.chains.specs.Chains.{Did, Chain, stops, goes, Made, answersOf}
 use Rattle.chains.specs.Demands.{reads, SpeltOut, over, single, asServes, Row, story, lastSlot, slotAfter, Life, Chained, Parting, Passage}
 use Rattle.chains.specs.Demands.{HasPassage, PassageLives, tale, lastOf, laterLast, ByteBound, SentInTime, SlotOnce, NeverTwice, slotsIn, HasLife}
 use Rattle.chains.proofs.Chains.{did-agrees, chain-from, chain-is-run}

@@ -28,7 +28,8 @@ use Rattle.board.specs.Leaving.{Returned, returned, idsAfter, lensAfter, spelt,
 use Rattle.calls.specs.Promises.{lent, called, made}
 use Rattle.calls.specs.Contract.{servedBy, boardOr, BurstOutcome, burstNow, burstedBy, calledServe, calledBurst}
 use Rattle.calls.proofs.Making.{refused-spoilt}
-use Rattle.chains.specs.Chains.{Holding, isRecord, replyTells, servedTells, Did, byReply, byServe}
+use Rattle.board.specs.Memory.{Holding}
+use Rattle.chains.specs.Chains.{isRecord, replyTells, servedTells, Did, byReply, byServe}
 use Rattle.chains.specs.Demands.{RefusalChangesNothing}
 
 -- ---- Serving changes no entry

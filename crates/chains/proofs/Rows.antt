@@ -17,15 +17,17 @@ use Rattle.rules.specs.Runs.{play, answer, runs, row, recordOf, recordsIn, Stor
 use Rattle.rules.specs.Promises.{OfRun, serves, IsServes}
 use Rattle.rules.proofs.Tidy.{Tidy}
 use Rattle.rules.proofs.Promises.{play-join, run-is-row, burst-is-serves}
-use Rattle.board.proofs.Sound.{fit-view, sound-one}
+use Rattle.board.proofs.Sound.{sound-one}
 use Rattle.calls.specs.declared.Bursted.{Bursted}
 use Rattle.board.specs.Leaving.{Returned, returned}
 use Rattle.calls.specs.Contract.{BurstOutcome, burstNow, goodBurst, calledServe, calledBurst}
 use Rattle.calls.proofs.Calling
-use Rattle.chains.specs.Chains.{Holding, servedTells, burstTells, Did, byReply, byServe, byBurst, Chain, stops, goes, Made, answersOf}
+use Rattle.board.specs.Memory.{Holding}
+use Rattle.chains.specs.Chains.{servedTells, burstTells, Did, byReply, byServe, byBurst, Chain, stops, goes, Made, answersOf}
 use Rattle.chains.specs.Demands.{reads, bytesOf, bytesIn, slotBytes, NotSpent, Unsent, story, SpeltOut, over, single, asServes, Row, BurstIs}
 use Rattle.chains.specs.Demands.{KnownHolding}
 use Rattle.chains.specs.Demands.{Agrees}
+use Rattle.chains.proofs.Values.{tidy-reads}
 use Rattle.chains.proofs.Refusals.{serve-tables}
 use Rattle.chains.proofs.Chains.{did-agrees, chain-from, chain-is-run, chain-of-run}
 
@@ -45,7 +47,7 @@ pub at-made : (L : ℕ) (s : Holding) → Made L s → At L s
 at-made L s m = record { good = chain-is-run L s s [] [] m stops .good; run = chain-of-run L s s [] [] m stops }
 
 pub at-tidy : (L : ℕ) (e : Holding) → At L e → Tidy (reads e)
-at-tidy L e h = fit-view (e .board) (e .ids) (e .lens) (h .good .sound) .tidy
+at-tidy L e h = tidy-reads e (h .good)
 
 pub at-on : (L : ℕ) {s e : Holding} {cs : List Call} {told : List Answer} → At L s → Chain s cs told e → At L e
 at-on L {s = s} {e = e} {cs = cs} {told = told′} h c = record {

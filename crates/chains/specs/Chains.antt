@@ -9,19 +9,13 @@ use Rattle.rules.specs.Board
 use Rattle.rules.specs.Calls.{Single, open!, rename!, close!, record!, serve!, Call, one, burst!, Answer, gives, takes}
 use Rattle.rules.specs.Calls.{sends, bursts, done! }
 use Rattle.rules.specs.Runs.{isServe, leaves}
-use Rattle.board.specs.declared.Board as struct
 use Rattle.board.specs.declared.Reply.{Reply}
+use Rattle.board.specs.Memory.{Holding}
 use Rattle.calls.specs.declared.Served.{Served}
 use Rattle.calls.specs.declared.Bursted.{Bursted}
 use Rattle.board.specs.Leaving.{returned}
 use Rattle.calls.specs.Promises.{called, made}
 use Rattle.calls.specs.Contract.{burstNow, calledServe, calledBurst}
-
--- what the caller holds between two calls: the board and both tables
-pub record Holding : Type 0 where
-  pub board : struct.Board
-  pub ids : List ℕ
-  pub lens : List ℕ
 
 -- ---- An answer's number and values, in the rules' words
 

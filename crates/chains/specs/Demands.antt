@@ -27,7 +27,8 @@ use Rattle.board.specs.declared.Reply.{Reply}
 use Rattle.board.specs.Leaving.{returned, Known}
 use Rattle.calls.specs.Promises.{made}
 use Rattle.calls.specs.Contract.{burstNow, calledBurst}
-use Rattle.chains.specs.Chains.{Holding, burstTells, Did, Chain, Made, answersOf}
+use Rattle.board.specs.Memory.{Holding}
+use Rattle.chains.specs.Chains.{burstTells, Did, Chain, Made, answersOf}
 
 -- the board that a holding spells, and its clock, which is a field of the value
 abbrev pub reads : Holding → Board.Board

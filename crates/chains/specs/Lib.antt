@@ -2,3 +2,4 @@ pub mod Chains
 pub mod Demands
 pub mod Codes
 pub mod Limits
+pub mod Accounts

@@ -5,7 +5,8 @@ use lib.ListN.{getD}
 use Rattle.units.specs.Credit.{largestCharge}
 use Rattle.rules.specs.Calls.{Single, Call, Answer}
 use Rattle.rules.specs.Runs.{clockOf}
-use Rattle.chains.specs.Chains.{Holding, Chain, Made}
+use Rattle.board.specs.Memory.{Holding}
+use Rattle.chains.specs.Chains.{Chain, Made}
 use Rattle.chains.specs.Demands.{Row}
 
 -- Clock: no slot begins at 2^62 or later. A send is answered with the clock at which its slot began.
