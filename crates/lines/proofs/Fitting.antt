@@ -11,18 +11,18 @@ use Rattle.lines.specs.Laws.{OpenFits, CloseFits, NameFits, InFits, OutF
 use Rattle.lines.proofs.Texts.{decimal-length, line-length}
 
 -- each number has at most as many digits as its limit says, which counts those after the first
-abbrev Below : List ℕ → List ℕ → Type 0
+abbrev pub Below : List ℕ → List ℕ → Type 0
 Below [] [] = Unit {0}
 Below [] (n ∷ ns) = ⊥
 Below (w ∷ ws) [] = ⊥
 Below (w ∷ ws) (n ∷ ns) = (n < 10 ^ suc w) × Below ws ns
 
 -- the space, the first digit, and those after it
-abbrev room : List ℕ → ℕ
+abbrev pub room : List ℕ → ℕ
 room [] = 0
 room (w ∷ ws) = 2 + w + room ws
 
-columns-fit : (ws ns : List ℕ) → Below ws ns → length (columns ns) ≤ room ws
+pub columns-fit : (ws ns : List ℕ) → Below ws ns → length (columns ns) ≤ room ws
 unfolding columns
 columns-fit [] [] b = lit≤ tt
 columns-fit [] (n ∷ ns) b = absurd b

@@ -91,11 +91,11 @@ plain-decimal (d ∷ ds) h (inr z) = rw (z .0, z .1) (decimal-one 0 (lit< tt))
 -- ---- a line tells its numbers, and where the next line begins
 
 -- a text that a digit does not begin
-abbrev NoDigitFirst : List ℕ → Type 0
+abbrev pub NoDigitFirst : List ℕ → Type 0
 NoDigitFirst [] = ⊥
 NoDigitFirst (x ∷ xs) = x < 48
 
-digits-end : (a b x y : List ℕ) → Digits a → Digits b → NoDigitFirst x → NoDigitFirst y → a ++ x ≡ b ++ y → (a ≡ b) × (x ≡ y)
+pub digits-end : (a b x y : List ℕ) → Digits a → Digits b → NoDigitFirst x → NoDigitFirst y → a ++ x ≡ b ++ y → (a ≡ b) × (x ≡ y)
 digits-end [] [] x y da db px py e = (refl, e)
 digits-end [] (d ∷ b) [] y da db px py e = absurd px
 digits-end [] (d ∷ b) (c ∷ x) y da db px py e = absurd (let z : c ≡ d = cc in omega (arith, db .0))

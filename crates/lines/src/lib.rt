@@ -2,7 +2,7 @@
 ghost use mathlib.Core.Path.{_≡_};
 ghost use mathlib.Core.List.{List, [], _∷_};
 ghost use Prim.Native.Nat.{_+_, _≤_};
-ghost use lib.ListN.{length};
+ghost use lib.ListN.{length, take};
 ghost use Rattle.lines.specs.Text.{decimal, columns, lineOf, Written, Line};
 ghost use Rattle.lines.specs.Listing.{openLine, closeLine, nameLine, inLine, outLine, refusedLine};
 ghost use Rattle.lines.specs.Listing.{endLine, brokenLine, longLine};
@@ -13,11 +13,11 @@ pub const LINE_ROOM: usize = 64;
 // The digit 0.
 const ZERO: u64 = 48;
 
-const SPACE: u8 = 32;
+pub const SPACE: u8 = 32;
 
-const LINE_END: u8 = 10;
+pub const LINE_END: u8 = 10;
 
-fn put_byte(line: &mut [u8], at: usize, b: u8) -> usize
+pub fn put_byte(line: &mut [u8], at: usize, b: u8) -> usize
     requires { ⌜ at + 1 ≤ length (now line) ⌝ }
     ensures { λ r. ⌜ Written (now (line .entry)) at (b ∷ []) r (now (line .exit)) ⌝ }
 {
@@ -26,7 +26,7 @@ fn put_byte(line: &mut [u8], at: usize, b: u8) -> usize
 }
 
 // The number in decimal, with no zero in front.
-fn put_number(line: &mut [u8], at: usize, n: u64) -> usize
+pub fn put_number(line: &mut [u8], at: usize, n: u64) -> usize
     requires { ⌜ at + length (decimal n) ≤ length (now line) ⌝ }
     ensures { λ r. ⌜ Written (now (line .entry)) at (decimal n) r (now (line .exit)) ⌝ }
 {
@@ -50,8 +50,16 @@ pub fn put_text(line: &mut [u8], at: usize, text: &[u8]) -> usize
     at + i
 }
 
+// The first bytes of a text at an offset of a list that has room for them; the answer is where they end.
+pub fn put_front(line: &mut [u8], at: usize, text: &[u8], count: usize) -> usize
+    requires { ⌜ (count ≤ length (now text)) × (at + count ≤ length (now line)) ⌝ }
+    ensures { λ r. ⌜ Written (now (line .entry)) at (take count (now (text .entry))) r (now (line .exit)) ⌝ }
+{
+    put_text(line, at, &text[..count])
+}
+
 // Each number after a space.
-fn put_columns(line: &mut [u8], at: usize, numbers: &[u64]) -> usize
+pub fn put_columns(line: &mut [u8], at: usize, numbers: &[u64]) -> usize
     requires { ⌜ at + length (columns (now numbers)) ≤ length (now line) ⌝ }
     ensures { λ r. ⌜ Written (now (line .entry)) at (columns (now (numbers .entry))) r (now (line .exit)) ⌝ }
 {
@@ -65,7 +73,7 @@ fn put_columns(line: &mut [u8], at: usize, numbers: &[u64]) -> usize
     next
 }
 
-fn put_line(line: &mut [u8], word: &[u8], numbers: &[u64]) -> usize
+pub fn put_line(line: &mut [u8], word: &[u8], numbers: &[u64]) -> usize
     requires { ⌜ length (lineOf (now word) (now numbers)) ≤ length (now line) ⌝ }
     ensures { λ r. ⌜
         Line (now (line .entry)) (lineOf (now (word .entry)) (now (numbers .entry))) r (now (line .exit)) ⌝ }

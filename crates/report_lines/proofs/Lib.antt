@@ -1,0 +1,6 @@
+-- The laws of this crate, for those that stand on it.
+pub mod Signs
+pub mod Texts
+pub mod Fitting
+pub mod Reading
+pub mod Worked
