@@ -1,18 +1,16 @@
 -- ONE FIELD PLAYED: a board in memory, its tables and the bytes sent so far, before the field and after it.
 use mathlib.Core.Path.{_≡_}
 use mathlib.Core.Bool.{cond}
-use mathlib.Core.List.{List}
-use Prim.Native.Nat.{ℕ, _+_, _^_, _<_, _≤_}
+use mathlib.Core.List.{List, []}
+use Prim.Native.Nat.{ℕ, _+_, _≤_}
 use lib.Dec.{eqb}
-use lib.ListN.{length, getD}
+use lib.ListN.{getD}
 use Rattle.board.specs.declared.Board as struct
 use Rattle.board.specs.Reading.{view}
-use Rattle.board.specs.Memory.{Engine}
-use Rattle.serving.specs.declared.Step.{Step}
-use Rattle.serving.specs.Serving.{Within, engineAfter, CanServe}
 use Rattle.log.specs.declared.Event.{Event}
+use Rattle.log.specs.declared.Event.the-variants.{Largest, Open, Close, Rename, Arrive, Serve, Passed}
 use Rattle.lines.specs.Text.{Line}
-use Rattle.lines.specs.Listing.{outLine, refusedLine}
+use Rattle.lines.specs.Listing.{openLine, closeLine, nameLine, inLine, outLine, refusedLine}
 use Rattle.board.specs.Leaving.{Known}
 use Rattle.listing_rules.specs.Listing.{Playing, played, fieldLine}
 
@@ -44,28 +42,19 @@ pub record FieldPlayed
   -- no record is charged more, so the sum of the bytes sent never wraps
   pub more : n .sent ≤ s .sent + 65536
 
--- ---- A serve, of which no more is said than of what it is lent
+-- ---- The line of a field, by what its step tells
 
 -- the line of a serve, by its code: the record sent stands at a place and an entry
 abbrev pub shownLine : (numbers ids lens : List ℕ) (code place entry clock : ℕ) → List ℕ
 shownLine numbers ids lens code place entry clock =
     cond (eqb code 0) (outLine (getD numbers place 0) (getD ids entry 0) (getD lens entry 0) clock) (refusedLine code)
 
-abbrev pub stepLine : (numbers ids lens : List ℕ) → Step → List ℕ
-stepLine numbers ids lens s = shownLine numbers ids lens (s .code) (s .place) (s .entry) (s .«slot_clock»)
-
--- What it asks: what serving asks, whole tables, and a sum of the bytes sent that does not wrap.
-pub record ServeNeeds (shares ids lens : List ℕ) (largest sent : ℕ) (e : Engine) : Type 0 where
-  pub serves : CanServe shares lens largest e
-  pub ids-all : length ids ≡ 2048
-  pub lens-all : length lens ≡ 2048
-  pub few : sent < 2 ^ 63
-
--- What is left of what serving gives: the engine n and the bytes sent, and its line is put in front of a buffer.
-pub record ServeShown
-    (numbers ids lens : List ℕ) (sent : ℕ) (given : Within)
-    (n : Engine) (total : ℕ) (before : List ℕ) (count : ℕ) (after : List ℕ) : Type 0 where
-  pub engine : n ≡ engineAfter given
-  pub sum : total ≡ sent + given .step .bytes .0
-  pub line : Line before (stepLine numbers ids lens (given .step)) count after
-  pub short : count ≤ 64
+-- of any field
+abbrev pub eventLine : (numbers ids lens : List ℕ) → Event → (code place entry clock : ℕ) → List ℕ
+eventLine numbers ids lens (Largest l) code place entry clock = []
+eventLine numbers ids lens (Open o) code place entry clock = openLine (o .number) code
+eventLine numbers ids lens (Close block) code place entry clock = closeLine block code
+eventLine numbers ids lens (Rename old new) code place entry clock = nameLine old new code
+eventLine numbers ids lens (Arrive block number bytes) code place entry clock = inLine number code
+eventLine numbers ids lens Serve code place entry clock = shownLine numbers ids lens code place entry clock
+eventLine numbers ids lens Passed code place entry clock = []

@@ -1,5 +1,5 @@
-// One field of a log played: what it says is done on the engine's arrays, and its line is put at the front of a buffer.
-// The board is not tested here: whoever goes from field to field tests it once, and each step leaves it good.
+// One field of a log played: what it says is done (crate events), and its line is put at the front of a buffer. The
+// board is not tested here: whoever goes from field to field tests it once, and each step leaves it good.
 ghost use mathlib.Core.Path.{_≡_};
 ghost use mathlib.Core.Bool.{false};
 ghost use Prim.Native.Nat.{_^_, _<_, _≤_};
@@ -7,10 +7,8 @@ ghost use lib.ListN.{length};
 ghost use Rattle.log.specs.Format.{isL};
 ghost use Rattle.lines.specs.Text.{Line};
 ghost use Rattle.listing_rules.specs.Listing.{lastOf};
-ghost use Rattle.board.specs.Memory.{numbersNow, boardNow, Engine, engineNow};
-ghost use Rattle.serving.specs.Serving.{servedWithin};
-ghost use Rattle.fields.specs.Fields.{Memory, memory, KnownMemory, FieldPlayed};
-ghost use Rattle.fields.specs.Fields.{shownLine, ServeNeeds, ServeShown};
+ghost use Rattle.board.specs.Memory.{numbersNow, boardNow};
+ghost use Rattle.fields.specs.Fields.{Memory, memory, KnownMemory, FieldPlayed, shownLine, eventLine};
 use board::After;
 use lines::LINE_ROOM;
 use log::End;
@@ -40,9 +38,7 @@ fn show_serve(
     line: &mut [u8; LINE_ROOM],
 ) -> usize
     requires { ⌜
-        (length (now ids) ≡ 2048)
-        × ((length (now lens) ≡ 2048)
-        × (code ≡ 0 → (place < 64) × (entry < 2048))) ⌝ }
+        (length (now ids) ≡ 2048) × ((length (now lens) ≡ 2048) × ((place < 64) × (entry < 2048))) ⌝ }
     ensures { λ r. ⌜
         Line (now (line .entry))
         (shownLine (now (numbers .entry)) (now (ids .entry)) (now (lens .entry)) code place entry time) r
@@ -55,81 +51,35 @@ fn show_serve(
     lines::put_out(line, numbers[place], ids[entry], lens[entry], time)
 }
 
-// The next record is sent. It is lent what serving and the line need, and no other part of the board.
-fn play_serve(
-    sent: Bytes,
-    largest: u32,
-    clock: u64,
-    active: u32,
-    pending: u32,
-    slot: u8,
-    left: Parts,
+// The line of a field, by what its step tells.
+fn show_field(
+    event: Event,
+    code: u8,
+    place: usize,
+    entry: usize,
+    time: u64,
     numbers: &[u32; PLACES],
-    shares: &[u32; PLACES],
-    starts: &mut [u16; PLACES],
-    counts: &mut [u16; PLACES],
-    deficits: &mut [u64; PLACES],
-    ready: &mut [u64; PLACES],
-    next: &mut [u8; PLACES],
-    heads: &mut [u8; CLASSES],
-    tails: &mut [u8; CLASSES],
-    held: &mut [u32; CLASSES],
     ids: &[u32],
     lens: &[u16],
     line: &mut [u8; LINE_ROOM],
-) -> Moved
-    ghost { Engine }
-    requires { λ before. ⌜
-        engineNow (now starts) (now counts) (now deficits) (now ready)
-        (now next) (now heads) (now tails) (now held)
-        (numbersNow clock active pending slot (left .0)) ≡ before ⌝ }
-    requires { λ before. ⌜ ServeNeeds (now shares) (now ids) (now lens) largest (sent .0) before ⌝ }
-    ensures { λ before r. ⌜
-        (let given = servedWithin (now (shares .entry)) (now (lens .entry)) largest 65536 1 before in
-        let after =
-        engineNow (now (starts .exit)) (now (counts .exit)) (now (deficits .exit)) (now (ready .exit))
-        (now (next .exit)) (now (heads .exit)) (now (tails .exit)) (now (held .exit))
-        (r .after) in
-        ServeShown (now (numbers .entry)) (now (ids .entry)) (now (lens .entry)) (sent .0) given
-        after (r .sent .0) (now (line .entry)) (r .shown) (now (line .exit))) ⌝ }
+) -> usize
+    requires { ⌜
+        (length (now ids) ≡ 2048) × ((length (now lens) ≡ 2048) × ((place < 64) × (entry < 2048))) ⌝ }
+    ensures { λ r. ⌜
+        Line (now (line .entry))
+        (eventLine (now (numbers .entry)) (now (ids .entry)) (now (lens .entry)) event code place entry time) r
+        (now (line .exit))
+        × (r ≤ 64) ⌝ }
 {
-    let s = serving::serve_within(
-        Bytes(serving::ANY_LENGTH),
-        1,
-        clock,
-        active,
-        pending,
-        slot,
-        left,
-        largest,
-        shares,
-        starts,
-        counts,
-        deficits,
-        ready,
-        next,
-        heads,
-        tails,
-        held,
-        lens,
-    );
-    let shown = show_serve(
-        s.code,
-        s.place,
-        s.entry,
-        s.slot_clock,
-        numbers,
-        ids,
-        lens,
-        line,
-    );
-    let charge = s.bytes;
-    let after = s.after;
-    let total = sent.0 + charge.0;
-    Moved {
-        shown: shown,
-        sent: Bytes(total),
-        after: after,
+    match event {
+        Event::Open(opening) => lines::put_open(line, opening.number, code),
+        Event::Close(block) => lines::put_close(line, block, code),
+        Event::Rename(old, new) => lines::put_name(line, old, new, code),
+        Event::Arrive(_, number, _) => lines::put_in(line, number, code),
+        Event::Serve => show_serve(code, place, entry, time, numbers, ids, lens, line),
+        // A field that is passed over gives no line, and L is not read twice.
+        Event::Passed => 0,
+        Event::Largest(_) => 0,
     }
 }
 
@@ -176,81 +126,45 @@ pub fn play_field(
         (now (ids .exit)) (now (lens .exit)) (r .sent .0) in
         FieldPlayed before event after (now (line .entry)) (r .shown) (now (line .exit))) ⌝ }
 {
-    let mut shown: usize = 0;
-    let mut set = active;
-    match event {
-        Event::Open(opening) => {
-            let code = blocks::open_in(opening, numbers, shares, held);
-            shown = lines::put_open(line, opening.number, code);
-        }
-        Event::Close(block) => {
-            let code = blocks::close_in(block, active, counts, numbers, shares, starts, held);
-            shown = lines::put_close(line, block, code);
-        }
-        Event::Rename(old, new) => {
-            let code = blocks::rename_in(old, new, numbers);
-            shown = lines::put_name(line, old, new, code);
-        }
-        Event::Arrive(block, number, bytes) => {
-            let took = taking::record_in(
-                block,
-                number,
-                bytes,
-                largest,
-                clock,
-                active,
-                numbers,
-                shares,
-                starts,
-                counts,
-                next,
-                heads,
-                tails,
-                ready,
-                ids,
-                lens,
-            );
-            set = took.active;
-            shown = lines::put_in(line, number, took.code);
-        }
-        Event::Serve => {
-            return play_serve(
-                sent,
-                largest,
-                clock,
-                active,
-                pending,
-                slot,
-                left,
-                numbers,
-                shares,
-                starts,
-                counts,
-                deficits,
-                ready,
-                next,
-                heads,
-                tails,
-                held,
-                ids,
-                lens,
-                line,
-            );
-        }
-        // A field that is passed over gives no line, and L is not read twice.
-        Event::Passed => {}
-        Event::Largest(_) => {}
-    }
+    let s = events::act(
+        event,
+        largest,
+        clock,
+        active,
+        pending,
+        slot,
+        left,
+        numbers,
+        shares,
+        starts,
+        counts,
+        deficits,
+        ready,
+        next,
+        heads,
+        tails,
+        held,
+        ids,
+        lens,
+    );
+    let shown = show_field(
+        event,
+        s.code,
+        s.place,
+        s.entry,
+        s.slot_clock,
+        numbers,
+        ids,
+        lens,
+        line,
+    );
+    let charge = s.bytes;
+    let after = s.after;
+    let total = sent.0 + charge.0;
     Moved {
         shown: shown,
-        sent: sent,
-        after: After {
-            clock: clock,
-            active: set,
-            pending: pending,
-            slot: slot,
-            left: left,
-        },
+        sent: Bytes(total),
+        after: after,
     }
 }
 

@@ -125,7 +125,7 @@ not-long s l at stage [] e r h =
 not-long s l at stage (f ∷ fs) e r h = not-long s l (f .next) (stageAfter stage (f .event)) fs e (r .1 .1) h
 
 -- L comes first and once
-no-l : (s : List ℕ) (at : ℕ) (stage : Stage) (fs : List WholeField) (e : End) → pastL stage ≡ true → Reads s at stage fs e → NoL fs
+pub no-l : (s : List ℕ) (at : ℕ) (stage : Stage) (fs : List WholeField) (e : End) → pastL stage ≡ true → Reads s at stage fs e → NoL fs
 no-l s at stage [] e p r = tt
 no-l s at stage (f ∷ fs) e p r =
     let w = goes-only s at stage (f .event) (f .next) (r .1 .0) .0 in

@@ -16,9 +16,6 @@ use Rattle.rules.specs.Board.{Place, fresh}
 use Rattle.rules.specs.Calls.{wrongTables}
 use Rattle.board.specs.declared.Board as struct
 use Rattle.board.specs.Reading.{encode, view, isSound}
-use types.Run.{OneOf}
-use denote.Enum.Declared.{tagOf}
-use Rattle.log.proofs.Event.{the-type}
 use Rattle.log.specs.declared.Stage.{Stage}
 use Rattle.log.specs.declared.Stage.the-variants.{BeforeL}
 use Rattle.log.specs.declared.Event.{Event}
@@ -26,12 +23,13 @@ use Rattle.log.specs.declared.Event.the-variants.{Largest}
 use Rattle.log.specs.declared.End.{End}
 use Rattle.log.specs.declared.End.the-variants.{Whole as ends-whole, Broken as ends-broken, Long as ends-long}
 use Rattle.log.specs.declared.Next.the-variants.{GoesOn, Ends}
-use Rattle.log.specs.Format.{isL, pastL, stageAfter, inTurn}
+use Rattle.log.specs.Format.{pastL, stageAfter, inTurn}
 use Rattle.log.specs.Rows.{nextAt, endsLong}
 use Rattle.log.proofs.Fields.{whole-is}
-use Rattle.log.proofs.Stages.{later, no-l-by-place, turn-first, past-after}
+use Rattle.log.proofs.Stages.{past-after}
 use Rattle.log.proofs.Ends.{goes-only, ends-only, long-anywhere}
 use Rattle.log.proofs.Readings.{goes-next}
+use Rattle.log.proofs.First.{largest-range}
 use Rattle.lines.specs.Text.{Written, Line}
 use Rattle.lines.proofs.Texts.{none, then, from-front}
 use Rattle.arrays.specs.Lists.{totalOf, zeroed}
@@ -261,11 +259,6 @@ code-tables log s ids lens e = go (wrongTables (length ids) (length lens)) refl 
     go true q z = absurd (omega arith)
     go false q z = right-tables (length ids) (length lens) q
 
--- L is in its range
-largest-range : (l : ℕ) → inTurn (Largest l) BeforeL ≡ true → (leb 64 l && leb l 2048) ≡ true
-unfolding inTurn
-largest-range l e = e
-
 module _ (log : List ℕ) (s : State) (ids lens out : List ℕ) (unread : pastL (s .stage) ≡ false) where
   left-whole : restOf log s ids lens ≡ listingOf log
   unfolding restOf
@@ -341,16 +334,6 @@ first-ends log e h = same e h ∙ sym (listing-first log ∙ listing-ends unmade
     same ends-whole h = absurd (false≢true (ends-only log 0 BeforeL h .0))
     same (ends-broken n) h = refl
     same ends-long h = refl
-
-pub is-largest : (log : List ℕ) (e : Event) (next l : ℕ) → nextAt log 0 BeforeL ≡ GoesOn e next → e ≡ Largest l
-    → nextAt log 0 BeforeL ≡ GoesOn (Largest l) next
-is-largest log e next l f q = f ∙ ap (λ (x : Event). GoesOn x next) q
-
--- nothing but L is whole before L
-pub not-largest : (log : List ℕ) (e : Event) (next : ℕ) → nextAt log 0 BeforeL ≡ GoesOn e next → OneOf later (tagOf the-type e) → ⊥
-not-largest log e next f k =
-    let t = turn-first e (whole-is log 0 BeforeL e next (goes-only log 0 BeforeL e next f .0) .turn) in
-    true≢false (sym (ap isL (t .1 .0)) ∙ no-l-by-place e k)
 
 -- ---- The promise of a piece
 

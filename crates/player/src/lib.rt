@@ -46,20 +46,12 @@ fn waiting(counts: &[u16; PLACES]) -> u32
     arrays::sum_shorts(counts)
 }
 
-// The first bytes of a text are put behind what is written; the answer is where they end.
-fn append_front(out: &mut [u8], used: usize, text: &[u8], count: usize) -> usize
-    requires { ⌜ (count ≤ length (now text)) × (used + count ≤ length (now out)) ⌝ }
-    ensures { λ r. ⌜ Written (now (out .entry)) used (take count (now (text .entry))) r (now (out .exit)) ⌝ }
-{
-    lines::put_text(out, used, &text[..count])
-}
-
 // A line is put behind what is written.
 fn append(out: &mut [u8], used: usize, line: &[u8; LINE_ROOM], count: usize) -> usize
     requires { ⌜ (count ≤ 64) × (used + count ≤ length (now out)) ⌝ }
     ensures { λ r. ⌜ Written (now (out .entry)) used (take count (now (line .entry))) r (now (out .exit)) ⌝ }
 {
-    append_front(out, used, line, count)
+    lines::put_front(out, used, line, count)
 }
 
 // Whether a piece may go on from a state: TABLE_LENGTH for the tables, SPOILT for a log, a sum or a board with which no

@@ -328,8 +328,8 @@ pub fn serve_within(
     }
 }
 
-// Nothing is served: a code, and the numbers as they were.
-fn stay(code: u8, clock: u64, active: u32, pending: u32, slot: u8, left: Parts) -> Step
+// Nothing is sent: a code, and the numbers after it.
+pub fn stay(code: u8, clock: u64, active: u32, pending: u32, slot: u8, left: Parts) -> Step
     ensures { λ r. ⌜ r ≡ stayed code (numbersNow clock active pending slot (left .0)) ⌝ }
 {
     Step {

@@ -17,37 +17,37 @@ mul-put-out : tie.Need-mul-put-out
 mul-put-out c =
     let at-if1 = c .before in
     let at-start = at-if1 .before .before .before in
-    omega (arith, at-start .pre .1 .1 (at-if1 .if1 .left) .0)
+    omega (arith, at-start .pre .1 .1 .0)
 
 element-copy-out-put-out : tie.Need-element-copy-out-put-out
 element-copy-out-put-out c =
     let at-if1 = c .before in
     let at-start = at-if1 .before .before .before in
-    omega (arith, at-start .pre .1 .1 (at-if1 .if1 .left) .0)
+    omega (arith, at-start .pre .1 .1 .0)
 
 mul-put-out-2 : tie.Need-mul-put-out-2
 mul-put-out-2 c =
     let at-if1 = c .before .before in
     let at-start = at-if1 .before .before .before in
-    omega (arith, at-start .pre .1 .1 (at-if1 .if1 .left) .1)
+    omega (arith, at-start .pre .1 .1 .1)
 
 shared-slice-read-put-out : tie.Need-shared-slice-read-put-out
 shared-slice-read-put-out c =
     let at-if1 = c .before .before .before in
     let at-start = at-if1 .before .before .before in
-    omega (arith, at-start .pre .1 .1 (at-if1 .if1 .left) .1, at-start .pre .0)
+    omega (arith, at-start .pre .1 .1 .1, at-start .pre .0)
 
 mul-put-out-3 : tie.Need-mul-put-out-3
 mul-put-out-3 c =
     let at-if1 = c .before .before .before in
     let at-start = at-if1 .before .before .before in
-    omega (arith, at-start .pre .1 .1 (at-if1 .if1 .left) .1)
+    omega (arith, at-start .pre .1 .1 .1)
 
 shared-slice-read-put-out-2 : tie.Need-shared-slice-read-put-out-2
 shared-slice-read-put-out-2 c =
     let at-if1 = c .before .before .before .before in
     let at-start = at-if1 .before .before .before in
-    omega (arith, at-start .pre .1 .1 (at-if1 .if1 .left) .1, at-start .pre .1 .0)
+    omega (arith, at-start .pre .1 .1 .1, at-start .pre .1 .0)
 
 put-out-requires : tie.Need-put-out-requires
 put-out-requires c κs = search needs

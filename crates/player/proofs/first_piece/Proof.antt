@@ -2,7 +2,8 @@
 -- line. Assumes nothing.
 use mathlib.Core.Path.{sym, _∙_}
 use native.Mathlib.Omega.{arith}
-use Rattle.player.proofs.Pieces.{code-tables, is-largest, not-largest, first-none, first-last, first-made, first-ends}
+use Rattle.log.proofs.First.{is-largest, not-largest}
+use Rattle.player.proofs.Pieces.{code-tables, first-none, first-last, first-made, first-ends}
 use borrow.Author.Needs.{needs}
 use Rattle.player.proofs.first_piece.Statement.{statement}
 use Rattle.player.proofs.first_piece.Tie as tie
