@@ -1,38 +1,15 @@
 // Plays a log: the log on standard input, its listing on standard output. A log that cannot be read has no listing,
 // and a Rattle program has no exit status: what fails is said on standard error.
 use libc::STDERR_FILENO;
-use libc::STDIN_FILENO;
 use libc::STDOUT_FILENO;
 use numbers::LONGEST_LOG;
 use numbers::TABLE_ENTRIES;
-ghost use Rattle.io.specs.Counts.{Counts};
 
 // The bytes of a log that is read, and one more, so that a longer one is seen to be long.
 const MOST: usize = LONGEST_LOG + 1;
 
 // The bytes of the buffer for a piece of the listing.
 const ROOM: usize = 4096;
-
-// Reads until the log ends or its room is full, and answers how many bytes came. A read that fails ends it too:
-// then it is not known where the log ends, and it is not whole.
-fn read_log(log: &mut [u8], whole: &mut bool) -> usize
-    ensures { λ r. ⌜ Counts r (now (log .exit)) ⌝ }
-{
-    let mut n = 0;
-    while n < log.len() {
-        let got = libc::read(STDIN_FILENO, &mut log[n..]);
-        if got < 0 {
-            *whole = false;
-            return n;
-        }
-        let came = io::count(got, &log[n..]);
-        if came == 0 {
-            return n;
-        }
-        n += came;
-    }
-    n
-}
 
 // Writes a piece of the listing at a time, and answers whether all was written. A write that fails ends it, so that
 // what was written is always the listing's beginning.
@@ -59,7 +36,7 @@ fn write_listing(log: &[u8]) -> bool {
 fn main() {
     let mut log = [0u8; MOST];
     let mut whole = true;
-    let n = read_log(&mut log, &mut whole);
+    let n = log_input::read_log(&mut log, &mut whole);
     if !whole {
         io::write_all(STDERR_FILENO, b"listing: the log cannot be read\n");
         return;

@@ -1,12 +1,12 @@
--- `listing::read_log` is safe and ends, and its answer lies within the log's room: each turn takes up a byte or more of
+-- `log_input::read_log` is safe and ends, and its answer lies within the log's room: each turn takes up a byte or more of
 -- it. Assumes nothing.
 use mathlib.Core.Path.{_≡_, sym}
 use Prim.Native.Nat.{_-_, _≤_}
 use lib.ListN.{length}
 use lib.Seq.{length-take-le}
 use borrow.Author.Needs.{needs}
-use Rattle.listing.proofs.read_log.Statement.{statement}
-use Rattle.listing.proofs.read_log.Tie as tie
+use Rattle.log_input.proofs.read_log.Statement.{statement}
+use Rattle.log_input.proofs.read_log.Tie as tie
 
 abbrev Inv-loop : tie.InvT-loop
 Inv-loop log₀ whole₀ n₀ log whole n = (n ≤ length log) × (length log ≡ length log₀)

@@ -1,0 +1,3 @@
+-- The laws of this crate, for those that stand on it.
+pub mod Steps
+pub mod Fields

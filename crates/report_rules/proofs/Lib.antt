@@ -1,0 +1,4 @@
+-- The laws of this crate, for those that stand on it.
+pub mod Report
+pub mod Runs
+pub mod Worked
