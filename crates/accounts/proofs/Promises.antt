@@ -26,7 +26,7 @@ use Rattle.rules.proofs.Names.{has-where}
 use Rattle.accounts.specs.Accounts.{Account, noAccount, got, creditAt, Counts, noCounts, counted, countRow, CountsFit}
 use Rattle.accounts.specs.Promises.{countsOf, Balances, AccountsBalance, NeverAboveDue, CreditOfSlots, FreeHasNone, CountsSmall, SlotsFew}
 use Rattle.accounts.specs.Promises.{StopsWhenFull}
-use Rattle.accounts.specs.Promises.{accountOf, Since, OwnCounts, BlockBalances, CountsOfBlock}
+use Rattle.accounts.specs.Promises.{accountOf, Since, OwnCounts, BlockBalances, BlockBytes, CountsOfBlock}
 use Rattle.accounts.proofs.Turns.{fits-even, none-free, fits-fresh}
 use Rattle.accounts.proofs.Rows.{stopping, fits-row, small-row, priced-row, row-join}
 use Rattle.accounts.proofs.Owners.{OwnedAlong, along, opens-along}
@@ -138,7 +138,6 @@ module _ (L : ℕ) (r : InRange L) (first : List Single) (o : Opening) (xs : Lis
     place = freeAt before;
     has = since-along .has;
     counts = ap (λ (d : Counts). d .accounts (freeAt before)) joined ∙ since-along .counts (sym (ap (λ (d : Counts). d .full) joined) ∙ f);
-    bytes = since-along .bytes;
   }
     where
       joined : countsOf L (first ++ (open! o ∷ xs)) ≡ countRow b xs c
@@ -146,6 +145,9 @@ module _ (L : ℕ) (r : InRange L) (first : List Single) (o : Opening) (xs : Lis
 
 pub block-balances : BlockBalances
 block-balances = block-even
+
+pub block-bytes : BlockBytes
+block-bytes L r first o xs since = since-along L r first o xs since .bytes
 
 pub counts-of-block : CountsOfBlock
 counts-of-block L r first o xs f since = block-counts L r first o xs since f

@@ -103,16 +103,13 @@ pub record Since (L : ℕ) (first : List Single) (o : Opening) (xs : List Single
   pub opens : codeOf (answer (play (fresh L) first) (open! o)) ≡ 0
   pub still : story (begins (o .number)) (step (play (fresh L) first) (open! o) .next) xs .closed ≡ false
 
--- The block has a place, and the counts of that place are its account; its bytes are those of the records that its
--- story tells as sent.
+-- The block has a place, and the counts of that place are its account.
 pub record OwnCounts (L : ℕ) (first : List Single) (o : Opening) (xs : List Single) : Type 0 where
   pub place : ℕ
   pub has : let b = step (play (fresh L) first) (open! o) .next in
       Has (play b xs) place (story (begins (o .number)) b xs .number)
   pub counts : let b = step (play (fresh L) first) (open! o) .next in
       countsOf L (first ++ (open! o ∷ xs)) .accounts place ≡ accountOf (o .number) b xs noAccount
-  pub bytes : let b = step (play (fresh L) first) (open! o) .next in
-      accountOf (o .number) b xs noAccount .bytes ≡ sum bytesCharged (story (begins (o .number)) b xs .sent)
 
 -- Of a block's own account nothing is bounded, and it always balances.
 abbrev pub BlockBalances : Type 0
@@ -120,6 +117,12 @@ BlockBalances = (L : ℕ) → InRange L → (first : List Single) (o : Opening) 
     → let b = step (play (fresh L) first) (open! o) .next in
     (p : ℕ) → Has (play b xs) p (story (begins (o .number)) b xs .number)
     → Balances (play b xs) p (accountOf (o .number) b xs noAccount)
+
+-- Its bytes are those of the records that its story tells as sent.
+abbrev pub BlockBytes : Type 0
+BlockBytes = (L : ℕ) → InRange L → (first : List Single) (o : Opening) (xs : List Single) → Since L first o xs
+    → let b = step (play (fresh L) first) (open! o) .next in
+    accountOf (o .number) b xs noAccount .bytes ≡ sum bytesCharged (story (begins (o .number)) b xs .sent)
 
 -- Until the counting stops, the counts of its place are its account.
 abbrev pub CountsOfBlock : Type 0

@@ -4,6 +4,7 @@ use mathlib.Core.Path.{_≡_, refl, sym, _∙_}
 use Prim.Native.Nat.{_-_, _≤_, _<_}
 use native.Mathlib.Omega.{arith}
 use lib.ListN.{length, length-set}
+use Rattle.board.specs.declared.Board.{Board}
 use Rattle.board.specs.Leaving.{Known}
 use Rattle.board.specs.Memory.{engineNow, withEngine}
 use Rattle.serving.proofs.Known.{can-known, sent-index}
@@ -44,22 +45,34 @@ served-of c = c .before .before .before
 abbrev sent-in : tie.Else1 Inv-loop μ-loop → tie.At-loop Inv-loop μ-loop
 sent-in c = round-of (served-of c .before)
 
+-- the board of a round
+abbrev board-in : tie.At-loop Inv-loop μ-loop → Board
+board-in c =
+    let r = c .loop in
+    withEngine (start-of c .args .b) (engineNow (r .starts) (r .counts) (r .deficits) (r .ready) (r .next) (r .heads) (r .tails) (r .held) (r .now))
+
 -- the list had room for it, it was within the bytes that remained, and its entry is one of a table
 room : (c : tie.Else1 Inv-loop μ-loop) → sent-in c .loop .count < length (sent-in c .loop .list)
 room c =
     let r = sent-in c .loop in
-    let bytes = start-of (sent-in c) .args .bytes .0 in
-    on-room _ _ _ (r .inv .1 .1 .1 .0) bytes (r .count) (r .total .0) (r .list) _ (served-of c .serve-within .ensures) (c .if1 .left)
+    let x = start-of (sent-in c) .args in
+    on-room (board-in (sent-in c)) (x .ids .now) (x .lens .now) (r .inv .1 .1 .1 .0) (x .bytes .0) (r .count) (r .total .0) (r .list) _
+    (served-of c .serve-within .ensures) (c .if1 .left)
 
 fits : (c : tie.Else1 Inv-loop μ-loop)
     → served-of c .serve-within .result .bytes .0 ≤ start-of (sent-in c) .args .bytes .0 - sent-in c .loop .total .0
 fits c =
     let r = sent-in c .loop in
-    let bytes = start-of (sent-in c) .args .bytes .0 in
-    on-fits _ _ _ (r .inv .1 .1 .1 .0) bytes (r .count) (r .total .0) (r .list) _ (served-of c .serve-within .ensures) (c .if1 .left)
+    let x = start-of (sent-in c) .args in
+    on-fits (board-in (sent-in c)) (x .ids .now) (x .lens .now) (r .inv .1 .1 .1 .0) (x .bytes .0) (r .count) (r .total .0) (r .list) _
+    (served-of c .serve-within .ensures) (c .if1 .left)
 
 inside : (c : tie.Else1 Inv-loop μ-loop) → served-of c .serve-within .result .entry < 2048
-inside c = sent-index _ _ _ (sent-in c .loop .inv .1 .1 .1 .0) _ _ _ (served-of c .serve-within .ensures) (c .if1 .left) .1
+inside c =
+    let r = sent-in c .loop in
+    let x = start-of (sent-in c) .args in
+    sent-index (board-in (sent-in c)) (x .ids .now) (x .lens .now) (r .inv .1 .1 .1 .0) (x .bytes .0 - r .total .0) (length (r .list) - r .count) _
+    (served-of c .serve-within .ensures) (c .if1 .left) .1
 
 numbers-of-requires : tie.Need-numbers-of-requires Inv-loop μ-loop
 numbers-of-requires c κs = search needs
@@ -81,7 +94,9 @@ sub-serve-within c =
     omega (arith, r .inv .0, r .inv .1 .0)
 
 serve-within-requires : tie.Need-serve-within-requires Inv-loop μ-loop
-serve-within-requires c κs = can-known _ _ _ (round-of c .loop .inv .1 .1 .1 .0)
+serve-within-requires c κs =
+    let x = start-of (round-of c) .args in
+    can-known (board-in (round-of c)) (x .ids .now) (x .lens .now) (round-of c .loop .inv .1 .1 .1 .0)
 
 packed-requires : tie.Need-packed-requires Inv-loop μ-loop
 packed-requires c κs = search needs
@@ -93,8 +108,12 @@ returns : tie.Need-returns Inv-loop μ-loop
 returns c =
     let stops = c .before in
     let served = stops .before .before .before in
-    let r = round-of (served .before) .loop in
-    burst-stop _ _ _ (r .inv .1 .1 .1 .0) _ _ _ _ _ (served .serve-within .ensures) (stops .if1 .taken) _ (c .packed .ensures) ∙ sym (r .inv .1 .1 .1 .1)
+    let round = round-of (served .before) in
+    let r = round .loop in
+    let x = start-of round .args in
+    burst-stop (board-in round) (x .ids .now) (x .lens .now) (r .inv .1 .1 .1 .0) (x .bytes .0) (r .count) (r .total .0) (r .list) _
+    (served .serve-within .ensures) (stops .if1 .taken) _ (c .packed .ensures)
+    ∙ sym (r .inv .1 .1 .1 .1)
 
 add-t26 : tie.Need-add-t26 Inv-loop μ-loop
 add-t26 c =
@@ -135,9 +154,10 @@ loop-again c =
     let served = served-of goes .serve-within .ensures in
     let left = goes .if1 .left in
     let r = sent-in goes .loop in
-    let bytes = start-of (sent-in goes) .args .bytes .0 in
-    let known = on-known _ _ _ (r .inv .1 .1 .1 .0) bytes (r .count) (r .total .0) (r .list) _ served left in
-    let on = burst-on _ _ _ (r .inv .1 .1 .1 .0) bytes (r .count) (r .total .0) (r .list) _ served left in
+    let x = start-of (sent-in goes) .args in
+    let b = board-in (sent-in goes) in
+    let known = on-known b (x .ids .now) (x .lens .now) (r .inv .1 .1 .1 .0) (x .bytes .0) (r .count) (r .total .0) (r .list) _ served left in
+    let on = burst-on b (x .ids .now) (x .lens .now) (r .inv .1 .1 .1 .0) (x .bytes .0) (r .count) (r .total .0) (r .list) _ served left in
     (omega (arith, room goes, r .inv .1 .0), (rw length-set (r .inv .1 .0), (omega (arith, fits goes, r .inv .1 .1 .0), (known, r .inv .1 .1 .1 .1 ∙ on))))
 
 pub burst-board-spec : {M : Type 1} → statement M

@@ -13,8 +13,18 @@ same-length c = search needs
 same-length-2 : tie.Need-same-length-2
 same-length-2 c = search needs
 
+-- from where the record is in, to the start: the arrays are copied, and then lent
+abbrev start-of : tie.After-record-in → tie.Start
+start-of c =
+    let copied = c .before .before .before .before .before .before .before .before .before .before .before in
+    copied .before .before .before .before .before .before .before .before .before .before
+
 returns : tie.Need-returns
-returns c = record-known _ _ _ (search needs) _ _ _ _ (c .before .before .before .before .record-in .ensures)
+returns c =
+    let at-record-in = c .before .before .before .before in
+    let start = start-of at-record-in in
+    let x = start .args in
+    record-known (x .b) (x .ids .now) (x .lens .now) (start .pre) (x .block) (x .id) (x .length) _ (at-record-in .record-in .ensures)
 
 pub take-record-spec : {M : Type 1} → statement M
 take-record-spec = tie.close (tie.spec record-in-requires same-length same-length-2 returns)

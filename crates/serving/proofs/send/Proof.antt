@@ -1,5 +1,7 @@
 -- `serving::send` meets its contract: each return is the case of a send for the tests that led there (sent-last,
 -- sent-on, sent-waits), and so is what is lost (lost-last, lost-none). Assumes nothing.
+use Prim.Native.Nat.{ℕ, _+_}
+use Rattle.board.specs.Memory.{Engine, engineNow, numbersNow}
 use Rattle.serving.proofs.Cases.{sent-last, sent-on, sent-waits, lost-last, lost-none}
 use Rattle.units.proofs.Classes.{class-le}
 use lib.ListN.{getD}
@@ -7,6 +9,13 @@ use native.Mathlib.Omega.{arith}
 use borrow.Author.Needs.{needs}
 use Rattle.serving.proofs.send.Statement.{statement}
 use Rattle.serving.proofs.send.Tie as tie
+
+-- the engine that is lent
+abbrev entering : tie.Start → Engine
+entering s =
+    let x = s .args in
+    engineNow (x .starts .now) (x .counts .now) (x .deficits .now) (x .ready .now) (x .next .now) (x .heads .now) (x .tails .now) (x .held .now)
+    (numbersNow (x .clock) (x .active) (x .pending) (x .place + 1) (x .left .0))
 
 mul-ring : tie.Need-mul-ring
 mul-ring c = search needs
@@ -91,10 +100,14 @@ returns c =
     let at-class-of = at-if1 .before in
     let at-onward = at-class-of .before .before .before .before .before in
     let at-charge = at-onward .before in
-    let at-entry = at-charge .before .before in (
-      sent-last _ _ _ _ _ _ _ _ (at-entry .entry .ensures .0) (at-charge .charge .ensures) (at-onward .onward .ensures) (at-class-of .class-of .ensures)
-          (at-if1 .if1 .taken) _ (c .end-empty .ensures),
-      lost-last _ _ _ _ _ (at-entry .entry .ensures .0) (at-charge .charge .ensures) (at-if1 .if1 .taken),
+    let at-entry = at-charge .before .before in
+    let start = at-entry .before .before .before in
+    let x = start .args in (
+      sent-last (x .shares .now) (x .lens .now) (x .place) (entering start) (at-entry .entry .result) (at-charge .charge .result .0) (at-onward .onward .result)
+          (at-class-of .class-of .result) (at-entry .entry .ensures .0) (at-charge .charge .ensures) (at-onward .onward .ensures)
+          (at-class-of .class-of .ensures) (at-if1 .if1 .taken) _ (c .end-empty .ensures),
+      lost-last (x .lens .now) (x .place) (entering start) (at-entry .entry .result) (at-charge .charge .result .0) (at-entry .entry .ensures .0)
+          (at-charge .charge .ensures) (at-if1 .if1 .taken),
     )
 
 entry-requires-2 : tie.Need-entry-requires-2
@@ -135,10 +148,14 @@ returns-2 c =
     let at-class-of = at-if1 .before in
     let at-onward = at-class-of .before .before .before .before .before in
     let at-charge = at-onward .before in
-    let at-entry = at-charge .before .before in (
-      sent-on _ _ _ _ _ _ _ _ (at-entry .entry .ensures .0) (at-charge .charge .ensures) (at-onward .onward .ensures) (at-class-of .class-of .ensures) _ _
-          (at-if1 .if1 .left) (at-entry2 .entry2 .ensures .0) (at-charge2 .charge2 .ensures) (c .if2 .taken),
-      lost-none _ _ _ (at-if1 .if1 .left),
+    let at-entry = at-charge .before .before in
+    let start = at-entry .before .before .before in
+    let x = start .args in (
+      sent-on (x .shares .now) (x .lens .now) (x .place) (entering start) (at-entry .entry .result) (at-charge .charge .result .0) (at-onward .onward .result)
+          (at-class-of .class-of .result) (at-entry .entry .ensures .0) (at-charge .charge .ensures) (at-onward .onward .ensures)
+          (at-class-of .class-of .ensures) (at-entry2 .entry2 .result) (at-charge2 .charge2 .result .0) (at-if1 .if1 .left) (at-entry2 .entry2 .ensures .0)
+          (at-charge2 .charge2 .ensures) (c .if2 .taken),
+      lost-none (x .lens .now) (x .place) (entering start) (at-if1 .if1 .left),
     )
 
 end-waiting-requires : tie.Need-end-waiting-requires
@@ -161,10 +178,14 @@ returns-3 c =
     let at-class-of = at-if1 .before in
     let at-onward = at-class-of .before .before .before .before .before in
     let at-charge = at-onward .before in
-    let at-entry = at-charge .before .before in (
-      sent-waits _ _ _ _ _ _ _ _ (at-entry .entry .ensures .0) (at-charge .charge .ensures) (at-onward .onward .ensures) (at-class-of .class-of .ensures) _ _
-          (at-if1 .if1 .left) (at-entry2 .entry2 .ensures .0) (at-charge2 .charge2 .ensures) (at-if2 .if2 .left) _ (c .end-waiting .ensures),
-      lost-none _ _ _ (at-if1 .if1 .left),
+    let at-entry = at-charge .before .before in
+    let start = at-entry .before .before .before in
+    let x = start .args in (
+      sent-waits (x .shares .now) (x .lens .now) (x .place) (entering start) (at-entry .entry .result) (at-charge .charge .result .0)
+          (at-onward .onward .result) (at-class-of .class-of .result) (at-entry .entry .ensures .0) (at-charge .charge .ensures) (at-onward .onward .ensures)
+          (at-class-of .class-of .ensures) (at-entry2 .entry2 .result) (at-charge2 .charge2 .result .0) (at-if1 .if1 .left) (at-entry2 .entry2 .ensures .0)
+          (at-charge2 .charge2 .ensures) (at-if2 .if2 .left) _ (c .end-waiting .ensures),
+      lost-none (x .lens .now) (x .place) (entering start) (at-if1 .if1 .left),
     )
 
 pub send-spec : {M : Type 1} → statement M
