@@ -1,6 +1,6 @@
 -- WHAT IS PROVED of the counts, over every run (document 02, Item 1).
 use mathlib.Core.Path.{_≡_}
-use mathlib.Core.Bool.{Bool, true, false, cond}
+use mathlib.Core.Bool.{true, false, cond}
 use mathlib.Core.Option.{some}
 use mathlib.Core.Logic.{_≢_}
 use mathlib.Core.List.{List, [], _∷_, _++_}
@@ -12,7 +12,7 @@ use Rattle.rules.specs.Board.{bytesCharged, Board, at, isOpen, Has, fresh}
 use Rattle.rules.specs.Choice.{Sending, Out, refused, done, taken, sent, Turn, leftOf}
 use Rattle.rules.specs.Blocks.{Opening}
 use Rattle.rules.specs.Calls.{Single, open!, step, codeOf}
-use Rattle.rules.specs.Runs.{play, answer, closes, numberAfter, shareOf, begins, story}
+use Rattle.rules.specs.Runs.{play, answer, numberAfter, shareOf, begins, story}
 use Rattle.rules.specs.Promises.{InRange}
 use Rattle.accounts.specs.Accounts.{Account, noAccount, got, creditAt, added, Counts, noCounts, counted, countRow}
 

@@ -1,6 +1,6 @@
 // Sets of classes, each as the bits of one u32: put in, take out, ask, and the lowest.
 ghost use mathlib.Core.Path.{_≡_};
-ghost use Prim.Native.Nat.{ℕ, _<_};
+ghost use Prim.Native.Nat.{_<_};
 ghost use Rattle.bits.specs.Sets.{inSet, withBit, withoutBit, lowestBit};
 
 // The set with class k.

@@ -1,9 +1,9 @@
 // Blocks: a board made with both tables cleared, and a block that is renamed, opened or closed. Arrays are lent one by
 // one, so that no board is copied.
 ghost use mathlib.Core.Path.{_≡_};
-ghost use Prim.Native.Nat.{ℕ, _+_, _-_, _*_, _^_, _<_, _≤_};
+ghost use Prim.Native.Nat.{ℕ, _+_, _-_, _<_, _≤_};
 ghost use mathlib.Core.List.{List};
-ghost use lib.ListN.{length, getD};
+ghost use lib.ListN.{getD};
 ghost use Rattle.board.specs.Memory.{blocksNow};
 ghost use Rattle.board.specs.Leaving.{returned};
 ghost use Rattle.blocks.specs.Blocks.{freshIn, renaming, renamedIn, answered, openedIn};

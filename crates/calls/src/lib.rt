@@ -4,7 +4,6 @@ ghost use Rattle.rules.specs.Blocks.{meant};
 ghost use Rattle.rules.specs.Calls.{open!, rename!, close!, record! };
 ghost use Rattle.calls.specs.Contract.{goodServe, burstNow, goodBurst, calledServe, calledBurst};
 ghost use Rattle.calls.specs.Promises.{called, made};
-ghost use Rattle.spoilt.specs.Early.{earlyCode};
 ghost use Rattle.board.specs.Leaving.{returned, Known, ruled};
 use board::Board;
 use board::Reply;

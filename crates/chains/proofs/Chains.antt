@@ -10,8 +10,8 @@ use lib.ListN.{length}
 use Rattle.base.proofs.Numbers.{eqb-no}
 use Rattle.rules.specs.Board
 use Rattle.rules.specs.Board.{fresh}
-use Rattle.rules.specs.Calls.{Single, Call, one, burst!, Answer, told, done! }
-use Rattle.rules.specs.Runs.{isServe, leaves, runs}
+use Rattle.rules.specs.Calls.{Single, Call, burst!, Answer, told, done! }
+use Rattle.rules.specs.Runs.{isServe, runs}
 use Rattle.board.specs.declared.Board as struct
 use Rattle.board.specs.Reading.{view}
 use Rattle.rules.specs.Choice.{Out, refused, done, taken, sent, Turn, send, serve}

@@ -10,7 +10,7 @@ use lib.Dec.{leb, eqb}
 use lib.ListN.{length}
 use Rattle.base.specs.Tests.{Decides}
 use Rattle.base.proofs.Decides.{d-iff, d-leb, d-eqb, d-not, d-and, d-or}
-use Rattle.base.proofs.Numbers.{split, eqb-yes, false-lt}
+use Rattle.base.proofs.Numbers.{split, eqb-yes}
 use Rattle.base.proofs.Tests.{and-left, and-right}
 use Rattle.rules.specs.Board
 use Rattle.rules.specs.Board.{tableLength, Record, Stand, out, queued, serving, at, depth, waits, usedShare, Has}

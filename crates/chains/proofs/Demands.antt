@@ -1,6 +1,6 @@
 -- THE THEOREMS: one for each proposition of specs/Demands.antt, in its order; those that speak of a passage, and has-life, stand in Passages.
 use mathlib.Core.Path.{_≡_, refl, sym, ap, ap₂, subst, _∙_}
-use mathlib.Core.Bool.{Bool, true, false, cond, not, _||_, true≢false, false≢true}
+use mathlib.Core.Bool.{Bool, true, false, cond, _||_, true≢false, false≢true}
 use mathlib.Core.Logic.{_⊎_, inl, inr, _≢_}
 use mathlib.Core.Option.{Option, none}
 use mathlib.Core.List.{List, [], _∷_, _++_, map, append-nil}
@@ -18,7 +18,7 @@ use Rattle.rules.specs.Burst.{Burst, burst}
 use Rattle.rules.specs.Calls.{Single, open!, rename!, close!, record!, serve!, step, Call, one, burst!, Sent, Answer, gives, takes, sends, bursts, told, codeOf}
 use Rattle.rules.specs.Calls.{make}
 use Rattle.rules.specs.Runs
-use Rattle.rules.specs.Runs.{play, runs, answer, laneOf, classAt, isFor, isDone, recordOf, clockOf, closes, isServe, Story, begins, goesOn, tells}
+use Rattle.rules.specs.Runs.{play, runs, answer, laneOf, classAt, isFor, isDone, recordOf, clockOf, isServe, Story, begins, goesOn, tells}
 use Rattle.rules.specs.Promises as Promised
 use Rattle.rules.specs.Promises.{OfRun, Accounted, bound}
 use Rattle.rules.proofs.Tidy.{Tidy}

@@ -1,6 +1,5 @@
 // The writer of a listing's lines: each from the front of a lent buffer, which is longer than any line.
-ghost use mathlib.Core.Path.{_≡_};
-ghost use mathlib.Core.List.{List, [], _∷_};
+ghost use mathlib.Core.List.{[], _∷_};
 ghost use Prim.Native.Nat.{_+_, _≤_};
 ghost use lib.ListN.{length, take};
 ghost use Rattle.lines.specs.Text.{decimal, columns, lineOf, Written, Line};

@@ -9,7 +9,6 @@ use lib.Dec.{leb}
 use Rattle.log.specs.declared.Stage.the-variants.{BeforeL}
 use Rattle.log.specs.declared.Event.{Event}
 use Rattle.log.specs.declared.Event.the-variants.{Largest}
-use Rattle.log.specs.declared.Next.{Next}
 use Rattle.log.specs.declared.Next.the-variants.{GoesOn}
 use Rattle.log.specs.Format.{isL, inTurn}
 use Rattle.log.specs.Rows.{nextAt}

@@ -14,8 +14,8 @@ use Rattle.log.specs.declared.End.the-variants.{Whole as whole, Broken a
 use Rattle.log.specs.declared.Next.{Next}
 use Rattle.log.specs.declared.Next.the-variants.{GoesOn, Ends}
 use Rattle.log.specs.Format.{pastL, stageAfter, fieldAt, isLong, isWhole, isFramed}
-use Rattle.log.specs.Rows.{WholeField, Reading, only, andThen, atEnd, nextAt, endsLong, follow, readUpTo}
-use Rattle.log.specs.Rows.{readFrom, readLog, Reads, InRow, endOf, stageOf, NoL, LFirst, RowOf}
+use Rattle.log.specs.Rows.{WholeField, Reading, andThen, atEnd, nextAt, endsLong, follow, readUpTo}
+use Rattle.log.specs.Rows.{readFrom, readLog, Reads, InRow, endOf, stageOf, NoL, LFirst}
 use Rattle.log.specs.Laws.{HasReading, OneReading, Enough, ReadStep, ReadWhole, ReadEnds, LogRow, LongLog, EmptyLog}
 use Rattle.log.proofs.Fields.{differ, whole-is, whole-next, broken-at}
 use Rattle.log.proofs.Stages.{turn-later, turn-first, past-after}

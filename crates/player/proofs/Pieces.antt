@@ -2,7 +2,7 @@
 use mathlib.Core.Path.{_≡_, refl, sym, ap, ap₂, subst, _∙_}
 use mathlib.Core.Bool.{Bool, true, false, cond, not, _&&_, _||_, true≢false, false≢true}
 use mathlib.Core.Logic.{_⊎_, inl, inr, _≢_}
-use mathlib.Core.List.{List, [], _∷_, _++_, append-assoc, append-nil}
+use mathlib.Core.List.{List, [], _++_, append-assoc, append-nil}
 use Prim.Native.Nat.{ℕ, _+_, _-_, _/_, _^_, _≤_, _<_}
 use native.Mathlib.Omega.{arith}
 use native.Mathlib.Decide.{ℕ-discrete}
@@ -12,7 +12,7 @@ use borrow.Author.Tests.{le-ltb}
 use Rattle.base.proofs.Numbers.{true-le}
 use Rattle.base.proofs.Tests.{and-left, and-right}
 use Rattle.rules.specs.Board
-use Rattle.rules.specs.Board.{Place, fresh}
+use Rattle.rules.specs.Board.{Place}
 use Rattle.rules.specs.Calls.{wrongTables}
 use Rattle.board.specs.declared.Board as struct
 use Rattle.board.specs.Reading.{encode, view, isSound}
@@ -34,7 +34,7 @@ use Rattle.lines.specs.Text.{Written, Line}
 use Rattle.lines.proofs.Texts.{none, then, from-front}
 use Rattle.arrays.specs.Lists.{totalOf, zeroed}
 use Rattle.arrays.proofs.Totals.{total-map}
-use Rattle.board.specs.Leaving.{Returned, returned, Known}
+use Rattle.board.specs.Leaving.{Returned, returned}
 use Rattle.spoilt.specs.Early.{earlyCode}
 use Rattle.board.proofs.Tables.{right-tables, none-wrong}
 use Rattle.spoilt.proofs.Before.{sound-known, early-none}
@@ -45,7 +45,7 @@ use Rattle.listing_rules.proofs.Listing.{listing-whole, listing-ends, listing-f
 use Rattle.player.specs.declared.State.{State}
 use Rattle.player.specs.declared.Piece.{Piece}
 use Rattle.fields.specs.Fields.{Memory, memory, reads, KnownMemory, FieldPlayed}
-use Rattle.player.specs.Pieces.{beforeFirst, readTo, restOf, restAfter, unfit, pieceCode, CanGoOn, refusedPiece, endedPiece, PieceDone, PieceOf, Pieces}
+use Rattle.player.specs.Pieces.{beforeFirst, readTo, restOf, restAfter, unfit, pieceCode, refusedPiece, endedPiece, PieceDone, PieceOf, Pieces}
 use Rattle.player.specs.Pieces.{last, more, howMany, Roomy}
 use Rattle.player.specs.Pieces.{PiecesListing, PiecesFew}
 

@@ -3,11 +3,11 @@ use mathlib.Core.Path.{_≡_, refl, sym, ap, subst, _∙_}
 use mathlib.Core.Bool.{Bool, true, false, cond}
 use mathlib.Core.Logic.{_⊎_, inl, inr}
 use mathlib.Core.List.{List, [], _∷_, _++_}
-use Prim.Native.Nat.{ℕ, zero, suc, _+_, _*_, _-_, _^_, _≤_, _<_}
+use Prim.Native.Nat.{ℕ, zero, suc, _+_, _-_, _^_, _≤_, _<_}
 use native.Mathlib.Omega.{arith}
 use lib.ListN.{length}
 use lib.Dec.{ltb}
-use lib.IntN.{ℤ, pos, negsuc, _-ℤ_, natAbs}
+use lib.IntN.{pos, negsuc, _-ℤ_, natAbs}
 use Rattle.base.proofs.Numbers.{true-le, split}
 use Rattle.rules.specs.Board.{Board, at, isOpen, fresh}
 use Rattle.rules.specs.Blocks.{meant}
@@ -31,7 +31,7 @@ use Rattle.log.proofs.Readings.{log-row, long-log}
 use Rattle.report_lines.specs.Text.{accountLine}
 use Rattle.report_lines.proofs.Fitting.{counted-fits}
 use Rattle.report_rules.specs.Report.{Reporting, unmade, fieldCounted, difference, placeLine, reportEnd, reportOn, reportOf}
-use Rattle.report_rules.specs.Laws.{callIn, callsIn, runOf, ReportOfRun, LBegins, LinesShort}
+use Rattle.report_rules.specs.Laws.{callIn, callsIn, ReportOfRun, LBegins, LinesShort}
 
 abbrev on : Board → Counts → Reporting
 on b c = record { board = b; counts = c }

@@ -1,16 +1,16 @@
 -- What the tests of the checks decide, in words of open blocks, lanes, shares and holds.
 use mathlib.Core.Path.{_≡_, refl, sym, ap, _∙_}
 use mathlib.Core.Bool.{Bool, true, false, not, true≢false, false≢true}
-use mathlib.Core.Logic.{_⊎_, inl, inr, _≢_}
+use mathlib.Core.Logic.{_≢_}
 use mathlib.Core.Option.{none}
 use mathlib.Core.List.{List, [], _∷_}
 use Prim.Native.Nat.{ℕ, zero, suc, _+_, _≤_, _<_}
 use native.Mathlib.Omega.{arith}
-use lib.Dec.{leb, ltb, eqb}
+use lib.Dec.{ltb, eqb}
 use lib.ListN.{length, getD}
 use Rattle.base.specs.Tests.{Decides}
 use Rattle.base.proofs.Decides.{d-iff, d-leb}
-use Rattle.base.proofs.Numbers.{split, leb-yes, true-le, eqb-no}
+use Rattle.base.proofs.Numbers.{leb-yes, true-le, eqb-no}
 use Rattle.base.proofs.Tests.{least-none, least-false}
 use Rattle.rules.specs.Board.{Record, Place, freePlace, Board, at, waits, someWait, usedShare, freeShare, Has}
 use Rattle.rules.specs.Choice.{whereIs, noneHas, someHas, leastReady}

@@ -1,20 +1,18 @@
 -- What a send tells is what it did.
 use mathlib.Core.Path.{_≡_, refl, sym, ap, subst, _∙_}
-use mathlib.Core.Bool.{Bool, true, false, cond, true≢false, false≢true}
-use mathlib.Core.Option.{Option, none, some}
+use mathlib.Core.Bool.{Bool, true, false, cond, false≢true}
+use mathlib.Core.Option.{none}
 use mathlib.Core.List.{List, [], _∷_, _++_}
-use Prim.Native.Nat.{ℕ, suc, _+_, _*_, _-_, _≤_, _<_}
+use Prim.Native.Nat.{ℕ, _+_, _*_, _-_, _≤_}
 use native.Mathlib.Omega.{arith}
 use lib.Dec.{leb, ltb}
 use lib.ListN.{length, getD, set, drop}
 use lib.Seq.{getD-set-same}
-use Rattle.base.proofs.Numbers.{true-le, false-lt}
-use Rattle.units.specs.Credit.{creditOf, largestCharge}
-use Rattle.rules.specs.Board.{Record, noRecord, bytesCharged, Stand, out, queued, serving, Place, freePlace, Board, at, firstEntry, entry, front}
+use Rattle.rules.specs.Board.{noRecord, bytesCharged, Stand, out, queued, serving, Place, freePlace, Board, at, firstEntry, entry, front}
 use Rattle.rules.specs.Board.{blockClass}
-use Rattle.rules.specs.Choice.{Sending, sending, Out, refused, done, taken, sent, Turn, upd, isNone, leftOf, leftAfter, lostAt}
+use Rattle.rules.specs.Choice.{Sending, sending, Out, refused, done, taken, sent, upd, isNone, leftOf, leftAfter, lostAt}
 use Rattle.rules.specs.Choice.{emptied, short, going, started, ended, goOn, sendFrom, send, begin, chosen, serve}
-use Rattle.rules.specs.Spoilt.{isQueued, isServing, isAt}
+use Rattle.rules.specs.Spoilt.{isQueued, isServing}
 use Rattle.rules.specs.Promises.{inHand, SendTells}
 use Rattle.rules.proofs.Shape.{queued-in}
 use Rattle.rules.proofs.Slot.{serving-ok, serving-in, serving-not-queued}

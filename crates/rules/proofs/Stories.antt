@@ -11,7 +11,7 @@ use Rattle.rules.specs.Board.{Record, Place, freePlace, Board, at, Has}
 use Rattle.rules.specs.Choice.{Out, refused, done, taken, sent, Turn, goOn}
 use Rattle.rules.specs.Blocks.{Opening, opened, freeAt}
 use Rattle.rules.specs.Calls.{Single, open!, step, told, codeOf}
-use Rattle.rules.specs.Runs.{play, answer, closes, takenFor, isFor, sentFor, Story, begins, goesOn, tells, story}
+use Rattle.rules.specs.Runs.{play, answer, closes, takenFor, isFor, sentFor, Story, begins, tells, story}
 use Rattle.rules.specs.Promises.{Accounted}
 use Rattle.rules.proofs.Turns.{fromPlace}
 use Rattle.rules.proofs.Tidy.{Tidy}

@@ -11,7 +11,7 @@ use lib.ListN.{length, getD, set, drop}
 use Rattle.base.proofs.Numbers.{true-le, false-lt, eqb-no}
 use Rattle.rules.specs.Spoilt.{isQueued, isServing, readyNum, isAt}
 use Rattle.rules.specs.Board.{noRecord, onward, bytesCharged, Place, blockClass, front, Board, at}
-use Rattle.rules.specs.Choice.{upd, leftOf, release, settle, started, emptied, short, going, ended, goOn, sendFrom, send, begin, lowest}
+use Rattle.rules.specs.Choice.{upd, leftOf, release, settle, started, emptied, short, going, ended, goOn, sendFrom, begin, lowest}
 use Rattle.rules.specs.Blocks.{quiet}
 use Rattle.rules.proofs.Orders.{pl}
 use Rattle.rules.proofs.Shape.{Shape, PlaceOk, names-kept, shape-same, shape-join, shape-clock, shape-begin, settle-le, release-le, Chosen, choose}

@@ -1,6 +1,6 @@
 -- The front record is sent and the slot ends or goes on: the engine's steps are the rules' steps, on what is written for a board.
 use mathlib.Core.Path.{_≡_, refl, sym, ap, ap₂, _∙_}
-use mathlib.Core.Bool.{Bool, true, false, cond, not, _&&_, true≢false, false≢true}
+use mathlib.Core.Bool.{Bool, true, false, cond, not, _&&_, true≢false}
 use mathlib.Core.Logic.{_≢_}
 use mathlib.Core.Option.{Option, none, some}
 use mathlib.Core.List.{List, [], _∷_, _++_}
@@ -19,7 +19,7 @@ use Rattle.units.specs.Classes.{classOf, nextStart}
 use Rattle.units.proofs.Classes.{class-le}
 use Rattle.units.proofs.Starts.{next-gt, next-start}
 use Rattle.rules.specs.Board
-use Rattle.rules.specs.Board.{Stand, out, queued, serving, Place, freePlace, blockClass, waits, at, onward, anyDue, anyWaits, dueBy}
+use Rattle.rules.specs.Board.{Place, freePlace, blockClass, waits, at, onward, anyDue, anyWaits, dueBy}
 use Rattle.rules.specs.Choice.{upd, leftOf, leftAfter, leastReady, isNone, release, settle, emptied, short, going, ended, goOn}
 use Rattle.rules.specs.Spoilt.{count, isQueued, isServing, readyNum, isAt}
 use Rattle.rules.proofs.Orders.{pl, map-set, upd-same, upd-other, InOrders}

@@ -9,7 +9,7 @@ use native.Mathlib.Omega.{arith}
 use native.Mathlib.Numerals.{add-one}
 use native.Mathlib.Decide.{ℕ-discrete}
 use lib.Dec.{eqb, leb, ltb}
-use lib.ListN.{length, getD, set, drop, List·getD-map, length-drop}
+use lib.ListN.{length, getD, set, drop, length-drop}
 use lib.Seq.{getD-set-same, getD-set-other, getD-drop}
 use borrow.Author.Tests.{eq-eqb, ne-eqb, lt-ltb, le-ltb}
 use Rattle.base.specs.Sums.{oneIf}
@@ -42,7 +42,7 @@ use Rattle.slots.specs.declared.Choice.the-variants.{Stop, Go}
 use Rattle.board.specs.Memory.{Engine, engineOf, withEngine}
 use Rattle.slots.specs.Slots.{choice, choiceOf, chosenClass, slotClock, CanChoose, CanBegin, openedSlot, opened}
 use Rattle.serving.specs.Serving.{sentFrom, lostFrom, CanSend, enacted, CanEnact, CanServe}
-use Rattle.board.proofs.Fields.{number-is, share-is, start-is, count-is, deficit-is}
+use Rattle.board.proofs.Fields.{share-is, start-is, count-is, deficit-is}
 use Rattle.slots.proofs.Sets as sets
 use Rattle.slots.proofs.Choosing.{choice-is}
 use Rattle.slots.proofs.Beginning.{begin-is}

@@ -3,14 +3,12 @@
 use mathlib.Core.Path.{_≡_}
 use mathlib.Core.Bool.{Bool, false, cond}
 use mathlib.Core.List.{List}
-use Prim.Native.Nat.{ℕ, zero, suc, _+_, _-_, _*_, _/_, _%_, _^_, _≤_, _<_}
+use Prim.Native.Nat.{ℕ, _+_, _-_, _^_, _≤_, _<_}
 use lib.Dec.{ltb, leb, eqb}
-use lib.ListN.{getD, set, length, replicate}
-use Rattle.bits.specs.Sets.{withBit, withoutBit, lowestBit}
-use Rattle.units.specs.Classes.{classOf, nextStart}
-use Rattle.units.specs.Credit.{charged, chargeOf, creditOf}
+use lib.ListN.{getD, set, length}
+use Rattle.units.specs.Classes.{classOf}
+use Rattle.units.specs.Credit.{charged, chargeOf}
 use Rattle.lanes.specs.Lanes.{laneEntry, laneOn}
-use Rattle.board.specs.declared.Board.{Board}
 use Rattle.board.specs.declared.After.{After}
 use Rattle.board.specs.Memory.{Queues, queuesNow, Engine, engineNow, numbersNow}
 use Rattle.slots.specs.declared.Choice.{Choice}

@@ -1,6 +1,6 @@
 // Serving: the slot that serves sends its front record. Arrays are lent one by one, so that no board is copied.
 ghost use mathlib.Core.Path.{_≡_};
-ghost use Prim.Native.Nat.{_+_, _-_, _*_, _<_};
+ghost use Prim.Native.Nat.{_+_, _-_, _<_};
 ghost use lib.ListN.{getD};
 ghost use Rattle.units.specs.Classes.{classOf};
 ghost use Rattle.board.specs.Memory.{queuesNow, engineNow, numbersNow};

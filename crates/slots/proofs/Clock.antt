@@ -23,7 +23,7 @@ use Rattle.rules.proofs.Orders.{pl, ready, InOrders, any-due, due-any, in-head}
 use Rattle.rules.proofs.Shape.{SeatP, listed-in}
 use Rattle.board.specs.Reading.{tab, firstLink}
 use Rattle.board.proofs.Lists.{getD-tab, tab-ext, tab-set}
-use Rattle.slots.specs.Slots.{Turned, turnedNow, passed, turnedFrom, turned}
+use Rattle.slots.specs.Slots.{turnedNow, passed, turnedFrom, turned}
 use Rattle.slots.proofs.Sets.{true-or}
 
 -- ---- Of which classes a start is passed

@@ -3,13 +3,12 @@
 use mathlib.Core.Path.{_≡_}
 use mathlib.Core.Bool.{cond}
 use mathlib.Core.List.{List}
-use Prim.Native.Nat.{ℕ, zero, suc, _+_, _-_, _*_, _/_, _%_, _^_, _≤_, _<_}
+use Prim.Native.Nat.{ℕ, zero, suc, _+_, _-_, _/_, _^_, _≤_, _<_}
 use lib.Dec.{ltb, leb, eqb}
-use lib.ListN.{getD, set, length, replicate}
+use lib.ListN.{getD, set, replicate}
 use Rattle.bits.specs.Sets.{withBit, withoutBit, lowestBit}
 use Rattle.units.specs.Classes.{classOf, nextStart}
-use Rattle.units.specs.Credit.{charged, chargeOf, creditOf}
-use Rattle.board.specs.declared.Board.{Board}
+use Rattle.units.specs.Credit.{creditOf}
 use Rattle.board.specs.declared.After.{After}
 use Rattle.board.specs.Memory.{Queues, queuesNow, Engine, numbersNow, ordersNow}
 use Rattle.taking.specs.Taking.{joinedOrders}

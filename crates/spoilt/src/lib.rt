@@ -1,6 +1,6 @@
 // The spoilt test: lanes, the open slot and the whole test, which is passed exactly by the boards that are not spoilt.
 ghost use mathlib.Core.Path.{_≡_};
-ghost use Prim.Native.Nat.{ℕ, _<_};
+ghost use Prim.Native.Nat.{_<_};
 ghost use lib.ListN.{length};
 ghost use Rattle.spoilt.specs.Test.{tablesWhole, lengthInRange, laneInRange, lanesInRange, slotOpen};
 ghost use Rattle.spoilt.specs.Test.{slotInRange, orderRules, soundTest};

@@ -1,7 +1,7 @@
 // The class orders and sets, for the spoilt test: each order is followed once, from its head.
 ghost use mathlib.Core.Path.{_≡_};
 ghost use mathlib.Core.Bool.{cond};
-ghost use Prim.Native.Nat.{ℕ, _<_, _≤_};
+ghost use Prim.Native.Nat.{_<_, _≤_};
 ghost use Rattle.bits.specs.Sets.{withBit};
 ghost use Rattle.spoilt_orders.specs.Walks.{clockInRange, ofClass, readyInRange, blockInRange, walk};
 ghost use Rattle.spoilt_orders.specs.Walks.{blocksInOrder, ordersListed, classActive, classPending};

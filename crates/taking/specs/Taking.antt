@@ -9,7 +9,7 @@ use lib.ListN.{getD, set, length}
 use Rattle.bits.specs.Sets.{withBit}
 use Rattle.units.specs.Classes.{classOf, nextStart}
 use Rattle.lanes.specs.Lanes.{laneDepth, laneEntry}
-use Rattle.board.specs.Memory.{Orders, ordersNow, Taking, taking, Seen}
+use Rattle.board.specs.Memory.{Orders, Taking, taking, Seen}
 use Rattle.rules.specs.Choice.{Taken}
 use Rattle.finding.specs.Finding.{foundIn, byFound}
 use Rattle.taking.specs.declared.AfterTaking.{AfterTaking}

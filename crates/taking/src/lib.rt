@@ -1,6 +1,6 @@
 // Taking a record (rule 1): its place has one more, and where its lane was empty its block joins its class's order.
 ghost use mathlib.Core.Path.{_≡_};
-ghost use Prim.Native.Nat.{_+_, _-_, _*_, _<_, _≤_};
+ghost use Prim.Native.Nat.{_+_, _-_, _<_, _≤_};
 ghost use lib.ListN.{length, getD, set};
 ghost use Rattle.board.specs.Memory.{ordersNow, taking, seen};
 ghost use Rattle.taking.specs.Taking.{joinedOrders, takenAt, TakeNeeds, RecordNeeds, notTaken, tookTells};

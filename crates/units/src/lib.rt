@@ -1,7 +1,7 @@
 // The units of the rules: parts and bytes, the class of a share, the starts of a class, the charge of a record and the
 // credit of a slot.
 ghost use mathlib.Core.Path.{_≡_};
-ghost use Prim.Native.Nat.{ℕ, _^_, _<_, _≤_};
+ghost use Prim.Native.Nat.{_^_, _<_, _≤_};
 ghost use Rattle.units.specs.Classes.{classOf, nextStart};
 ghost use Rattle.units.specs.Credit.{charged, largestCharge, chargeOf, creditOf};
 use numbers::GREATEST_SHARE;

@@ -4,7 +4,6 @@ use Rattle.arrays.proofs.Loops.{Summed, summed-none, summed-more, summe
 use lib.ListN.{length}
 use native.Mathlib.Omega.{arith}
 use Prim.Native.Nat.{_-_, _^_}
-use denote.Ref.{now}
 use borrow.Author.Needs.{needs}
 use Rattle.arrays.proofs.sum.Statement.{statement}
 use Rattle.arrays.proofs.sum.Tie as tie

@@ -1,7 +1,7 @@
 -- `bits::lowest` meets its contract: the loop keeps that no class below k is in the set, so that the first one found is
 -- the least, and 32 where none is (least-found, least-none). Assumes nothing.
 use mathlib.Core.Path.{_≡_, sym, _∙_}
-use mathlib.Core.Bool.{true, false}
+use mathlib.Core.Bool.{false}
 use Prim.Native.Nat.{ℕ, _-_, _≤_, _<_}
 use native.Mathlib.Omega.{arith}
 use borrow.Author.Needs.{needs}

@@ -1,6 +1,5 @@
 -- `board::blank` meets its contract: what is written of a fresh board is computed, and all of it but L is 0.
 -- Assumes nothing.
-use mathlib.Core.Path.{refl}
 use Rattle.rules.specs.Board.{fresh, anyWaits, anyDue}
 use Rattle.bits.specs.Sets.{setBelow}
 use Rattle.board.specs.Reading.{encode, tab, behind, lastLink}

@@ -1,7 +1,7 @@
 -- `counting::counts_fit` meets its contract: the loop keeps that the accounts below p fit, and the first that does not
 -- ends it (all-more, all-stop). Assumes nothing.
 use mathlib.Core.Bool.{true}
-use mathlib.Core.Path.{_∙_, _≡_, sym}
+use mathlib.Core.Path.{_≡_, sym}
 use Prim.Native.Nat.{_-_, _≤_}
 use native.Mathlib.Omega.{arith}
 use borrow.Author.Needs.{needs}

@@ -1,6 +1,6 @@
 -- `serving::send` meets its contract: each return is the case of a send for the tests that led there (sent-last,
 -- sent-on, sent-waits), and so is what is lost (lost-last, lost-none). Assumes nothing.
-use Prim.Native.Nat.{ℕ, _+_}
+use Prim.Native.Nat.{_+_}
 use Rattle.board.specs.Memory.{Engine, engineNow, numbersNow}
 use Rattle.serving.proofs.Cases.{sent-last, sent-on, sent-waits, lost-last, lost-none}
 use Rattle.units.proofs.Classes.{class-le}

@@ -1,7 +1,6 @@
 -- `units::credit` meets its contract: the factors are those of the definition, and the product fits, since share x 2^k
 -- is under two lines and L small (class-hi, charge-small, credit-fits). Assumes nothing.
-use mathlib.Core.Path.{_≡_}
-use Prim.Native.Nat.{ℕ, _*_, _^_, _<_}
+use Prim.Native.Nat.{_*_, _^_}
 use native.Mathlib.Omega.{arith}
 use Rattle.units.specs.Classes.{classOf}
 use Rattle.units.specs.Credit.{creditOf}
