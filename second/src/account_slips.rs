@@ -69,13 +69,7 @@ mod tests {
     use crate::log::Reader;
     use crate::report::{report_fields, Counting};
     use crate::report_case::ReportCase;
-
-    /// The lines of a stored log.
-    macro_rules! stored {
-        ($name:literal) => {
-            include_str!(concat!("../../tests/logs/", $name, ".txt"))
-        };
-    }
+    use crate::slipped::{first_difference, stored};
 
     fn report_with(slips: AccountSlips, text: &str) -> String {
         let case = ReportCase::read(text).unwrap();
@@ -86,24 +80,19 @@ mod tests {
         report_fields(counting, reader).to_string()
     }
 
-    /// The first line in which the report with a slip differs: the right line, and the line with the slip.
-    fn first_difference(slips: AccountSlips, text: &str) -> [String; 2] {
-        let right = report_with(AccountSlips::default(), text);
-        let slipped = report_with(slips, text);
-        let mut pairs = right.lines().zip(slipped.lines());
-        let (right, slipped) = pairs.find(|(right, slipped)| right != slipped).expect("the slip shows");
-        [right.to_string(), slipped.to_string()]
+    fn told_by(slips: AccountSlips, text: &str) -> [String; 2] {
+        first_difference(&report_with(AccountSlips::default(), text), &report_with(slips, text))
     }
 
     #[test]
     fn a_slot_counted_at_each_send_is_too_many_slots() {
         let slips = AccountSlips { slot_counted_at_each_send: true, ..AccountSlips::default() };
         assert_eq!(
-            first_difference(slips.clone(), stored!("report-deficit")),
+            told_by(slips.clone(), stored!("report-deficit")),
             ["11 2 19660800 260 -2621440 0", "11 3 19660800 260 -2621440 0"]
         );
         assert_eq!(
-            first_difference(slips, stored!("report-rename")),
+            told_by(slips, stored!("report-rename")),
             ["51 2 19660800 250 -3276800 3276800", "51 4 19660800 250 -3276800 3276800"]
         );
     }
@@ -112,11 +101,11 @@ mod tests {
     fn counts_that_survive_a_close_go_to_the_next_block_with_that_number() {
         let slips = AccountSlips { counts_survive_a_close: true, ..AccountSlips::default() };
         assert_eq!(
-            first_difference(slips.clone(), stored!("report-reopen")),
+            told_by(slips.clone(), stored!("report-reopen")),
             ["11 0 0 0 0 0", "11 3 19660800 210 -5898240 5898240"]
         );
         assert_eq!(
-            first_difference(slips, stored!("report-reopen-elsewhere")),
+            told_by(slips, stored!("report-reopen-elsewhere")),
             ["11 1 6553600 90 -655360 655360", "11 2 13107200 150 -3276800 3276800"]
         );
     }
@@ -125,11 +114,11 @@ mod tests {
     fn counts_lost_at_a_rename_are_missing_at_the_end() {
         let slips = AccountSlips { counts_lost_at_a_rename: true, ..AccountSlips::default() };
         assert_eq!(
-            first_difference(slips.clone(), stored!("report-rename")),
+            told_by(slips.clone(), stored!("report-rename")),
             ["51 2 19660800 250 -3276800 3276800", "51 0 0 0 0 0"]
         );
         assert_eq!(
-            first_difference(slips, stored!("report-rename-swap")),
+            told_by(slips, stored!("report-rename-swap")),
             ["12 3 19660800 210 -5898240 5898240", "12 1 6553600 10 -5898240 5898240"]
         );
     }
@@ -138,11 +127,11 @@ mod tests {
     fn a_deficit_or_an_open_slots_rest_that_counts_as_lost_is_too_much() {
         let slips = AccountSlips { lost_while_the_lane_is_not_empty: true, ..AccountSlips::default() };
         assert_eq!(
-            first_difference(slips.clone(), stored!("report-deficit")),
+            told_by(slips.clone(), stored!("report-deficit")),
             ["11 2 19660800 260 -2621440 0", "11 2 19660800 260 -2621440 17694720"]
         );
         assert_eq!(
-            first_difference(slips, stored!("report-open-slot")),
+            told_by(slips, stored!("report-open-slot")),
             ["11 1 9830400 100 -3276800 0", "11 1 9830400 100 -3276800 9830400"]
         );
     }
@@ -151,7 +140,7 @@ mod tests {
     fn lost_as_it_was_before_the_send_is_too_much() {
         let slips = AccountSlips { lost_before_the_send: true, ..AccountSlips::default() };
         assert_eq!(
-            first_difference(slips, stored!("report-places")),
+            told_by(slips, stored!("report-places")),
             ["40 1 4194304 60 -262144 262144", "40 1 4194304 60 -262144 4194304"]
         );
     }
@@ -160,13 +149,10 @@ mod tests {
     fn an_open_slot_left_out_makes_the_block_get_more_than_its_due() {
         let slips = AccountSlips { open_slot_left_out: true, ..AccountSlips::default() };
         assert_eq!(
-            first_difference(slips.clone(), stored!("report-open-slot")),
+            told_by(slips.clone(), stored!("report-open-slot")),
             ["11 1 9830400 100 -3276800 0", "11 0 0 100 6553600 0"]
         );
-        assert_eq!(
-            first_difference(slips, stored!("end-in-slot")),
-            ["11 1 9830400 50 -6553600 0", "11 0 0 50 3276800 0"]
-        );
+        assert_eq!(told_by(slips, stored!("end-in-slot")), ["11 1 9830400 50 -6553600 0", "11 0 0 50 3276800 0"]);
     }
 
     #[test]
@@ -174,7 +160,7 @@ mod tests {
         let slips = AccountSlips { full_at_the_limit: true, ..AccountSlips::default() };
         let exact = include_str!("../../tests/report_cases/exact.txt");
         assert_eq!(
-            first_difference(slips, exact),
+            told_by(slips, exact),
             ["7 1099511627776 4611686018427387904 70368744177660 -262144 262144", "full"]
         );
     }

@@ -25,6 +25,8 @@ pub mod programs;
 pub mod report;
 pub mod report_case;
 #[cfg(test)]
+mod slipped;
+#[cfg(test)]
 mod slips;
 pub mod spoilt;
 #[cfg(test)]

@@ -76,13 +76,7 @@ mod tests {
     use crate::log::Reader;
     use crate::log_text;
     use crate::play::play_fields;
-
-    /// The lines of a stored log.
-    macro_rules! stored {
-        ($name:literal) => {
-            include_str!(concat!("../../tests/logs/", $name, ".txt"))
-        };
-    }
+    use crate::slipped::{first_difference, stored};
 
     fn listing_with(slips: Slips, text: &str) -> String {
         let log = log_text::bytes(text).unwrap();
@@ -92,19 +86,14 @@ mod tests {
         listing::text(&play_fields(engine, reader))
     }
 
-    /// The first line in which the listing with a slip differs: the right line, and the line with the slip.
-    fn first_difference(slips: Slips, text: &str) -> [String; 2] {
-        let right = listing_with(Slips::default(), text);
-        let slipped = listing_with(slips, text);
-        let mut pairs = right.lines().zip(slipped.lines());
-        let (right, slipped) = pairs.find(|(right, slipped)| right != slipped).expect("the slip shows");
-        [right.to_string(), slipped.to_string()]
+    fn told_by(slips: Slips, text: &str) -> [String; 2] {
+        first_difference(&listing_with(Slips::default(), text), &listing_with(slips, text))
     }
 
     #[test]
     fn a_block_pending_in_the_interval_of_filling_has_two_slots_in_it() {
         let slips = Slips { pending_in_the_interval_of_filling: true, ..Slips::default() };
-        assert_eq!(first_difference(slips.clone(), stored!("interval")), ["out 7 1 64 2", "out 7 1 64 0"]);
+        assert_eq!(told_by(slips.clone(), stored!("interval")), ["out 7 1 64 2", "out 7 1 64 0"]);
         // The next slot, at 1, is in the same interval of class 1, from 0 to 2.
         assert!(listing_with(slips, stored!("interval")).contains("out 7 2 64 1\n"));
     }
@@ -112,25 +101,25 @@ mod tests {
     #[test]
     fn a_deficit_that_survives_lengthens_a_later_slot_of_the_block_or_of_the_places_next_owner() {
         let slips = Slips { deficit_survives: true, ..Slips::default() };
-        assert_eq!(first_difference(slips.clone(), stored!("deficit-emptied")), ["out 11 3 100 6", "out 11 3 100 4"]);
-        assert_eq!(first_difference(slips, stored!("deficit-owner")), ["out 12 3 100 6", "out 12 3 100 4"]);
+        assert_eq!(told_by(slips.clone(), stored!("deficit-emptied")), ["out 11 3 100 6", "out 11 3 100 4"]);
+        assert_eq!(told_by(slips, stored!("deficit-owner")), ["out 12 3 100 6", "out 12 3 100 4"]);
     }
 
     #[test]
     fn a_dropped_fraction_of_credit_costs_a_record_its_slot() {
         let slips = Slips { fraction_of_credit_dropped: true, ..Slips::default() };
-        assert_eq!(first_difference(slips, stored!("fraction")), ["out 9 4 64 4", "out 9 4 64 6"]);
+        assert_eq!(told_by(slips, stored!("fraction")), ["out 9 4 64 4", "out 9 4 64 6"]);
     }
 
     #[test]
     fn a_clock_that_jumps_for_the_highest_class_skips_a_start() {
         let slips = Slips { clock_jumps_for_highest_class: true, ..Slips::default() };
-        assert_eq!(first_difference(slips, stored!("jump")), ["out 4 4 2048 4", "out 4 4 2048 65536"]);
+        assert_eq!(told_by(slips, stored!("jump")), ["out 4 4 2048 4", "out 4 4 2048 65536"]);
     }
 
     #[test]
     fn a_number_stored_with_the_record_strands_it_at_a_rename() {
         let slips = Slips { number_stored_with_record: true, ..Slips::default() };
-        assert_eq!(first_difference(slips, stored!("rename-queued")), ["out 21 1 100 2", "out 11 5 100 2"]);
+        assert_eq!(told_by(slips, stored!("rename-queued")), ["out 21 1 100 2", "out 11 5 100 2"]);
     }
 }

@@ -34,12 +34,14 @@ time c = c .chosen2 .given .0 .1 .0
 goes : (c : tie.After-chosen2) → choiceOf (entering (start-of c)) ≡ Go (place c) (time c)
 goes c = sym (c .before .before .choose .ensures) ∙ c .chosen2 .given .1
 
+-- it can send
 can-enact : (c : tie.After-chosen2)
     → CanEnact (start-of c .args .shares .now) (start-of c .args .lens .now) (start-of c .args .largest) (place c) (time c) (entering (start-of c))
 can-enact c = start-of c .pre .enacts (place c) (time c) (goes c)
 
-read : (c : tie.After-chosen2) → (place c < 64) × (length (start-of c .args .lens .now) ≡ 2048)
-read c =
+-- its lane is in the table
+in-table : (c : tie.After-chosen2) → (place c < 64) × (length (start-of c .args .lens .now) ≡ 2048)
+in-table c =
     let x = start-of c .args in can-read (x .shares .now) (x .lens .now) (x .largest) (place c) (time c) (entering (start-of c)) (can-enact c)
 
 choose-requires : tie.Need-choose-requires
@@ -66,13 +68,13 @@ returns c =
     (goes at-chosen2) (c .stay2 .result) (at-if1 .if1 .taken) (c .stay2 .ensures)
 
 mul-entry : tie.Need-mul-entry
-mul-entry c = let h = read (c .before .before) .0 in search needs
+mul-entry c = let h = in-table (c .before .before) .0 in search needs
 
 element-copy-out-entry : tie.Need-element-copy-out-entry
-element-copy-out-entry c = read (c .before .before) .0
+element-copy-out-entry c = in-table (c .before .before) .0
 
 entry-requires : tie.Need-entry-requires
-entry-requires c κs = read (c .before .before .before) .0
+entry-requires c κs = in-table (c .before .before .before) .0
 
 mul-t31 : tie.Need-mul-t31
 mul-t31 c = omega (arith, c .entry .ensures .1)
@@ -80,7 +82,7 @@ mul-t31 c = omega (arith, c .entry .ensures .1)
 shared-slice-read-t34 : tie.Need-shared-slice-read-t34
 shared-slice-read-t34 c =
     let at-entry = c .before in
-    omega (arith, at-entry .entry .ensures .1, read (at-entry .before .before .before .before) .1)
+    omega (arith, at-entry .entry .ensures .1, in-table (at-entry .before .before .before .before) .1)
 
 cast-t36 : tie.Need-cast-t36
 cast-t36 c =
