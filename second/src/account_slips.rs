@@ -73,7 +73,7 @@ mod tests {
 
     fn report_with(slips: AccountSlips, text: &str) -> String {
         let case = ReportCase::read(text).unwrap();
-        let (largest, reader) = Reader::begin(&case.log).unwrap();
+        let (largest, reader) = Reader::new(&case.log, 0).begin().unwrap();
         let beginnings = case.beginnings();
         let mut counting = Counting::new(largest, &beginnings);
         counting.accounts.slips = slips;

@@ -1,8 +1,9 @@
 //! The lines of a listing.
 
-use std::fmt;
+use std::fmt::{self, Write};
 
 use crate::engine::Sent;
+use crate::log::Stop;
 use crate::numbers::Bytes;
 
 #[derive(Clone, Copy, Debug, PartialEq, Eq)]
@@ -14,8 +15,7 @@ pub enum Line {
     Out(Sent),
     NothingOut { code: u32 },
     End { clock: u64, sent: Bytes, waiting: usize },
-    Broken { offset: usize },
-    Long,
+    Stopped(Stop),
 }
 
 impl fmt::Display for Line {
@@ -28,13 +28,25 @@ impl fmt::Display for Line {
             Line::Out(sent) => write!(out, "out {} {} {} {}", sent.block, sent.record, sent.length, sent.clock),
             Line::NothingOut { code } => write!(out, "out - {code}"),
             Line::End { clock, sent, waiting } => write!(out, "end {clock} {} {waiting}", sent.0),
-            Line::Broken { offset } => write!(out, "broken {offset}"),
-            Line::Long => write!(out, "long"),
+            Line::Stopped(stop) => write!(out, "{stop}"),
+        }
+    }
+}
+
+impl fmt::Display for Stop {
+    fn fmt(&self, out: &mut fmt::Formatter) -> fmt::Result {
+        match self {
+            Stop::Broken { offset } => write!(out, "broken {offset}"),
+            Stop::Long => write!(out, "long"),
         }
     }
 }
 
 /// The listing as it is written: every line ends with one byte 10.
 pub fn text(lines: &[Line]) -> String {
-    lines.iter().map(|line| format!("{line}\n")).collect()
+    let mut text = String::new();
+    for line in lines {
+        writeln!(text, "{line}").expect("a text takes any line");
+    }
+    text
 }

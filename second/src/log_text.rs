@@ -8,14 +8,14 @@ use crate::words::{number, word_lines};
 
 /// The bytes of a log as lines.
 pub fn text(log: &[u8]) -> String {
-    let Ok((largest, mut reader)) = Reader::begin(log) else {
+    let Ok((largest, mut reader)) = Reader::new(log, 0).begin() else {
         return raw_line(log);
     };
     let mut lines = field_line(&Field::Largest { largest: largest as u16 });
     while let Some(Ok(field)) = reader.next() {
         lines.push_str(&field_line(&field));
     }
-    lines.push_str(&raw_line(&log[reader.offset()..]));
+    lines.push_str(&raw_line(&log[reader.read()..]));
     lines
 }
 
@@ -28,6 +28,9 @@ fn field_line(field: &Field) -> String {
         Field::Record { block, number, length } => format!("record {block} {number} {length}\n"),
         Field::Serve => "serve\n".to_string(),
         Field::Other { tag, value: [] } => format!("other {tag}\n"),
+        Field::Other { tag, value } if value.iter().all(|&byte| byte == 0) => {
+            format!("other {tag} zeros {}\n", value.len())
+        }
         Field::Other { tag, value } => format!("other {tag} {}\n", hex(value)),
     }
 }
@@ -68,6 +71,9 @@ pub fn write_line(log: &mut Vec<u8>, words: &[&str]) -> Result<(), String> {
         ["other", tag] => Field::Other { tag: passed_over_tag(tag)?, value: &[] }.write(log),
         ["other", tag, value] => {
             Field::Other { tag: passed_over_tag(tag)?, value: &passed_over_value(value)? }.write(log)
+        }
+        ["other", tag, "zeros", count] => {
+            Field::Other { tag: passed_over_tag(tag)?, value: &vec![0; short(count)?.into()] }.write(log)
         }
         ["raw", bytes] => log.extend(bytes_of_hex(bytes)?),
         _ => return Err(format!("{} is not a line of a log", words.join(" "))),

@@ -3,16 +3,18 @@
 use crate::codes::code_of;
 use crate::engine::{Engine, Record};
 use crate::listing::Line;
-use crate::log::{Field, Reader, LONGEST_LOG};
+use crate::log::{Field, Reader};
 use crate::numbers::{charged_bytes, Bytes};
 
 pub fn play(log: &[u8]) -> Vec<Line> {
-    if log.len() > LONGEST_LOG {
-        return vec![Line::Long];
-    }
-    match Reader::begin(log) {
+    play_at(log, 0)
+}
+
+/// The listing of a log whose first byte has this offset.
+pub fn play_at(log: &[u8], first: u64) -> Vec<Line> {
+    match Reader::new(log, first).begin() {
         Ok((largest, reader)) => play_fields(Engine::fresh(largest), reader),
-        Err(broken) => vec![Line::Broken { offset: broken.offset }],
+        Err(stop) => vec![Line::Stopped(stop)],
     }
 }
 
@@ -23,8 +25,8 @@ pub fn play_fields(mut engine: Engine, reader: Reader) -> Vec<Line> {
     for field in reader {
         match field {
             Ok(field) => lines.extend(play_field(&mut engine, &mut sent_bytes, field)),
-            Err(broken) => {
-                lines.push(Line::Broken { offset: broken.offset });
+            Err(stop) => {
+                lines.push(Line::Stopped(stop));
                 return lines;
             }
         }

@@ -8,26 +8,41 @@ use std::path::{Path, PathBuf};
 
 /// Answers the log on standard input, or each NAME.log of the folder that the first argument names, to NAME.ENDING.
 pub fn answer_logs(ending: &str, answer: impl Fn(&[u8]) -> String) -> Result<(), String> {
-    match env::args_os().nth(1) {
-        None => write(answer(&input()?).as_bytes()),
-        Some(folder) => answer_folder(Path::new(&folder), ending, answer).map_err(|error| error.to_string()),
-    }
+    answer_files("log", ending, |log| (answer(log), Ok(())))
 }
 
-fn answer_folder(folder: &Path, ending: &str, answer: impl Fn(&[u8]) -> String) -> io::Result<()> {
-    for log in logs_of(folder)? {
-        fs::write(log.with_extension(ending), answer(&fs::read(&log)?))?;
+/// Answers standard input, or each NAME.FROM of the folder that the first argument names, to NAME.TO. An answer may
+/// come with a message: it is then all that can be said.
+pub fn answer_files(
+    from: &str,
+    to: &str,
+    answer: impl Fn(&[u8]) -> (String, Result<(), String>),
+) -> Result<(), String> {
+    let Some(folder) = env::args_os().nth(1) else {
+        let (text, whole) = answer(&input()?);
+        write(text.as_bytes())?;
+        return whole;
+    };
+    for path in files_of(Path::new(&folder), from)? {
+        let (text, whole) = answer(&read(&path)?);
+        fs::write(path.with_extension(to), text).map_err(|error| error.to_string())?;
+        whole.map_err(|message| format!("{}: {message}", path.display()))?;
     }
     Ok(())
 }
 
-/// Each NAME.log of a folder, by name.
-pub fn logs_of(folder: &Path) -> io::Result<Vec<PathBuf>> {
-    let paths: io::Result<Vec<PathBuf>> = fs::read_dir(folder)?.map(|entry| Ok(entry?.path())).collect();
-    let mut logs: Vec<PathBuf> =
-        paths?.into_iter().filter(|path| path.extension() == Some(OsStr::new("log"))).collect();
-    logs.sort();
-    Ok(logs)
+/// Each NAME.ENDING of a folder, by name.
+pub fn files_of(folder: &Path, ending: &str) -> Result<Vec<PathBuf>, String> {
+    let paths: io::Result<Vec<PathBuf>> =
+        fs::read_dir(folder).and_then(|entries| entries.map(|entry| Ok(entry?.path())).collect());
+    let mut files = paths.map_err(|error| error.to_string())?;
+    files.retain(|path| path.extension() == Some(OsStr::new(ending)));
+    files.sort();
+    Ok(files)
+}
+
+pub fn read(path: &Path) -> Result<Vec<u8>, String> {
+    fs::read(path).map_err(|error| format!("{}: {error}", path.display()))
 }
 
 /// A program that plays a text: NAME answers it, NAME bytes writes its byte form.

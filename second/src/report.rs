@@ -4,7 +4,7 @@ use std::fmt;
 
 use crate::account::{Account, Accounts, Full};
 use crate::engine::{Engine, Record};
-use crate::log::{Field, Reader, LONGEST_LOG};
+use crate::log::{Field, Reader, Stop};
 use crate::numbers::PLACES;
 
 #[derive(Clone, Debug, PartialEq, Eq)]
@@ -12,10 +12,8 @@ pub enum Report {
     /// The blocks open at the end, by place, each with its account.
     Blocks(Vec<(u32, Account)>),
     Full,
-    Broken {
-        offset: usize,
-    },
-    Long,
+    /// Neither whole nor full: the line that ends the listing too.
+    Stopped(Stop),
 }
 
 /// Every line ends with one byte 10. Without an open block there is no line.
@@ -27,8 +25,7 @@ impl fmt::Display for Report {
                 writeln!(out, "{block} {slots} {} {} {} {}", credit.0, sent.0, account.difference(), lost.0)
             }),
             Report::Full => writeln!(out, "full"),
-            Report::Broken { offset } => writeln!(out, "broken {offset}"),
-            Report::Long => writeln!(out, "long"),
+            Report::Stopped(stop) => writeln!(out, "{stop}"),
         }
     }
 }
@@ -42,18 +39,20 @@ pub fn from_nothing() -> Beginnings {
 
 /// The report of a log, as it is written.
 pub fn report(log: &[u8]) -> String {
-    report_from(log, &from_nothing()).to_string()
+    report_at(log, 0)
+}
+
+/// The report of a log whose first byte has this offset, as it is written.
+pub fn report_at(log: &[u8], first: u64) -> String {
+    report_from(Reader::new(log, first), &from_nothing()).to_string()
 }
 
 /// The report of a log whose blocks begin with these accounts. The first line that ends it decides: nothing after it is
 /// looked at.
-pub fn report_from(log: &[u8], beginnings: &Beginnings) -> Report {
-    if log.len() > LONGEST_LOG {
-        return Report::Long;
-    }
-    match Reader::begin(log) {
+pub fn report_from(log: Reader, beginnings: &Beginnings) -> Report {
+    match log.begin() {
         Ok((largest, reader)) => report_fields(Counting::new(largest, beginnings), reader),
-        Err(broken) => Report::Broken { offset: broken.offset },
+        Err(stop) => Report::Stopped(stop),
     }
 }
 
@@ -63,7 +62,7 @@ pub fn report_fields(mut counting: Counting, reader: Reader) -> Report {
         match field.map(|field| counting.take(field)) {
             Ok(Ok(())) => {}
             Ok(Err(Full)) => return Report::Full,
-            Err(broken) => return Report::Broken { offset: broken.offset },
+            Err(stop) => return Report::Stopped(stop),
         }
     }
     Report::Blocks(counting.blocks())

@@ -1,9 +1,10 @@
-//! A log whose blocks don't begin with empty accounts, to reach what no log that fits can reach: `full`.
+//! A log whose blocks don't begin with empty accounts, to reach what only a log of over 2^38 bytes can reach: `full`.
 //!
 //! Its text is a line `counts PLACE SLOTS CREDIT BYTES LOST` for each place on which blocks begin with these numbers,
 //! and behind them the lines of the log. It has a byte form too.
 
 use crate::account::{Account, MOST_CREDIT};
+use crate::log::Reader;
 use crate::log_text;
 use crate::numbers::{Bytes, Parts, LEAST_LARGEST, PARTS_PER_BYTE, PLACES};
 use crate::report::{from_nothing, report_from, Beginnings, Report};
@@ -41,7 +42,7 @@ impl ReportCase {
     }
 
     pub fn report(&self) -> Report {
-        report_from(&self.log, &self.beginnings())
+        report_from(Reader::new(&self.log, 0), &self.beginnings())
     }
 
     pub fn beginnings(&self) -> Beginnings {

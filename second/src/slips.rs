@@ -80,7 +80,7 @@ mod tests {
 
     fn listing_with(slips: Slips, text: &str) -> String {
         let log = log_text::bytes(text).unwrap();
-        let (largest, reader) = Reader::begin(&log).unwrap();
+        let (largest, reader) = Reader::new(&log, 0).begin().unwrap();
         let mut engine = Engine::make(largest).unwrap();
         engine.slips = slips;
         listing::text(&play_fields(engine, reader))

@@ -3,7 +3,7 @@
 use std::collections::BTreeSet;
 
 use second::listing::{self, Line};
-use second::log::LONGEST_LOG;
+use second::log::Stop;
 use second::log_text;
 use second::maker::log_shapes::LOG_SHAPES;
 use second::maker::random::Random;
@@ -101,21 +101,24 @@ fn a_later_field_that_is_not_whole_is_broken_where_it_begins() {
 
 #[test]
 fn passed_over_tags_have_any_length_and_no_line() {
-    let long_value = "ab".repeat(30_000);
-    let text = format!("largest 100\nother 128\nother 255 00\nother 200 {long_value}\nserve\n");
+    let largest_value = "ab".repeat(65_535);
+    let text = format!("largest 100\nother 128\nother 255 00\nother 200 {largest_value}\nserve\n");
     assert_eq!(listing_of_text(&text), "out - 1\nend 0 0 0\n");
+    assert_eq!(listing_of_text(&text.replace("serve", "raw 00")), format!("broken {}\n", 5 + 3 + 4 + 3 + 65_535));
 }
 
 #[test]
-fn a_log_over_32_768_bytes_is_long_whatever_it_holds() {
-    let mut log = WORKED_LOG.to_vec();
-    log.extend([255, 0x7f, 0x8f]);
-    log.resize(LONGEST_LOG, 0);
-    assert_eq!(listing(&log), WORKED_LISTING);
-    log.push(0);
-    assert_eq!(listing(&log), "long\n");
-    assert_eq!(listing(&vec![0; LONGEST_LOG]), "broken 0\n");
-    assert_eq!(listing(&vec![0; LONGEST_LOG + 1]), "long\n");
+fn a_log_goes_on_as_ever_behind_any_number_of_bytes() {
+    for passed_over in [32_640, 32_650, 32_660, 65_535] {
+        let (largest, after_largest) = WORKED_LOG.split_at(5);
+        let length = (passed_over as u16).to_be_bytes();
+        let log = [largest, &[128], &length, &vec![5; passed_over], after_largest].concat();
+        assert_eq!(listing(&log), WORKED_LISTING, "{passed_over}");
+        let many = [&log[..], &log[5..], &log[5..]].concat();
+        assert!(listing(&many).starts_with(WORKED_LISTING.trim_end_matches("end 9 460 0\n")), "{passed_over}");
+        assert!(listing(&many).lines().last().unwrap().starts_with("end "), "{passed_over}");
+    }
+    assert_eq!(listing(&vec![0; 100_000]), "broken 0\n");
 }
 
 /// The kind of a line and its code, as far as it has one.
@@ -128,14 +131,14 @@ fn kind_and_code(line: &Line) -> (&'static str, u32) {
         Line::Out(_) => ("out", 0),
         Line::NothingOut { code } => ("out", code),
         Line::End { .. } => ("end", 0),
-        Line::Broken { .. } => ("broken", 0),
-        Line::Long => ("long", 0),
+        Line::Stopped(Stop::Broken { .. }) => ("broken", 0),
+        Line::Stopped(Stop::Long) => ("long", 0),
     }
 }
 
-/// All that a log can reach. Code 11 needs a clock that no log of this length reaches.
+/// All that a log in memory can reach. Code 11 needs a clock of 2^62, and a start moves it by 2^16 at most.
 fn reachable() -> BTreeSet<(&'static str, u32)> {
-    let kinds: [(&str, &[u32]); 8] = [
+    let kinds: [(&str, &[u32]); 7] = [
         ("open", &[0, 4, 5, 7, 8]),
         ("close", &[0, 6, 10]),
         ("name", &[0, 4, 5, 6]),
@@ -143,7 +146,6 @@ fn reachable() -> BTreeSet<(&'static str, u32)> {
         ("out", &[0, 1]),
         ("end", &[0]),
         ("broken", &[0]),
-        ("long", &[0]),
     ];
     kinds.iter().flat_map(|(kind, codes)| codes.iter().map(|&code| (*kind, code))).collect()
 }
@@ -169,13 +171,19 @@ fn each_shape_reaches_what_it_is_named_for() {
             let log = shape(seed);
             let last = *play(&log).last().unwrap();
             match name {
-                "over" => assert!(log.len() == LONGEST_LOG + 1 && last == Line::Long),
-                "long" => assert!(log.len() > LONGEST_LOG + 1 && last == Line::Long),
-                "broken-exact" => assert!(log.len() == LONGEST_LOG && matches!(last, Line::Broken { .. })),
-                "exact" => assert!(log.len() == LONGEST_LOG && matches!(last, Line::End { .. })),
-                "changed" => assert!(matches!(last, Line::End { .. } | Line::Broken { .. })),
-                _ if name.starts_with("broken") => assert!(matches!(last, Line::Broken { .. }), "{name} {seed}"),
-                _ => assert!(log.len() <= LONGEST_LOG && matches!(last, Line::End { .. }), "{name} {seed}"),
+                "changed" => assert!(matches!(last, Line::End { .. } | Line::Stopped(Stop::Broken { .. }))),
+                "broken-large" => assert!(matches!(last, Line::Stopped(Stop::Broken { offset: 65_536.. })), "{seed}"),
+                _ if name.starts_with("broken") => {
+                    assert!(matches!(last, Line::Stopped(Stop::Broken { .. })), "{name} {seed}")
+                }
+                _ => assert!(matches!(last, Line::End { .. }), "{name} {seed}"),
+            }
+            match name {
+                "large" => assert!(log.len() >= 90_000, "{seed}"),
+                "round" | "broken-round" => {
+                    assert!((log.len() - 1..=log.len() + 1).any(usize::is_power_of_two), "{name} {seed}")
+                }
+                _ => {}
             }
         }
         for (name, code) in [
@@ -235,7 +243,8 @@ fn a_log_reads_as_lines() {
     assert_eq!(log_text::text(&WORKED_LOG[..20]), "largest 100\nopen 11 32768\nraw 01000800\n");
     assert_eq!(log_text::text(&[5, 0, 0, 255]), "raw 050000ff\n");
     assert_eq!(log_text::text(&[]), "");
-    let lines = "largest 64\nother 128\nother 200 0aff\nrename 1 2\nclose 4294967295\nrecord 1 2 3\nserve\nraw 0500\n";
+    let lines = "largest 64\nother 128\nother 200 0aff\nother 255 zeros 65535\nrename 1 2\nclose 4294967295
+record 1 2 3\nserve\nraw 0500\n";
     assert_eq!(log_text::text(&log_text::bytes(lines).unwrap()), lines);
 }
 
@@ -253,6 +262,10 @@ fn lines_that_are_no_lines_of_a_log_are_refused_by_their_number() {
         "other 127",
         "other 256",
         "other 128 0",
+        "other 127 zeros 1",
+        "other 128 zeros",
+        "other 128 zeros 65536",
+        "other 128 ones 1",
         "raw",
         "raw 0",
         "raw 0g",

@@ -1,4 +1,4 @@
-//! The five programs, run as they are.
+//! The six programs, run as they are.
 
 use std::fs;
 use std::io::Write;
@@ -7,6 +7,7 @@ use std::process::{Command, Output, Stdio};
 
 const SECOND: &str = env!("CARGO_BIN_EXE_second");
 const CASES: &str = env!("CARGO_BIN_EXE_cases");
+const FEED_CASE: &str = env!("CARGO_BIN_EXE_feed_case");
 const MAKER: &str = env!("CARGO_BIN_EXE_maker");
 const REPORT: &str = env!("CARGO_BIN_EXE_report");
 const REPORT_CASE: &str = env!("CARGO_BIN_EXE_report_case");
@@ -45,7 +46,7 @@ fn a_log_written_by_hand_is_made_and_played() {
     assert_eq!(output_of(REPORT, &[], &log), b"11 1 6553600 100 0 0\n");
     for program in [SECOND, REPORT] {
         assert_eq!(output_of(program, &[], b""), b"broken 0\n");
-        assert_eq!(output_of(program, &[], &[0; 40_000]), b"long\n");
+        assert_eq!(output_of(program, &[], &[0; 100_000]), b"broken 0\n");
     }
 }
 
@@ -67,13 +68,47 @@ fn a_folder_of_logs_is_made_and_played_as_one_log_is() {
 }
 
 #[test]
+fn a_folder_of_logs_is_cut_and_answered_as_one_log_is() {
+    let folder = Path::new(env!("CARGO_TARGET_TMPDIR")).join("cuts");
+    fs::create_dir_all(&folder).unwrap();
+    output_of(MAKER, &["logs", "tiny", "2", folder.to_str().unwrap()], b"");
+    for kind in ["listing", "report"] {
+        output_of(MAKER, &["cuts", kind, "5", folder.to_str().unwrap()], b"");
+        output_of(FEED_CASE, &[folder.to_str().unwrap()], b"");
+        for name in ["tiny-1", "tiny-2"] {
+            let file = |ending: &str| fs::read(folder.join(format!("{name}.{ending}"))).unwrap();
+            assert_eq!(file("cuts"), output_of(MAKER, &["cuts", kind, "5"], &file("log")));
+            assert_eq!(file("answers"), output_of(FEED_CASE, &[], &file("cuts")));
+        }
+    }
+    let told = String::from_utf8(output_of(MAKER, &["feed_stories", folder.to_str().unwrap()], b"")).unwrap();
+    assert!(told.lines().any(|row| row == "tiny-1 byte-by-byte"), "{told}");
+    fs::remove_dir_all(&folder).unwrap();
+}
+
+#[test]
+fn a_feed_case_file_that_is_cut_is_answered_as_far_as_it_is_whole() {
+    let file = output_of(MAKER, &["cuts", "listing", "1"], b"");
+    let output = run(FEED_CASE, &[], &file[..file.len() - 1]);
+    assert!(!output.status.success() && !output.stderr.is_empty());
+    assert_eq!(output.stdout, b"broken 0\n--\n".repeat(4));
+}
+
+#[test]
+fn a_season_is_written_as_it_is_made() {
+    let log = output_of(MAKER, &["season", "1", "300000"], b"");
+    assert!(log.len() >= 300_000);
+    assert!(output_of(SECOND, &[], &log).windows(5).any(|line| line == b"\nend "));
+}
+
+#[test]
 fn the_stories_of_a_folder_are_told_by_name() {
     let folder = Path::new(env!("CARGO_TARGET_TMPDIR")).join("stories");
     fs::create_dir_all(&folder).unwrap();
     output_of(MAKER, &["logs", "emptied", "2", folder.to_str().unwrap()], b"");
-    output_of(MAKER, &["logs", "over", "1", folder.to_str().unwrap()], b"");
+    output_of(MAKER, &["logs", "cut", "1", folder.to_str().unwrap()], b"");
     let told = output_of(MAKER, &["stories", folder.to_str().unwrap()], b"");
-    assert_eq!(told, b"emptied-1 empty\nemptied-2 empty\nover-1 long\n");
+    assert_eq!(told, b"cut-1 broken\nemptied-1 empty\nemptied-2 empty\n");
     fs::remove_dir_all(&folder).unwrap();
 }
 
@@ -108,6 +143,7 @@ fn every_shape_that_is_listed_is_made_and_played() {
                 assert!(output_of(REPORT_CASE, &[], &made).ends_with(b"\n"), "{name}");
                 assert!(output_of(REPORT_CASE, &["bytes"], &made).starts_with(&[4]), "{name}");
             }
+            "feed_case" => assert!(output_of(FEED_CASE, &[], &made).ends_with(b"--\n"), "{name}"),
             _ => panic!("{line} is not a shape"),
         }
     }
@@ -115,7 +151,7 @@ fn every_shape_that_is_listed_is_made_and_played() {
 
 #[test]
 fn what_cannot_be_read_is_refused_with_a_message_and_no_output() {
-    let tries: [(&str, &[&str], &[u8]); 20] = [
+    let tries: [(&str, &[&str], &[u8]); 27] = [
         (CASES, &[], b"case a\nclock x\n"),
         (CASES, &["bytes"], b"case a\nmake 1\nclock x\n"),
         (CASES, &[], &[255, 254]),
@@ -134,6 +170,13 @@ fn what_cannot_be_read_is_refused_with_a_message_and_no_output() {
         (REPORT_CASE, &["bytes"], b"largest 64\ncounts 0 0 0 0 0\n"),
         (REPORT_CASE, &[], &[255, 254]),
         (MAKER, &["cases", "tiny", "1"], b""),
+        (MAKER, &["feed_case", "tiny", "1"], b""),
+        (MAKER, &["cuts", "log", "1"], b""),
+        (MAKER, &["cuts", "listing", "1", "/no/such/folder"], b""),
+        (MAKER, &["feed_stories", "/no/such/folder"], b""),
+        (MAKER, &["season", "1"], b""),
+        (FEED_CASE, &["/no/such/folder"], b""),
+        (FEED_CASE, &[], &[2]),
         (MAKER, &["bytes"], b"serve\nbogus\n"),
         (MAKER, &["bytes"], &[255, 254]),
     ];

@@ -7,7 +7,7 @@ use std::path::{Path, PathBuf};
 use second::account::{Account, Accounts, Full, MOST_CREDIT};
 use second::engine::{Block, Engine, Told};
 use second::listing::{self, Line};
-use second::log::{Field, Reader, LONGEST_LOG};
+use second::log::{Field, Reader, Stop, LOG_END};
 use second::log_text;
 use second::maker::log_maker::field_of;
 use second::maker::log_shapes::LOG_SHAPES;
@@ -17,7 +17,7 @@ use second::maker::stories::stories;
 use second::maker::traffic::{Call, Habits, Traffic};
 use second::numbers::{credit, Bytes, Parts};
 use second::play::play;
-use second::report::{from_nothing, report, Counting, Report};
+use second::report::{from_nothing, report, report_at, report_from, Counting, Report};
 use second::report_case::ReportCase;
 
 fn project() -> &'static Path {
@@ -72,14 +72,15 @@ fn a_broken_or_long_log_has_the_last_line_of_its_listing_for_a_report() {
             let log = shape(seed);
             let last = *play(&log).last().unwrap();
             match last {
-                Line::Broken { .. } | Line::Long => assert_eq!(report(&log), format!("{last}\n"), "{name} {seed}"),
+                Line::Stopped(stop) => assert_eq!(report(&log), format!("{stop}\n"), "{name} {seed}"),
                 _ => assert!(!report(&log).contains(char::is_alphabetic), "{name} {seed}"),
             }
         }
     }
     assert_eq!(report(&[]), "broken 0\n");
-    assert_eq!(report(&[0; LONGEST_LOG]), "broken 0\n");
-    assert_eq!(report(&[0; LONGEST_LOG + 1]), "long\n");
+    assert_eq!(report(&[0; 100_000]), "broken 0\n");
+    assert_eq!(report_at(&[6, 0, 2, 0, 64, 5, 0, 0], LOG_END - 7), "long\n");
+    assert_eq!(report_at(&[6, 0, 2, 0, 64, 5, 1, 0], LOG_END - 8), format!("broken {}\n", LOG_END - 3));
     assert_eq!(report(&[6, 0, 2, 0, 64]), "", "no block is open");
 }
 
@@ -95,7 +96,7 @@ struct ByHand {
 /// Each `out` line tells bytes, and a slot if its clock is not that of the block's last line. Only calls that are done
 /// open, close and rename.
 fn by_hand(log: &[u8]) -> BTreeMap<u32, ByHand> {
-    let (_, reader) = Reader::begin(log).unwrap();
+    let (_, reader) = Reader::new(log, 0).begin().unwrap();
     let fields = reader.map(Result::unwrap).filter(|field| !matches!(field, Field::Other { .. }));
     let mut blocks = BTreeMap::new();
     for (field, line) in fields.zip(play(log)) {
@@ -129,7 +130,7 @@ fn a_report_is_what_its_listing_adds_up_to() {
             if !matches!(play(&log).last(), Some(Line::End { .. })) {
                 continue;
             }
-            let (largest, _) = Reader::begin(&log).unwrap();
+            let (largest, _) = Reader::new(&log, 0).begin().unwrap();
             let mut counted = by_hand(&log);
             for line in report(&log).lines() {
                 let words: Vec<&str> = line.split(' ').collect();
@@ -289,7 +290,7 @@ fn no_board_differs_for_full() {
     let mut reached = 0;
     for seed in 1..=100 {
         let case = ReportCase::read(&REPORT_CASE_SHAPES[0].1(seed)).unwrap();
-        let (largest, reader) = Reader::begin(&case.log).unwrap();
+        let (largest, reader) = Reader::new(&case.log, 0).begin().unwrap();
         let (handed_in, nothing) = (case.beginnings(), from_nothing());
         let mut near = Counting::new(largest, &handed_in);
         let mut plain = Counting::new(largest, &nothing);
@@ -302,7 +303,7 @@ fn no_board_differs_for_full() {
     assert!(reached > 50, "full is reached {reached} times");
 }
 
-/// The first met decides, and a log that is too long is not read at all.
+/// The first met decides, of full, broken and long.
 #[test]
 fn what_is_met_first_decides() {
     let counts = "counts 0 1099511627775 4611686018423193601 70368744177600 1\n";
@@ -310,10 +311,10 @@ fn what_is_met_first_decides() {
     assert_eq!(report_of_case(&format!("{counts}{log}")), "full\n");
     assert_eq!(report_of_case(&format!("{counts}{log}raw 00\n")), "full\n");
     assert_eq!(report_of_case(&format!("{counts}largest 64\nopen 7 65536\nraw 00\nserve\n")), "broken 16\n");
-    let long = format!("{counts}{log}other 128 {}\n", "00".repeat(LONGEST_LOG - 32 - 3 + 1));
-    assert_eq!(report_of_case(&long), "long\n");
-    let exact = format!("{counts}{log}other 128 {}\n", "00".repeat(LONGEST_LOG - 32 - 3));
-    assert_eq!(report_of_case(&exact), "full\n");
+    let case = ReportCase::read(&format!("{counts}{log}serve\n")).unwrap();
+    let report_from_offset = |first| report_from(Reader::new(&case.log, first), &case.beginnings()).to_string();
+    assert_eq!(report_from_offset(LOG_END - 32), "full\n", "the field that fills ends just before 2^48");
+    assert_eq!(report_from_offset(LOG_END - 31), "long\n");
 }
 
 #[test]
@@ -392,7 +393,7 @@ fn made_report_cases_come_on_both_sides_of_the_limit() {
     let reports: Vec<Report> =
         (1..=60).map(|seed| ReportCase::read(&REPORT_CASE_SHAPES[0].1(seed)).unwrap().report()).collect();
     let full = reports.iter().filter(|report| **report == Report::Full).count();
-    let broken = reports.iter().filter(|report| matches!(report, Report::Broken { .. })).count();
+    let broken = reports.iter().filter(|report| matches!(report, Report::Stopped(Stop::Broken { .. }))).count();
     assert!((10..50).contains(&full) && broken > 2 && full + broken < 55, "{full} full, {broken} broken");
 }
 

@@ -5,24 +5,40 @@ use second::case_text::{answers, Cases};
 use second::codes::Refusal;
 use second::engine::Record;
 use second::listing::Line;
-use second::log::LONGEST_LOG;
+use second::log::{Stop, LOG_END};
 use second::log_text;
 use second::maker::case_shapes::CASE_SHAPES;
 use second::maker::log_shapes::LOG_SHAPES;
 use second::maker::random::Random;
 use second::numbers::Bytes;
-use second::play::play;
+use second::play::{play, play_at};
 use second::words::word_lines;
 
 fn ends_as_it_must(log: &[u8]) {
     let lines = play(log);
     let (last, before) = lines.split_last().expect("a listing has a line");
-    assert!(before.iter().all(|line| !matches!(line, Line::End { .. } | Line::Broken { .. } | Line::Long)));
+    assert!(before.iter().all(|line| !matches!(line, Line::End { .. } | Line::Stopped(_))));
     match last {
-        Line::Long => assert!(log.len() > LONGEST_LOG && before.is_empty()),
-        Line::Broken { offset } => assert!(*offset < log.len().max(1) && log.len() <= LONGEST_LOG),
-        Line::End { .. } => assert!(log.len() <= LONGEST_LOG),
-        _ => panic!("{last} is not a last line"),
+        Line::Stopped(Stop::Broken { offset }) => assert!(*offset < log.len().max(1) as u64),
+        Line::End { .. } => {}
+        _ => panic!("{last} is not a last line of a log in memory"),
+    }
+    goes_past_as_it_must(log, before);
+}
+
+/// The same log with any of its bytes at 2^48 is long there, with lines that it has anyway, or as before.
+fn goes_past_as_it_must(log: &[u8], lines: &[Line]) {
+    let past = log.len() / 2;
+    let far = play_at(log, LOG_END - past as u64);
+    let (last, before) = far.split_last().expect("a listing has a line");
+    assert!(lines.starts_with(before));
+    match last {
+        Line::Stopped(Stop::Broken { offset }) => {
+            assert!(*offset < LOG_END || log.is_empty());
+            assert_eq!(before, lines, "it is broken before");
+        }
+        Line::Stopped(Stop::Long) => assert!(!log.is_empty()),
+        _ => panic!("{last} is not a last line of such a log"),
     }
 }
 
@@ -33,7 +49,7 @@ fn a_thousand_valid_logs_with_bytes_changed_after_l() {
     for seed in 0..1_000 {
         let log = changed(seed);
         ends_as_it_must(&log);
-        broken += usize::from(matches!(play(&log).last(), Some(Line::Broken { .. })));
+        broken += usize::from(matches!(play(&log).last(), Some(Line::Stopped(_))));
     }
     assert!((100..1_000).contains(&broken), "{broken} of the logs are broken");
 }

@@ -3,12 +3,12 @@
 use super::log_maker::LogMaker;
 use super::random::Random;
 use super::traffic::{renaming_story, Call, Habits, STORY_LARGEST};
-use crate::log::{Field, FIRST_PASSED_OVER, HEAD_BYTES, LONGEST_LOG};
+use crate::log::{Field, FIRST_PASSED_OVER, HEAD_BYTES};
 use crate::numbers::{CLASSES, LANE_DEPTH, PLACES, WHOLE_LINE};
 
 pub type LogShape = fn(u64) -> Vec<u8>;
 
-pub const LOG_SHAPES: [(&str, LogShape); 28] = [
+pub const LOG_SHAPES: [(&str, LogShape); 29] = [
     ("tiny", tiny),
     ("busy4", |seed| busy(seed, 4, 20_000)),
     ("busy16", |seed| busy(seed, 16, 20_000)),
@@ -24,9 +24,9 @@ pub const LOG_SHAPES: [(&str, LogShape); 28] = [
     ("largest2048", |seed| mixed(seed, 2_048)),
     ("bad", bad),
     ("passed", passed),
-    ("exact", |seed| padded(seed, LONGEST_LOG)),
-    ("over", |seed| padded(seed, LONGEST_LOG + 1)),
-    ("long", long),
+    ("passed-large", passed_large),
+    ("large", large),
+    ("round", |seed| padded(seed, round_length(seed))),
     ("changed", changed),
     ("broken-empty", |_| Vec::new()),
     ("broken-first", broken_first),
@@ -36,7 +36,8 @@ pub const LOG_SHAPES: [(&str, LogShape); 28] = [
     ("broken-length", broken_length),
     ("broken-cut", broken_cut),
     ("broken-past-end", broken_past_end),
-    ("broken-exact", broken_exact),
+    ("broken-large", broken_large),
+    ("broken-round", broken_round),
 ];
 
 fn tiny(seed: u64) -> Vec<u8> {
@@ -223,17 +224,33 @@ fn padded(seed: u64, bytes: usize) -> Vec<u8> {
     maker.log
 }
 
-/// Over the longest log by more than one byte, and by so much that a count of 16 bits begins anew. What it holds does
-/// not matter.
-fn long(seed: u64) -> Vec<u8> {
+/// A length at or beside a power of two, where a count of 12, 15 or 16 bits begins anew.
+fn round_length(seed: u64) -> usize {
     let mut random = Random::new(seed);
-    let any = random.between(LONGEST_LOG as u64 + 2, 150_000) as usize;
-    let bytes = random.pick(&[LONGEST_LOG + 2, 65_535, 65_536, 65_537, any, any]);
-    if random.percent(30) {
-        random.bytes(bytes)
-    } else {
-        padded(random.any(), bytes)
+    let power = random.pick(&[1 << 12, 1 << 15, 1 << 16, 1 << 17]);
+    random.pick(&[power - 1, power, power + 1])
+}
+
+/// Values to be passed over of all sizes up to the largest, some of them one after the other.
+fn passed_large(seed: u64) -> Vec<u8> {
+    let mut maker = LogMaker::new(Random::new(seed));
+    for _ in 0..maker.random().between(2, 4) {
+        let bytes = maker.log.len() + maker.random().between(0, 400) as usize;
+        maker.calls_until(bytes, &Habits::mixed());
+        let any = maker.random().between(400, u16::MAX.into()) as usize;
+        let length = maker.random().pick(&[4_095, 4_096, 0x7fff, 0x8000, 0xff00, 0xfffe, 0xffff, any]);
+        maker.pass_over(length);
     }
+    maker.calls_until(maker.log.len() + 200, &Habits::mixed());
+    maker.log
+}
+
+/// Some 100,000 bytes of traffic.
+fn large(seed: u64) -> Vec<u8> {
+    let mut maker = LogMaker::new(Random::new(seed));
+    let bytes = maker.random().between(90_000, 110_000) as usize;
+    maker.calls_until(bytes, &Habits { out_of_range: 2, numbers: 40, lowest_class: 3, ..Habits::mixed() });
+    maker.log
 }
 
 /// A valid log with bytes changed, cut and inserted after the L field.
@@ -361,11 +378,23 @@ fn broken_past_end(seed: u64) -> Vec<u8> {
     maker.log
 }
 
-/// A log of the longest length whose last field is cut: one more byte would be `long`. The last field of a padded log
-/// has over 80 bytes.
-fn broken_exact(seed: u64) -> Vec<u8> {
+/// A broken field whose offset has more than 16 bits, with fields after it.
+fn broken_large(seed: u64) -> Vec<u8> {
+    let mut maker = LogMaker::new(Random::new(seed));
+    maker.calls_until(300, &Habits::mixed());
+    maker.pass_over(u16::MAX.into());
+    let bytes = maker.log.len() + maker.random().between(0, 300) as usize;
+    maker.calls_until(bytes, &Habits::mixed());
+    let (tag, length) = maker.random().pick(&[(0, 0), (7, 2), (6, 2), (1, 9), (5, 1), (4, 0xffff)]);
+    maker.any_field(tag, length);
+    go_on(maker)
+}
+
+/// A log of a round length whose last field is cut there. The last field of a padded log has over 80 bytes.
+fn broken_round(seed: u64) -> Vec<u8> {
+    let bytes = round_length(seed);
     let missing = Random::new(seed).between(1, 80) as usize;
-    let mut log = padded(seed, LONGEST_LOG + missing);
-    log.truncate(LONGEST_LOG);
+    let mut log = padded(seed, bytes + missing);
+    log.truncate(bytes);
     log
 }

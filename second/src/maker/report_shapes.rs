@@ -6,7 +6,6 @@ use super::log_shapes::LogShape;
 use super::random::Random;
 use super::traffic::{Call, Habits};
 use crate::account::MOST_CREDIT;
-use crate::log::LONGEST_LOG;
 use crate::log_text;
 use crate::numbers::{credit, CLASSES, PARTS_PER_BYTE, WHOLE_LINE};
 
@@ -120,14 +119,14 @@ fn idle(seed: u64) -> Vec<u8> {
     maker.log
 }
 
-/// One block has as many slots as a log can hold: nearly every record needs the whole credit of one.
+/// One block has some 2,500 slots: nearly every record needs the whole credit of one.
 fn deep(seed: u64) -> Vec<u8> {
     let mut random = Random::new(seed);
     let largest = random.pick(&[64, 100, 2_048]);
     let mut maker = LogMaker::with_largest(random, largest);
     let class = maker.random().between(0, CLASSES as u64 - 1);
     maker.open(1, WHOLE_LINE >> class);
-    while maker.log.len() < LONGEST_LOG - 32 {
+    while maker.log.len() < 40_000 {
         let short = maker.random().between(1, 3) as u16;
         let length = if maker.random().percent(95) { largest as u16 } else { short };
         maker.take(Call::Record { block: 1, number: 1, length });

@@ -2,7 +2,7 @@
 
 use std::collections::{BTreeMap, BTreeSet};
 
-use crate::log::{Field, Reader, LONGEST_LOG};
+use crate::log::{Field, Reader};
 use crate::report::{from_nothing, Counting};
 
 /// What happened to a block that is open.
@@ -25,10 +25,7 @@ struct Stories {
 
 /// The stories of a log, by name.
 pub fn stories(log: &[u8]) -> BTreeSet<&'static str> {
-    if log.len() > LONGEST_LOG {
-        return BTreeSet::from(["long"]);
-    }
-    let Ok((largest, reader)) = Reader::begin(log) else {
+    let Ok((largest, reader)) = Reader::new(log, 0).begin() else {
         return BTreeSet::from(["broken"]);
     };
     let beginnings = from_nothing();
@@ -116,5 +113,5 @@ impl Stories {
 }
 
 fn play(counting: &mut Counting, field: Field) {
-    counting.take(field).expect("no log that fits gives so much credit");
+    counting.take(field).expect("no log in memory gives so much credit");
 }
