@@ -3,6 +3,7 @@
 
 use second::engine::Sent;
 use second::listing::Line;
+use second::log::Stop;
 use second::numbers::Bytes;
 
 pub fn text(lines: &[Line]) -> Vec<u8> {
@@ -18,8 +19,8 @@ pub fn text(lines: &[Line]) -> Vec<u8> {
             }
             Line::NothingOut { code } => put(&mut out, b"out -", &[code.into()]),
             Line::End { clock, sent: Bytes(sent), waiting } => put(&mut out, b"end", &[clock, sent, waiting as u64]),
-            Line::Broken { offset } => put(&mut out, b"broken", &[offset as u64]),
-            Line::Long => put(&mut out, b"long", &[]),
+            Line::Stopped(Stop::Broken { offset }) => put(&mut out, b"broken", &[offset]),
+            Line::Stopped(Stop::Long) => put(&mut out, b"long", &[]),
         }
     }
     out

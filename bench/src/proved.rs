@@ -67,6 +67,26 @@ pub struct Total {
     pub bytes: u64,
 }
 
+/// What stands between two fragments of a log; all zeros are where it begins.
+#[repr(C)]
+struct Feeder {
+    board: Board,
+    at: u64,
+    sent: u64,
+    came: usize,
+    kept: [u8; 13],
+    made: u8,
+    over: u8,
+}
+
+/// How many bytes of a fragment were taken, and how many were written.
+#[repr(C)]
+#[derive(Default)]
+struct Fed {
+    taken: usize,
+    used: usize,
+}
+
 // A slice goes to C as its first element's address and its length.
 extern "C" {
     fn box_listing(
@@ -77,6 +97,17 @@ extern "C" {
         out: *mut u8,
         out_len: usize,
     ) -> usize;
+    fn box_feed(
+        feeder: &mut Feeder,
+        ids: &mut Ids,
+        lens: &mut Lens,
+        fragment: *const u8,
+        fragment_len: usize,
+        out: *mut u8,
+        out_len: usize,
+        fed: &mut Fed,
+    ) -> u8;
+    fn box_finish(feeder: &mut Feeder, ids: &Ids, lens: &Lens, out: *mut u8, out_len: usize, fed: &mut Fed) -> u8;
     fn box_record(b: &mut Board, ids: &mut Ids, lens: &mut Lens, block: u32, id: u32, length: u16) -> u8;
     fn box_serve(b: &mut Board, ids: &Ids, lens: &Lens, sent: &mut Told) -> u8;
     fn box_burst(
@@ -93,6 +124,40 @@ extern "C" {
 /// Writes a log's listing to the front of a buffer, by pieces that go through another, and gives its length.
 pub fn listing(log: &[u8], piece: &mut [u8], out: &mut [u8]) -> usize {
     unsafe { box_listing(log.as_ptr(), log.len(), piece.as_mut_ptr(), piece.len(), out.as_mut_ptr(), out.len()) }
+}
+
+/// A log that is fed to the box, fragment by fragment.
+pub struct Feeding {
+    feeder: Feeder,
+    ids: Ids,
+    lens: Lens,
+}
+
+impl Feeding {
+    pub fn new() -> Feeding {
+        // Every field is a number, or numbers.
+        Feeding { feeder: unsafe { std::mem::zeroed() }, ids: [0; PLACES * LANE_DEPTH], lens: [0; PLACES * LANE_DEPTH] }
+    }
+
+    /// Feeds a whole fragment; what is written goes through a buffer to the end of the text.
+    pub fn feed(&mut self, mut fragment: &[u8], out: &mut [u8], text: &mut Vec<u8>) {
+        while !fragment.is_empty() {
+            let (from, to, mut fed) = (fragment.as_ptr(), out.as_mut_ptr(), Fed::default());
+            let Feeding { feeder, ids, lens } = self;
+            let code = unsafe { box_feed(feeder, ids, lens, from, fragment.len(), to, out.len(), &mut fed) };
+            assert_eq!(code, 0, "no feeding is refused");
+            text.extend_from_slice(&out[..fed.used]);
+            fragment = &fragment[fed.taken..];
+        }
+    }
+
+    pub fn finish(&mut self, out: &mut [u8], text: &mut Vec<u8>) {
+        let mut fed = Fed::default();
+        let Feeding { feeder, ids, lens } = self;
+        let code = unsafe { box_finish(feeder, ids, lens, out.as_mut_ptr(), out.len(), &mut fed) };
+        assert_eq!(code, 0, "no end is refused");
+        text.extend_from_slice(&out[..fed.used]);
+    }
 }
 
 pub fn record(board: &mut Board, ids: &mut [u32], lens: &mut [u16], block: u32, number: u32, length: u16) -> u8 {

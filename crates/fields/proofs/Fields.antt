@@ -18,7 +18,8 @@ use Rattle.board.proofs.Sound.{fit-view}
 use Rattle.log.specs.declared.Event.{Event}
 use Rattle.log.specs.declared.Event.the-variants.{Largest, Open, Close, Rename, Arrive, Serve, Passed}
 use Rattle.log.specs.Format.{isL}
-use Rattle.lines.specs.Text.{Line}
+use Rattle.lines.specs.Text.{Written}
+use Rattle.lines.proofs.Texts.{none}
 use Rattle.lines.specs.Listing.{outLine, refusedLine}
 use Rattle.listing_rules.specs.Listing.{Playing, played, fieldLine, servedLine}
 use Rattle.listing_rules.specs.Events.{turnOf}
@@ -78,25 +79,26 @@ module _ (m : Board.Board) (n : Holding) where
   line-is sum Passed e r seen = refl
 
 -- no line
-pub no-line : (before : List ℕ) → Line before [] 0 before × (_≤_ 0 64)
-no-line before = (record { counts = refl; text = refl; rest = refl }, omega arith)
+pub no-line : (out : List ℕ) (used : ℕ) → Written out used [] used out × (used ≤ used + 64)
+no-line out used = (none out used, omega arith)
 
 -- what showing asks holds after every field
 pub show-needs : (s : Holding) (e : Event) (n : Holding) (r : Step) → Acted s e n r
     → (length (n .ids) ≡ 2048) × ((length (n .lens) ≡ 2048) × ((r .place < 64) × (r .entry < 2048)))
 show-needs s e n r a = let i = inside s e n r a in (a .good .ids-all, (a .good .lens-all, (i .place, i .entry)))
 
--- ---- A FIELD PLAYED: done, shown with a line of count bytes, and its bytes added
+-- ---- A FIELD PLAYED: done, shown, and its bytes added
 
 pub field-plays : (s : Memory) → KnownMemory s → (e : Event) → isL e ≡ false
     → (n : Holding) (r : Step) → Acted (holding (s .board) (s .ids) (s .lens)) e n r
-    → (before : List ℕ) (count : ℕ) (line : List ℕ)
-    → Line before (eventLine (n .board .numbers) (n .ids) (n .lens) e (r .code) (r .place) (r .entry) (r .«slot_clock»)) count line × (count ≤ 64)
-    → FieldPlayed s e (memory (n .board) (n .ids) (n .lens) (s .sent + r .bytes .0)) before count line
-field-plays s k e not-l n r a before count line (l, few) = record {
+    → (before : List ℕ) (used used′ : ℕ) (after : List ℕ)
+    → Written before used (eventLine (n .board .numbers) (n .ids) (n .lens) e (r .code) (r .place) (r .entry) (r .«slot_clock»)) used′ after
+    × (used′ ≤ used + 64)
+    → FieldPlayed s e (memory (n .board) (n .ids) (n .lens) (s .sent + r .bytes .0)) before used used′ after
+field-plays s k e not-l n r a before used used′ after (w, few) = record {
   good = a .good;
   next = (λ j. record { board = a .next j; sent = s .sent + bytes-is j }) ∙ sym (played-is (reads s) e not-l);
-  line = subst (λ (t : List ℕ). Line before t count line) (ap shows (a .tells) ∙ line-is m n (s .sent) e not-l serves (a .sends)) l;
+  written = subst (λ (t : List ℕ). Written before used t used′ after) (ap shows (a .tells) ∙ line-is m n (s .sent) e not-l serves (a .sends)) w;
   short = few;
   more = omega (arith, inside _ e n r a .few);
 }

@@ -9,7 +9,7 @@ use Rattle.board.specs.declared.Board as struct
 use Rattle.board.specs.Reading.{view}
 use Rattle.log.specs.declared.Event.{Event}
 use Rattle.log.specs.declared.Event.the-variants.{Largest, Open, Close, Rename, Arrive, Serve, Passed}
-use Rattle.lines.specs.Text.{Line}
+use Rattle.lines.specs.Text.{Written}
 use Rattle.lines.specs.Listing.{openLine, closeLine, nameLine, inLine, outLine, refusedLine}
 use Rattle.board.specs.Leaving.{Known}
 use Rattle.listing_rules.specs.Listing.{Playing, played, fieldLine}
@@ -32,13 +32,13 @@ reads s = record { board = view (s .board) (s .ids) (s .lens); sent = s .sent }
 abbrev pub KnownMemory : Memory → Type 0
 KnownMemory s = Known (s .board) (s .ids) (s .lens)
 
--- A field is played: board and bytes sent are what the rules say, and its line is put in front of a buffer.
+-- A field is played: board and bytes sent are what the rules say, and its line is put behind what is written.
 pub record FieldPlayed
-    (s : Memory) (e : Event) (n : Memory) (before : List ℕ) (count : ℕ) (after : List ℕ) : Type 0 where
+    (s : Memory) (e : Event) (n : Memory) (before : List ℕ) (used used′ : ℕ) (after : List ℕ) : Type 0 where
   pub good : KnownMemory n
   pub next : reads n ≡ played (reads s) e
-  pub line : Line before (fieldLine (reads s) e) count after
-  pub short : count ≤ 64
+  pub written : Written before used (fieldLine (reads s) e) used′ after
+  pub short : used′ ≤ used + 64
   -- no record is charged more, so the sum of the bytes sent never wraps
   pub more : n .sent ≤ s .sent + 65536
 

@@ -1,16 +1,15 @@
-// One field of a log played: what it says is done (crate events), and its line is put at the front of a buffer. The
-// board is not tested here: whoever goes from field to field tests it once, and each step leaves it good.
+// One field of a log played: what it says is done (crate events), and its line is put behind what is written. The board
+// is not tested here: whoever goes from field to field tests it once, and each step leaves it good.
 ghost use mathlib.Core.Path.{_≡_};
 ghost use mathlib.Core.Bool.{false};
-ghost use Prim.Native.Nat.{_^_, _<_, _≤_};
+ghost use Prim.Native.Nat.{_+_, _^_, _<_, _≤_};
 ghost use lib.ListN.{length};
 ghost use Rattle.log.specs.Format.{isL};
-ghost use Rattle.lines.specs.Text.{Line};
+ghost use Rattle.lines.specs.Text.{Written};
 ghost use Rattle.listing_rules.specs.Listing.{lastOf};
 ghost use Rattle.board.specs.Memory.{numbersNow, boardNow};
 ghost use Rattle.fields.specs.Fields.{Memory, memory, KnownMemory, FieldPlayed, shownLine, eventLine};
 use board::After;
-use lines::LINE_ROOM;
 use log::End;
 use log::Event;
 use numbers::CLASSES;
@@ -19,9 +18,9 @@ use numbers::codes;
 use units::Bytes;
 use units::Parts;
 
-// What a field leaves besides the arrays: the length of its line, the bytes sent so far, and the board's numbers.
+// What a field leaves besides the arrays: where its line ends, the bytes sent so far, and the board's numbers.
 pub struct Moved {
-    pub shown: usize,
+    pub used: usize,
     pub sent: Bytes,
     pub after: After,
 }
@@ -35,20 +34,22 @@ fn show_serve(
     numbers: &[u32; PLACES],
     ids: &[u32],
     lens: &[u16],
-    line: &mut [u8; LINE_ROOM],
+    out: &mut [u8],
+    used: usize,
 ) -> usize
     requires { ⌜
         (length (now ids) ≡ 2048) × ((length (now lens) ≡ 2048) × ((place < 64) × (entry < 2048))) ⌝ }
+    requires { ⌜ used + 64 ≤ length (now out) ⌝ }
     ensures { λ r. ⌜
-        Line (now (line .entry))
+        Written (now (out .entry)) used
         (shownLine (now (numbers .entry)) (now (ids .entry)) (now (lens .entry)) code place entry time) r
-        (now (line .exit))
-        × (r ≤ 64) ⌝ }
+        (now (out .exit))
+        × (r ≤ used + 64) ⌝ }
 {
     if code != codes::DONE {
-        return lines::put_refused(line, code);
+        return lines::put_refused(out, used, code);
     }
-    lines::put_out(line, numbers[place], ids[entry], lens[entry], time)
+    lines::put_out(out, used, numbers[place], ids[entry], lens[entry], time)
 }
 
 // The line of a field, by what its step tells.
@@ -61,30 +62,32 @@ fn show_field(
     numbers: &[u32; PLACES],
     ids: &[u32],
     lens: &[u16],
-    line: &mut [u8; LINE_ROOM],
+    out: &mut [u8],
+    used: usize,
 ) -> usize
     requires { ⌜
         (length (now ids) ≡ 2048) × ((length (now lens) ≡ 2048) × ((place < 64) × (entry < 2048))) ⌝ }
+    requires { ⌜ used + 64 ≤ length (now out) ⌝ }
     ensures { λ r. ⌜
-        Line (now (line .entry))
+        Written (now (out .entry)) used
         (eventLine (now (numbers .entry)) (now (ids .entry)) (now (lens .entry)) event code place entry time) r
-        (now (line .exit))
-        × (r ≤ 64) ⌝ }
+        (now (out .exit))
+        × (r ≤ used + 64) ⌝ }
 {
     match event {
-        Event::Open(opening) => lines::put_open(line, opening.number, code),
-        Event::Close(block) => lines::put_close(line, block, code),
-        Event::Rename(old, new) => lines::put_name(line, old, new, code),
-        Event::Arrive(_, number, _) => lines::put_in(line, number, code),
-        Event::Serve => show_serve(code, place, entry, time, numbers, ids, lens, line),
+        Event::Open(opening) => lines::put_open(out, used, opening.number, code),
+        Event::Close(block) => lines::put_close(out, used, block, code),
+        Event::Rename(old, new) => lines::put_name(out, used, old, new, code),
+        Event::Arrive(_, number, _) => lines::put_in(out, used, number, code),
+        Event::Serve => show_serve(code, place, entry, time, numbers, ids, lens, out, used),
         // A field that is passed over gives no line, and L is not read twice.
-        Event::Passed => 0,
-        Event::Largest(_) => 0,
+        Event::Passed => used,
+        Event::Largest(_) => used,
     }
 }
 
-// One field after L: what it says is done, and its line is put at the front of the buffer. The contract names what
-// stands in memory at entry once, as `before`.
+// One field after L: what it says is done, and its line is put behind what is written. The contract names what stands
+// in memory at entry once, as `before`.
 pub fn play_field(
     event: Event,
     sent: Bytes,
@@ -106,7 +109,8 @@ pub fn play_field(
     held: &mut [u32; CLASSES],
     ids: &mut [u32],
     lens: &mut [u16],
-    line: &mut [u8; LINE_ROOM],
+    out: &mut [u8],
+    used: usize,
 ) -> Moved
     ghost { Memory }
     requires { λ before. ⌜
@@ -117,6 +121,7 @@ pub fn play_field(
         largest (numbersNow clock active pending slot (left .0)))
         (now ids) (now lens) (sent .0) ≡ before ⌝ }
     requires { λ before. ⌜ KnownMemory before × ((sent .0 < 2 ^ 63) × (isL event ≡ false)) ⌝ }
+    requires { λ before. ⌜ used + 64 ≤ length (now out) ⌝ }
     ensures { λ before r. ⌜
         (let after = memory
         (boardNow (now (numbers .exit)) (now (shares .exit)) (now (starts .exit)) (now (counts .exit))
@@ -124,7 +129,7 @@ pub fn play_field(
         (now (heads .exit)) (now (tails .exit)) (now (held .exit))
         largest (r .after))
         (now (ids .exit)) (now (lens .exit)) (r .sent .0) in
-        FieldPlayed before event after (now (line .entry)) (r .shown) (now (line .exit))) ⌝ }
+        FieldPlayed before event after (now (out .entry)) used (r .used) (now (out .exit))) ⌝ }
 {
     let s = events::act(
         event,
@@ -147,7 +152,7 @@ pub fn play_field(
         ids,
         lens,
     );
-    let shown = show_field(
+    let end = show_field(
         event,
         s.code,
         s.place,
@@ -156,13 +161,14 @@ pub fn play_field(
         numbers,
         ids,
         lens,
-        line,
+        out,
+        used,
     );
     let charge = s.bytes;
     let after = s.after;
     let total = sent.0 + charge.0;
     Moved {
-        shown: shown,
+        used: end,
         sent: Bytes(total),
         after: after,
     }
@@ -174,14 +180,17 @@ pub fn show_end(
     clock: u64,
     sent: Bytes,
     waiting: u32,
-    line: &mut [u8; LINE_ROOM],
+    out: &mut [u8],
+    used: usize,
 ) -> usize
+    requires { ⌜ used + 64 ≤ length (now out) ⌝ }
     ensures { λ r. ⌜
-        Line (now (line .entry)) (lastOf clock (sent .0) waiting end) r (now (line .exit)) × (r ≤ 64) ⌝ }
+        Written (now (out .entry)) used (lastOf clock (sent .0) waiting end) r (now (out .exit))
+        × (r ≤ used + 64) ⌝ }
 {
     match end {
-        End::Whole => lines::put_end(line, clock, sent.0, waiting),
-        End::Broken(offset) => lines::put_broken(line, offset as u64),
-        End::Long => lines::put_long(line),
+        End::Whole => lines::put_end(out, used, clock, sent.0, waiting),
+        End::Broken(offset) => lines::put_broken(out, used, offset as u64),
+        End::Long => lines::put_long(out, used),
     }
 }

@@ -9,9 +9,9 @@ use native.Mathlib.Omega.{arith}
 use borrow.Author.Tests.{lt-ltb, le-ltb, ltb-true, ltb-false}
 use lib.Dec.{ltb}
 use lib.ListN.{length, length-append, set, take, drop, getD, take-append-drop}
-use lib.Seq.{sets, sets-eq, take-suc, take-length, length-take-le, take-at, drop-at}
+use lib.Seq.{sets, sets-eq, length-sets, take-suc, take-length, length-take-le, take-at, drop-at}
 use Rattle.lines.specs.Text.{decimalIn, decimal, columns, lineOf, Written, Line}
-use Rattle.lines.specs.Laws.{LineOne}
+use Rattle.lines.specs.Laws.{WrittenOne, LineOne}
 
 -- ---- writing one text after another
 
@@ -28,7 +28,10 @@ then {l} {m} {r} {at} {p} {q} xs ys a b = record {
   list = b .list ∙ ap₂ (λ (k : List ℕ) (n : ℕ). sets k n ys) (a .list) (a .ends) ∙ sets-append xs ys l at;
 }
 
--- what is written from the front is a line
+pub written-length : (l : List ℕ) (at : ℕ) (text : List ℕ) (n : ℕ) (m : List ℕ) → Written l at text n m → length m ≡ length l
+written-length l at text n m w = ap length (w .list) ∙ length-sets l at text
+
+-- what is written from the front
 pub from-front : (l text m : List ℕ) (n : ℕ) → length text ≤ length l → Written l 0 text n m → Line l text n m
 from-front l text m n h w =
     let k : length text ≡ n = sym (w .ends ∙ omega arith) in
@@ -40,7 +43,10 @@ from-front l text m n h w =
       rest = ap (drop n) split ∙ drop-at text (drop (length text) l) n k ∙ ap (λ (i : ℕ). drop i l) k;
     }
 
--- no second answer is a line
+-- no second answer is this text's
+pub written-one : WrittenOne
+written-one l at text n m a b p q = (p .ends ∙ sym (q .ends), p .list ∙ sym (q .list))
+
 pub line-one : LineOne
 line-one l line n m a b p q = (p .counts ∙ sym (q .counts), whole n a p ∙ sym (whole m b q))
   where
@@ -142,8 +148,7 @@ pub line-length : (word ns : List ℕ) → length (lineOf word ns) ≡ length wo
 unfolding lineOf
 line-length word ns = simp (length-append) (omega arith)
 
-pub line-all : {l m k r : List ℕ} {p q n : ℕ} (word ns : List ℕ) → length (lineOf word ns) ≤ length l → Written l 0 word p m → Written m p (columns ns) q k
-    → Written k q (10 ∷ []) n r → Line l (lineOf word ns) n r
+pub line-all : {l m k r : List ℕ} {at p q n : ℕ} (word ns : List ℕ) → Written l at word p m → Written m p (columns ns) q k → Written k q (10 ∷ []) n r
+    → Written l at (lineOf word ns) n r
 unfolding lineOf
-line-all {l} {m} {k} {r} {p} {q} {n} word ns h a b c =
-    from-front l (lineOf word ns) r n h (then word (columns ns ++ (10 ∷ [])) a (then (columns ns) (10 ∷ []) b c))
+line-all word ns a b c = then word (columns ns ++ (10 ∷ [])) a (then (columns ns) (10 ∷ []) b c)

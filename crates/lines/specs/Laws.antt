@@ -3,12 +3,18 @@ use mathlib.Core.Path.{_≡_}
 use mathlib.Core.List.{List, [], _∷_, _++_}
 use Prim.Native.Nat.{ℕ, _^_, _≤_, _<_}
 use lib.ListN.{length}
-use Rattle.lines.specs.Text.{decimal, Digits, Plain, numberOf, lineOf, Line}
+use Rattle.lines.specs.Text.{decimal, Digits, Plain, numberOf, lineOf, Written, Line}
 use Rattle.lines.specs.Listing
 
 -- ---- Writing
 
--- Two counts and buffers that are this line's for the same buffer before are equal.
+-- Two offsets and lists that are this text's, written into the same list at the same offset, are equal.
+abbrev pub WrittenOne : Type 0
+WrittenOne = (before : List ℕ) (at : ℕ) (text : List ℕ) (n m : ℕ) (a b : List ℕ) → Written before at text n a
+    → Written before at text m b
+    → (n ≡ m) × (a ≡ b)
+
+-- So are two counts and lists that are this text's from the front of the same list.
 abbrev pub LineOne : Type 0
 LineOne = (before line : List ℕ) (n m : ℕ) (a b : List ℕ) → Line before line n a → Line before line m b
     → (n ≡ m) × (a ≡ b)

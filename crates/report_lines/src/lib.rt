@@ -1,10 +1,10 @@
-// The writer of a report's lines: each from the front of a lent buffer, which is longer than any line. With it the
-// difference of got and due as a whole number, and its text.
+// The writer of a report's lines: each straight into a lent buffer, from an offset with room for any line on. With it
+// the difference of got and due as a whole number, and its text.
 ghost use mathlib.Core.Path.{_≡_};
 ghost use Prim.Native.Nat.{_+_, _^_, _≤_};
 ghost use lib.ListN.{length};
 ghost use lib.IntN.{pos, _-ℤ_, natAbs};
-ghost use Rattle.lines.specs.Text.{Written, Line};
+ghost use Rattle.lines.specs.Text.{Written};
 ghost use Rattle.lines.specs.Listing.{brokenLine, longLine};
 ghost use Rattle.report_lines.specs.Text.{signed, accountLine, fullLine};
 use lines::LINE_END;
@@ -42,20 +42,21 @@ fn size(whole: i64) -> u64
 }
 
 // A whole number in decimal: a sign below 0 alone, and no zero in front.
-fn put_signed(line: &mut [u8], at: usize, d: i64) -> usize
-    requires { ⌜ at + length (signed d) ≤ length (now line) ⌝ }
-    ensures { λ r. ⌜ Written (now (line .entry)) at (signed d) r (now (line .exit)) ⌝ }
+fn put_signed(out: &mut [u8], at: usize, d: i64) -> usize
+    requires { ⌜ at + length (signed d) ≤ length (now out) ⌝ }
+    ensures { λ r. ⌜ Written (now (out .entry)) at (signed d) r (now (out .exit)) ⌝ }
 {
     if d < 0 {
-        let sign = put_byte(&mut *line, at, MINUS);
-        return put_number(line, sign, size(d));
+        let sign = put_byte(&mut *out, at, MINUS);
+        return put_number(out, sign, size(d));
     }
-    put_number(line, at, size(d))
+    put_number(out, at, size(d))
 }
 
 // The line of a block that is open at the end.
 pub fn put_account(
-    line: &mut [u8; REPORT_ROOM],
+    out: &mut [u8],
+    at: usize,
     block: u32,
     slots: u64,
     credit: Parts,
@@ -63,38 +64,42 @@ pub fn put_account(
     difference: i64,
     lost: Parts,
 ) -> usize
+    requires { ⌜ at + 128 ≤ length (now out) ⌝ }
     ensures { λ r. ⌜
-        Line (now (line .entry)) (accountLine block slots (credit .0) (bytes .0) difference (lost .0)) r
-        (now (line .exit))
-        × (r ≤ 128) ⌝ }
+        Written (now (out .entry)) at (accountLine block slots (credit .0) (bytes .0) difference (lost .0)) r
+        (now (out .exit))
+        × (r ≤ at + 128) ⌝ }
 {
     let counts = [slots, credit.0, bytes.0];
     let rest = [lost.0];
-    let a = put_number(&mut *line, 0, block as u64);
-    let b = put_columns(&mut *line, a, &counts);
-    let c = put_byte(&mut *line, b, SPACE);
-    let d = put_signed(&mut *line, c, difference);
-    let e = put_columns(&mut *line, d, &rest);
-    put_byte(line, e, LINE_END)
+    let a = put_number(&mut *out, at, block as u64);
+    let b = put_columns(&mut *out, a, &counts);
+    let c = put_byte(&mut *out, b, SPACE);
+    let d = put_signed(&mut *out, c, difference);
+    let e = put_columns(&mut *out, d, &rest);
+    put_byte(out, e, LINE_END)
 }
 
-pub fn put_full(line: &mut [u8; REPORT_ROOM]) -> usize
-    ensures { λ r. ⌜ Line (now (line .entry)) fullLine r (now (line .exit)) × (r ≤ 128) ⌝ }
+pub fn put_full(out: &mut [u8], at: usize) -> usize
+    requires { ⌜ at + 128 ≤ length (now out) ⌝ }
+    ensures { λ r. ⌜ Written (now (out .entry)) at fullLine r (now (out .exit)) × (r ≤ at + 128) ⌝ }
 {
     let numbers = [0u64; 0];
-    put_line(line, b"full", &numbers)
+    put_line(out, at, b"full", &numbers)
 }
 
-pub fn put_broken(line: &mut [u8; REPORT_ROOM], offset: u64) -> usize
-    ensures { λ r. ⌜ Line (now (line .entry)) (brokenLine offset) r (now (line .exit)) × (r ≤ 128) ⌝ }
+pub fn put_broken(out: &mut [u8], at: usize, offset: u64) -> usize
+    requires { ⌜ at + 128 ≤ length (now out) ⌝ }
+    ensures { λ r. ⌜ Written (now (out .entry)) at (brokenLine offset) r (now (out .exit)) × (r ≤ at + 128) ⌝ }
 {
     let numbers = [offset];
-    put_line(line, b"broken", &numbers)
+    put_line(out, at, b"broken", &numbers)
 }
 
-pub fn put_long(line: &mut [u8; REPORT_ROOM]) -> usize
-    ensures { λ r. ⌜ Line (now (line .entry)) longLine r (now (line .exit)) × (r ≤ 128) ⌝ }
+pub fn put_long(out: &mut [u8], at: usize) -> usize
+    requires { ⌜ at + 128 ≤ length (now out) ⌝ }
+    ensures { λ r. ⌜ Written (now (out .entry)) at longLine r (now (out .exit)) × (r ≤ at + 128) ⌝ }
 {
     let numbers = [0u64; 0];
-    put_line(line, b"long", &numbers)
+    put_line(out, at, b"long", &numbers)
 }

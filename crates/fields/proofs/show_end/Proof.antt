@@ -21,20 +21,32 @@ enum-told-2 c = search needs
 put-long-requires : tie.Need-put-long-requires
 put-long-requires c κs = search needs
 
+same-length : tie.Need-same-length
+same-length c = search needs
+
 returns : tie.Need-returns
 returns c =
-    let at-enum-told = c .before .before in
-    rw (at-enum-told .enum-told .given .1) (c .put-end .ensures)
+    let at-put-end = c .before .before in
+    let at-enum-told = at-put-end .before .before in
+    rw (at-enum-told .enum-told .given .1) (at-put-end .put-end .ensures)
+
+same-length-2 : tie.Need-same-length-2
+same-length-2 c = search needs
 
 returns-2 : tie.Need-returns-2
 returns-2 c =
-    let at-end = c .before .before .before in
-    rw (at-end .end .given .1) (c .put-broken .ensures)
+    let at-put-broken = c .before .before in
+    let at-end = at-put-broken .before .before .before in
+    rw (at-end .end .given .1) (at-put-broken .put-broken .ensures)
+
+same-length-3 : tie.Need-same-length-3
+same-length-3 c = search needs
 
 returns-3 : tie.Need-returns-3
 returns-3 c =
-    let at-enum-told2 = c .before .before in
-    rw (at-enum-told2 .enum-told2 .given .1) (c .put-long .ensures)
+    let at-put-long = c .before .before in
+    let at-enum-told2 = at-put-long .before .before in
+    rw (at-enum-told2 .enum-told2 .given .1) (at-put-long .put-long .ensures)
 
 pub show-end-spec : {M : Type 1} → statement M
 show-end-spec =
@@ -46,6 +58,9 @@ show-end-spec =
     put-broken-requires
     enum-told-2
     put-long-requires
+    same-length
     returns
+    same-length-2
     returns-2
+    same-length-3
     returns-3)

@@ -40,36 +40,56 @@ enum-told-2 c = search needs
 enum-told-3 : tie.Need-enum-told-3
 enum-told-3 c = search needs
 
+same-length : tie.Need-same-length
+same-length c = search needs
+
 returns : tie.Need-returns
 returns c =
-    let at-event = c .before .before .before in
-    rw (at-event .event .given .1) (c .put-open .ensures)
+    let at-put-open = c .before .before in
+    let at-event = at-put-open .before .before .before in
+    rw (at-event .event .given .1) (at-put-open .put-open .ensures)
+
+same-length-2 : tie.Need-same-length-2
+same-length-2 c = search needs
 
 returns-2 : tie.Need-returns-2
 returns-2 c =
-    let at-event2 = c .before .before .before in
-    rw (at-event2 .event2 .given .1) (c .put-close .ensures)
+    let at-put-close = c .before .before in
+    let at-event2 = at-put-close .before .before .before in
+    rw (at-event2 .event2 .given .1) (at-put-close .put-close .ensures)
+
+same-length-3 : tie.Need-same-length-3
+same-length-3 c = search needs
 
 returns-3 : tie.Need-returns-3
 returns-3 c =
-    let at-event3 = c .before .before .before in
-    rw (at-event3 .event3 .given .1) (c .put-name .ensures)
+    let at-put-name = c .before .before in
+    let at-event3 = at-put-name .before .before .before in
+    rw (at-event3 .event3 .given .1) (at-put-name .put-name .ensures)
+
+same-length-4 : tie.Need-same-length-4
+same-length-4 c = search needs
 
 returns-4 : tie.Need-returns-4
 returns-4 c =
-    let at-event4 = c .before .before .before in
-    rw (at-event4 .event4 .given .1) (c .put-in .ensures)
+    let at-put-in = c .before .before in
+    let at-event4 = at-put-in .before .before .before in
+    rw (at-event4 .event4 .given .1) (at-put-in .put-in .ensures)
+
+same-length-5 : tie.Need-same-length-5
+same-length-5 c = search needs
 
 returns-5 : tie.Need-returns-5
 returns-5 c =
-    let at-enum-told = c .before .before in
-    rw (at-enum-told .enum-told .given .1) (c .show-serve .ensures)
+    let at-show-serve = c .before .before in
+    let at-enum-told = at-show-serve .before .before in
+    rw (at-enum-told .enum-told .given .1) (at-show-serve .show-serve .ensures)
 
 returns-6 : tie.Need-returns-6
-returns-6 c = rw (c .enum-told2 .given .1) (no-line _)
+returns-6 c = rw (c .enum-told2 .given .1) (no-line _ _)
 
 returns-7 : tie.Need-returns-7
-returns-7 c = rw (c .enum-told3 .given .1) (no-line _)
+returns-7 c = rw (c .enum-told3 .given .1) (no-line _ _)
 
 pub show-field-spec : {M : Type 1} → statement M
 show-field-spec =
@@ -87,10 +107,15 @@ show-field-spec =
     show-serve-requires
     enum-told-2
     enum-told-3
+    same-length
     returns
+    same-length-2
     returns-2
+    same-length-3
     returns-3
+    same-length-4
     returns-4
+    same-length-5
     returns-5
     returns-6
     returns-7)

@@ -1,7 +1,5 @@
--- `lines::put_broken` meets its contract: the line fits the buffer (broken-fits) and is that of its kind.
--- Assumes nothing.
-use denote.Ref.{now}
-use mathlib.Core.Path.{_≡_}
+-- `lines::put_broken` meets its contract: the line fits the room (broken-fits) and is that of its kind. Assumes nothing.
+use Prim.Native.Nat.{_≤_}
 use native.Mathlib.Omega.{arith}
 use lib.ListN.{length}
 use Rattle.lines.specs.Listing.{brokenLine}
@@ -10,25 +8,32 @@ use borrow.Author.Needs.{needs}
 use Rattle.lines.proofs.put_broken.Statement.{statement}
 use Rattle.lines.proofs.put_broken.Tie as tie
 
+fits : (c : tie.Start) → length (brokenLine (c .args .offset)) ≤ 64
+fits c = broken-fits (c .args .offset) (c .fits .offset .fits)
+
 slice-aggregate-put-line : tie.Need-slice-aggregate-put-line
 slice-aggregate-put-line c = search needs
 
 slice-aggregate-put-line-2 : tie.Need-slice-aggregate-put-line-2
 slice-aggregate-put-line-2 c = search needs
 
+same-length : tie.Need-same-length
+same-length c = search needs
+
 returns : tie.Need-returns
 unfolding brokenLine
 returns c =
-    let at-start = c .before .before .before .before in
-    (c .put-line .ensures, omega (arith, c .put-line .ensures .counts, broken-fits (at-start .args .offset) (at-start .fits .offset .fits)))
+    let at-put-line = c .before .before in
+    let at-start = at-put-line .before .before .before .before .before in
+    (at-put-line .put-line .ensures, omega (arith, at-put-line .put-line .ensures .ends, fits at-start))
 
 put-line-requires : tie.Need-put-line-requires
 unfolding brokenLine
 put-line-requires c κs =
-    let n : length (now (c .before .before .before .args .line)) ≡ 64 = search needs in
-    omega (arith, broken-fits (c .before .before .before .args .offset) (c .before .before .before .fits .offset .fits))
+    let at-start = c .before .before .before .before in
+    omega (arith, fits at-start, at-start .pre)
 
 pub put-broken-spec : {M : Type 1} → statement M
 put-broken-spec =
     tie.close
-    (tie.spec slice-aggregate-put-line slice-aggregate-put-line-2 put-line-requires returns)
+    (tie.spec slice-aggregate-put-line slice-aggregate-put-line-2 put-line-requires same-length returns)

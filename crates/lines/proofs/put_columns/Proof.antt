@@ -11,10 +11,10 @@ use Rattle.lines.proofs.put_columns.Statement.{statement}
 use Rattle.lines.proofs.put_columns.Tie as tie
 
 abbrev Inv-loop : tie.InvT-loop
-Inv-loop line₀ at numbers next₀ i₀ line next i = (i ≤ length numbers) × ((length line ≡ length line₀) × Written line₀ at (columns (take i numbers)) next line)
+Inv-loop out₀ at numbers next₀ i₀ out next i = (i ≤ length numbers) × ((length out ≡ length out₀) × Written out₀ at (columns (take i numbers)) next out)
 
 abbrev μ-loop : tie.MeasureT-loop
-μ-loop line₀ at numbers next₀ i₀ line next i = length numbers - i
+μ-loop out₀ at numbers next₀ i₀ out next i = length numbers - i
 
 loop-holds : tie.Need-loop-holds Inv-loop μ-loop
 loop-holds c =

@@ -1,4 +1,4 @@
--- `lines::put_line` meets its contract. Word, columns and line end, one after another from the front. Assumes nothing.
+-- `lines::put_line` meets its contract. Word, columns and line end, one after another. Assumes nothing.
 use denote.Ref.{now}
 use native.Mathlib.Omega.{arith}
 use Rattle.lines.proofs.Texts.{line-length, line-all}
@@ -47,7 +47,7 @@ returns c =
     let at-put-columns = at-put-byte .before .before .before .before in
     let at-put-text = at-put-columns .before .before .before .before in
     let at-start = at-put-text .before .before .before .before .before in
-    line-all (now (at-start .args .word)) (now (at-start .args .numbers)) (at-start .pre) (at-put-text .put-text .ensures)
+    line-all (now (at-start .args .word)) (now (at-start .args .numbers)) (at-put-text .put-text .ensures)
     (at-put-columns .put-columns .ensures) (at-put-byte .put-byte .ensures)
 
 pub put-line-spec : {M : Type 1} → statement M

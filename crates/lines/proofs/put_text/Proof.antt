@@ -11,22 +11,22 @@ use Rattle.lines.proofs.put_text.Statement.{statement}
 use Rattle.lines.proofs.put_text.Tie as tie
 
 abbrev Inv-loop : tie.InvT-loop
-Inv-loop line₀ at text i₀ line i = (i ≤ length text) × ((length line ≡ length line₀) × (line ≡ sets line₀ at (take i text)))
+Inv-loop out₀ at text i₀ out i = (i ≤ length text) × ((length out ≡ length out₀) × (out ≡ sets out₀ at (take i text)))
 
 abbrev μ-loop : tie.MeasureT-loop
-μ-loop line₀ at text i₀ line i = length text - i
+μ-loop out₀ at text i₀ out i = length text - i
 
 loop-holds : tie.Need-loop-holds Inv-loop μ-loop
 loop-holds c = (omega arith, (refl, refl))
 
-shared-slice-read-line : tie.Need-shared-slice-read-line Inv-loop μ-loop
-shared-slice-read-line c = search needs
+shared-slice-read-out : tie.Need-shared-slice-read-out Inv-loop μ-loop
+shared-slice-read-out c = search needs
 
-add-line : tie.Need-add-line Inv-loop μ-loop
-add-line c = search needs
+add-out : tie.Need-add-out Inv-loop μ-loop
+add-out c = search needs
 
-slice-write-line : tie.Need-slice-write-line Inv-loop μ-loop
-slice-write-line c = search needs
+slice-write-out : tie.Need-slice-write-out Inv-loop μ-loop
+slice-write-out c = search needs
 
 add-i : tie.Need-add-i Inv-loop μ-loop
 add-i c = search needs
@@ -42,7 +42,7 @@ loop-again c =
       omega arith,
       (
         rw length-set (at-loop .loop .inv .1 .0),
-        text-more _ (at-loop .loop .line) (now (at-start .args .text)) (at-start .args .at) (at-loop .loop .i) (at-loop-test .loop-test .taken)
+        text-more _ (at-loop .loop .out) (now (at-start .args .text)) (at-start .args .at) (at-loop .loop .i) (at-loop-test .loop-test .taken)
             (at-loop .loop .inv .1 .1),
       ),
     )
@@ -57,7 +57,7 @@ returns : tie.Need-returns Inv-loop μ-loop
 returns c =
     let at-loop = c .before in
     let at-start = at-loop .before in
-    text-all _ (at-loop .loop .line) (now (at-start .args .text)) (at-start .args .at) (at-loop .loop .i) (omega arith) (at-loop .loop .inv .1 .1)
+    text-all _ (at-loop .loop .out) (now (at-start .args .text)) (at-start .args .at) (at-loop .loop .i) (omega arith) (at-loop .loop .inv .1 .1)
 
 pub put-text-spec : {M : Type 1} → statement M
 put-text-spec =
@@ -66,9 +66,9 @@ put-text-spec =
     Inv-loop
     μ-loop
     loop-holds
-    shared-slice-read-line
-    add-line
-    slice-write-line
+    shared-slice-read-out
+    add-out
+    slice-write-out
     add-i
     loop-less
     loop-again

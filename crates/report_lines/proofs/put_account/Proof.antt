@@ -1,7 +1,6 @@
--- `report_lines::put_account` meets its contract: the line fits the buffer (account-fits), and its columns are written one after
--- another from the front. Assumes nothing.
+-- `report_lines::put_account` meets its contract: the line fits the room (account-fits), and its columns are written one after
+-- another. Assumes nothing.
 use denote.Ref.{now}
-use mathlib.Core.Path.{_≡_}
 use mathlib.Core.List.{_∷_, []}
 use Prim.Native.Nat.{_+_, _≤_}
 use native.Mathlib.Omega.{arith}
@@ -28,45 +27,44 @@ line-most c =
     (c .fits .slots .fits) (k .fits) (b .fits)
     (size-most (c .args .difference) (c .fits .difference)) (l .fits)
 
-line-room : (c : tie.After-put-number-arg)
-    → length (accountLine (c .before .args .block) (c .before .args .slots) (c .before .args .credit .0) (c .before .args .bytes .0)
-    (c .before .args .difference) (c .before .args .lost .0)) ≤ length (now (c .before .args .line))
-line-room c = let n : length (now (c .before .args .line)) ≡ 128 = search needs in omega (arith, line-most (c .before))
-
--- the same, column by column; the difference as the i64 holds it
-room : (c : tie.After-put-number-arg) → (let args = c .before .args in
-    length (decimal (args .block)) + length (columns (args .slots ∷ args .credit .0 ∷ args .bytes .0 ∷ [])) + 1
-    + length (signed (toZ w64 (ofZ w64 (args .difference)))) + length (columns (args .lost .0 ∷ [])) + 1 ≤ length (now (args .line)))
+-- the room for the line, column by column; the difference as the i64 holds it
+room : (c : tie.Start) → (let args = c .args in
+    args .at + length (decimal (args .block)) + length (columns (args .slots ∷ args .credit .0 ∷ args .bytes .0 ∷ [])) + 1
+    + length (signed (toZ w64 (ofZ w64 (args .difference)))) + length (columns (args .lost .0 ∷ [])) + 1 ≤ length (now (args .out)))
 room c =
-    let at-start = c .before in
-    rw (toZ-ofZ (at-start .fits .difference))
+    rw (toZ-ofZ (c .fits .difference))
     (omega (
       arith,
-      account-length (at-start .args .block) (at-start .args .slots) (at-start .args .credit .0) (at-start .args .bytes .0) (at-start .args .difference)
-          (at-start .args .lost .0),
-      line-room c,
+      account-length (c .args .block) (c .args .slots) (c .args .credit .0) (c .args .bytes .0) (c .args .difference) (c .args .lost .0),
+      line-most c,
+      c .pre,
     ))
 
 put-number-requires : tie.Need-put-number-requires
-put-number-requires c κs = omega (arith, room c)
+put-number-requires c κs = omega (arith, room (c .before .before))
 
 slice-aggregate-put-columns : tie.Need-slice-aggregate-put-columns
 slice-aggregate-put-columns c = search needs
 
 put-columns-requires : tie.Need-put-columns-requires
 put-columns-requires c κs =
-    let at-put-number = c .before .before in
-    let at-put-number-arg = at-put-number .before in
-    omega (arith, room at-put-number-arg, at-put-number .put-number .ensures .ends, at-put-number .put-number .kept .0)
+    let at-put-number = c .before .before .before .before in
+    let at-start = at-put-number .before .before .before in
+    omega (
+      arith,
+      room at-start,
+      at-put-number .put-number .ensures .ends,
+      at-put-number .put-number .kept .0,
+    )
 
 put-byte-requires : tie.Need-put-byte-requires
 put-byte-requires c κs =
-    let at-put-columns = c .before in
-    let at-put-number = at-put-columns .before .before .before in
-    let at-put-number-arg = at-put-number .before in
+    let at-put-columns = c .before .before .before in
+    let at-put-number = at-put-columns .before .before .before .before .before in
+    let at-start = at-put-number .before .before .before in
     omega (
       arith,
-      room at-put-number-arg,
+      room at-start,
       at-put-number .put-number .ensures .ends,
       at-put-number .put-number .kept .0,
       at-put-columns .put-columns .ensures .ends,
@@ -75,13 +73,13 @@ put-byte-requires c κs =
 
 put-signed-requires : tie.Need-put-signed-requires
 put-signed-requires c κs =
-    let at-put-byte = c .before in
-    let at-put-columns = at-put-byte .before .before in
-    let at-put-number = at-put-columns .before .before .before in
-    let at-put-number-arg = at-put-number .before in
+    let at-put-byte = c .before .before .before in
+    let at-put-columns = at-put-byte .before .before .before .before in
+    let at-put-number = at-put-columns .before .before .before .before .before in
+    let at-start = at-put-number .before .before .before in
     omega (
       arith,
-      room at-put-number-arg,
+      room at-start,
       at-put-number .put-number .ensures .ends,
       at-put-number .put-number .kept .0,
       at-put-columns .put-columns .ensures .ends,
@@ -95,14 +93,14 @@ slice-aggregate-put-columns-2 c = search needs
 
 put-columns-requires-2 : tie.Need-put-columns-requires-2
 put-columns-requires-2 c κs =
-    let at-put-signed = c .before .before in
-    let at-put-byte = at-put-signed .before .before in
-    let at-put-columns = at-put-byte .before .before in
-    let at-put-number = at-put-columns .before .before .before in
-    let at-put-number-arg = at-put-number .before in
+    let at-put-signed = c .before .before .before .before in
+    let at-put-byte = at-put-signed .before .before .before .before in
+    let at-put-columns = at-put-byte .before .before .before .before in
+    let at-put-number = at-put-columns .before .before .before .before .before in
+    let at-start = at-put-number .before .before .before in
     omega (
       arith,
-      room at-put-number-arg,
+      room at-start,
       at-put-number .put-number .ensures .ends,
       at-put-number .put-number .kept .0,
       at-put-columns .put-columns .ensures .ends,
@@ -115,15 +113,15 @@ put-columns-requires-2 c κs =
 
 put-byte-requires-2 : tie.Need-put-byte-requires-2
 put-byte-requires-2 c κs =
-    let at-put-columns2 = c .before in
-    let at-put-signed = at-put-columns2 .before .before .before in
-    let at-put-byte = at-put-signed .before .before in
-    let at-put-columns = at-put-byte .before .before in
-    let at-put-number = at-put-columns .before .before .before in
-    let at-put-number-arg = at-put-number .before in
+    let at-put-columns2 = c .before .before .before in
+    let at-put-signed = at-put-columns2 .before .before .before .before .before in
+    let at-put-byte = at-put-signed .before .before .before .before in
+    let at-put-columns = at-put-byte .before .before .before .before in
+    let at-put-number = at-put-columns .before .before .before .before .before in
+    let at-start = at-put-number .before .before .before in
     omega (
       arith,
-      room at-put-number-arg,
+      room at-start,
       at-put-number .put-number .ensures .ends,
       at-put-number .put-number .kept .0,
       at-put-columns .put-columns .ensures .ends,
@@ -136,22 +134,25 @@ put-byte-requires-2 c κs =
       at-put-columns2 .put-columns2 .kept .0,
     )
 
+same-length : tie.Need-same-length
+same-length c = search needs
+
 returns : tie.Need-returns
 returns c =
-    let at-put-columns2 = c .before .before in
-    let at-put-signed = at-put-columns2 .before .before .before in
-    let at-put-byte = at-put-signed .before .before in
-    let at-put-columns = at-put-byte .before .before in
-    let at-put-number = at-put-columns .before .before .before in
-    let at-put-number-arg = at-put-number .before in
-    let at-start = at-put-number-arg .before in
+    let at-put-byte2 = c .before .before in
+    let at-put-columns2 = at-put-byte2 .before .before .before .before in
+    let at-put-signed = at-put-columns2 .before .before .before .before .before in
+    let at-put-byte = at-put-signed .before .before .before .before in
+    let at-put-columns = at-put-byte .before .before .before .before in
+    let at-put-number = at-put-columns .before .before .before .before .before in
+    let at-start = at-put-number .before .before .before in
     let whole =
     account-all (at-start .args .block) (at-start .args .slots) (at-start .args .credit .0) (at-start .args .bytes .0) (at-start .args .difference)
-    (at-start .args .lost .0) (line-room at-put-number-arg) (at-put-number .put-number .ensures) (at-put-columns .put-columns .ensures)
+    (at-start .args .lost .0) (at-put-number .put-number .ensures) (at-put-columns .put-columns .ensures)
     (at-put-byte .put-byte .ensures) (rw (toZ-ofZ (at-start .fits .difference)) at (at-put-signed .put-signed .ensures))
-    (at-put-columns2 .put-columns2 .ensures) (c .put-byte2 .ensures) in (
+    (at-put-columns2 .put-columns2 .ensures) (at-put-byte2 .put-byte2 .ensures) in (
       whole,
-      omega (arith, whole .counts, line-most at-start),
+      omega (arith, whole .ends, line-most at-start),
     )
 
 pub put-account-spec : {M : Type 1} → statement M
@@ -166,4 +167,5 @@ put-account-spec =
     slice-aggregate-put-columns-2
     put-columns-requires-2
     put-byte-requires-2
+    same-length
     returns)
