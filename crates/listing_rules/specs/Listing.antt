@@ -78,9 +78,9 @@ unfoldable pub linesOf : Playing → List WholeField → End → List ℕ
 linesOf p [] e = lastLine p e
 linesOf p (f ∷ fs) e = fieldLine p (f .event) ++ linesOf (played p (f .event)) fs e
 
--- the listing of what follows an offset
-abbrev pub listingFrom : Playing → (log : List ℕ) (at : ℕ) → Stage → List ℕ
-listingFrom p log at stage = linesOf p (readFrom log at stage .fields) (readFrom log at stage .ends)
+-- the listing of these bytes, the first of which has this offset
+abbrev pub listingFrom : Playing → (at : ℕ) (bytes : List ℕ) → Stage → List ℕ
+listingFrom p at bytes stage = linesOf p (readFrom at bytes stage .fields) (readFrom at bytes stage .ends)
 
 -- THE LISTING
 unfoldable pub listingOf : (log : List ℕ) → List ℕ

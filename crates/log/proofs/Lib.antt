@@ -2,8 +2,8 @@
 pub mod Numbers
 pub mod Fields
 pub mod Stages
-pub mod Ends
-pub mod First
+pub mod Wholes
 pub mod Readings
+pub mod First
 pub mod Spellings
 pub mod Worked

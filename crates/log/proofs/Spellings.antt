@@ -1,32 +1,32 @@
 -- The reader takes what is spelt, and nothing else. Assumes nothing.
-use mathlib.Core.Path.{_≡_, refl, sym, ap, ap₂, _∙_}
+use mathlib.Core.Path.{_≡_, refl, sym, ap, ap₂, subst, _∙_}
 use mathlib.Core.Bool.{Bool, true, false, _&&_}
 use mathlib.Core.List.{List, [], _∷_, _++_, append-assoc}
 use Prim.Native.Nat.{ℕ, zero, suc, _+_, _*_, _/_, _%_, _^_, _≤_, _<_}
 use native.Mathlib.Nat.{pow-suc}
-use native.Mathlib.Numerals.{add-one}
 use native.Mathlib.Omega.{arith}
 use borrow.Author.Tests.{eqb-true, ne-eqb, le-leb, leb-true}
 use lib.Dec.{leb, eqb, lit<, lit≤}
-use lib.ListN.{getD, length, take, drop, length-append, length-take, length-drop, take-append-drop}
-use lib.Seq.{getD-at, take-add, drop-drop, take-suc, drop-cons, getD-drop, length-take-le, drop-length}
+use lib.ListN.{getD, length, take, drop, length-append, length-take, length-drop, take-append-drop, drop-of-length-le}
+use lib.Seq.{getD-at, take-add, drop-drop, drop-append-seam, take-suc, getD-drop, length-take-le}
 use Rattle.base.proofs.Tests.{and-left, and-right}
 use Rattle.log.specs.declared.Stage.{Stage}
 use Rattle.log.specs.declared.Stage.the-variants.{BeforeL}
 use Rattle.log.specs.declared.Event.{Event}
 use Rattle.log.specs.declared.Event.the-variants.{Largest, Open, Close, Rename, Arrive, Serve, Passed}
-use Rattle.log.specs.Format.{numberAt, tagAt, lengthAt, tagOf, isPassed, lengthOf, lastTag, rightLength, eventOf, stageAfter}
+use Rattle.log.specs.Format.{numberAt, tagIn, lengthIn, tagOf, isPassed, lengthOf, lastTag, rightLength, eventOf, stageAfter}
 use Rattle.log.specs.declared.End.{End}
 use Rattle.log.specs.declared.End.the-variants.{Whole as whole}
-use Rattle.log.specs.declared.Next.the-variants.{Ends}
-use Rattle.log.specs.Rows.{WholeField, nextAt, readLog, Reads}
-use Rattle.log.specs.Spelling.{bytesOf, Operand, operandsOf, valueOf, widthOf, InWidth, fieldOf, valueAt, SaysIf}
+use Rattle.log.specs.declared.Next.the-variants.{GoesOn, Unfinished}
+use Rattle.log.specs.Rows.{WholeField, nextOf, readLog, Reads}
+use Rattle.log.specs.Spelling.{bytesOf, Operand, operandsOf, valueOf, widthOf, InWidth, fieldOf, valueIn, SaysIf}
 use Rattle.log.specs.Spelling.{Says, AllBytes, Spelt, logOf, AllSay, AllInTurn, withOffsets}
 use Rattle.log.specs.Laws.{FieldBack, FieldOnly, LogBack, LogOnly}
-use Rattle.log.proofs.Fields.{differ, FrameIs, made-whole, whole-is, framed-fits, fits-framed}
 use Rattle.log.proofs.Numbers.{number-lt}
-use Rattle.log.proofs.Ends.{next-whole, next-end, goes-only, ends-only}
-use Rattle.log.proofs.Readings.{has-reading, one-reading}
+use Rattle.log.proofs.Fields.{differ, read-is, found-whole}
+use Rattle.log.proofs.Stages.{tag-turn}
+use Rattle.log.proofs.Wholes.{none-come}
+use Rattle.log.proofs.Readings.{goes-is, end-here, ended-whole, has-reading, one-reading}
 
 -- ---- numbers in bytes
 
@@ -127,80 +127,75 @@ unfolding fieldOf
 field-length tag value = simp (length-append) (omega (arith, bytes-length 2 (length value)))
 
 -- a written field, parted before its length and before its value
-split-length : (tag : ℕ) (value pre rest : List ℕ) → pre ++ (fieldOf tag value ++ rest) ≡ (pre ++ (tag ∷ [])) ++ (bytesOf 2 (length value) ++ (value ++ rest))
+split-length : (tag : ℕ) (value rest : List ℕ) → fieldOf tag value ++ rest ≡ (tag ∷ []) ++ (bytesOf 2 (length value) ++ (value ++ rest))
 unfolding fieldOf
-split-length tag value pre rest = simp append-assoc
+split-length tag value rest = simp append-assoc
 
-split-value : (tag : ℕ) (value pre rest : List ℕ) → pre ++ (fieldOf tag value ++ rest) ≡ (pre ++ (tag ∷ bytesOf 2 (length value))) ++ (value ++ rest)
+split-value : (tag : ℕ) (value rest : List ℕ) → fieldOf tag value ++ rest ≡ (tag ∷ bytesOf 2 (length value)) ++ (value ++ rest)
 unfolding fieldOf
-split-value tag value pre rest = simp append-assoc
+split-value tag value rest = simp append-assoc
 
-frame-back : (tag : ℕ) (value pre rest : List ℕ) → length value < 65536 → FrameIs (pre ++ (fieldOf tag value ++ rest)) (length pre) tag (length value)
+tag-back : (tag : ℕ) (value rest : List ℕ) → tagIn (fieldOf tag value ++ rest) ≡ tag
 unfolding fieldOf
-frame-back tag value pre rest l =
-    record {
-      there = fits-framed s (length pre) room;
-      tagged = getD-at pre tag ((bytesOf 2 (length value) ++ value) ++ rest) 0 (length pre) refl;
-      sized =
-          sized;
-    }
-  where
-    s : List ℕ
-    s = pre ++ (fieldOf tag value ++ rest)
+tag-back tag value rest = refl
 
-    sized : lengthAt s (length pre) ≡ length value
-    sized =
-        let on : length (pre ++ (tag ∷ [])) ≡ length pre + 1 = length-append pre (tag ∷ []) in
-        rw (split-length tag value pre rest, ← on) (number-back 2 (length value) (pre ++ (tag ∷ [])) (value ++ rest) l)
-
-    room : length pre + 3 + lengthAt s (length pre) ≤ length s
-    room = omega (arith, sized, length-append pre (fieldOf tag value ++ rest), length-append (fieldOf tag value) rest, field-length tag value)
+length-back : (tag : ℕ) (value rest : List ℕ) → length value < 65536 → lengthIn (fieldOf tag value ++ rest) ≡ length value
+length-back tag value rest l = rw (split-length tag value rest) (number-back 2 (length value) (tag ∷ []) (value ++ rest) l)
 
 -- the event of a field, by whether it is passed over
-said-if : (t : Bool) (e : Event) (tag : ℕ) (value pre rest : List ℕ) → isPassed e ≡ t → SaysIf t e tag value
-    → (length value < 65536) × ((rightLength tag (length value) ≡ true) × (eventOf (pre ++ (fieldOf tag value ++ rest)) tag (length pre + 3) ≡ e))
-said-if true e tag value pre rest p h = (h .1, (passed-right tag (length value) (h .0 .0), passed-event _ tag (length pre + 3) (h .0 .0) ∙ sym (is-passed e p)))
-said-if false e tag value pre rest p h =
-    let n : length value ≡ widthOf (operandsOf e) = ap length (h .1 .0) ∙ value-length (operandsOf e) in
-    let on : length (pre ++ (tag ∷ bytesOf 2 (length value))) ≡ length pre + 3 =
-    length-append pre (tag ∷ bytesOf 2 (length value)) ∙ omega (arith, bytes-length 2 (length value)) in
-    let held : StandsAt (pre ++ (fieldOf tag value ++ rest)) (length pre + 3) (operandsOf e) =
-    rw (split-value tag value pre rest, ← on) (value-held value (pre ++ (tag ∷ bytesOf 2 (length value))) rest (operandsOf e) (h .1 .0) (h .1 .1)) in (
+said-if : (t : Bool) (e : Event) (tag : ℕ) (value rest : List ℕ) → isPassed e ≡ t → SaysIf t e tag value
+    → (length value < 65536) × ((rightLength tag (length value) ≡ true) × (eventOf (fieldOf tag value ++ rest) tag 3 ≡ e))
+said-if true e tag value rest p h = (h .1, (passed-right tag (length value) (h .0 .0), passed-event _ tag 3 (h .0 .0) ∙ sym (is-passed e p)))
+said-if false e tag value rest p h =
+    let os = operandsOf e in
+    let s = fieldOf tag value ++ rest in
+    let n : length value ≡ widthOf os = ap length (h .1 .0) ∙ value-length os in
+    let front = tag ∷ bytesOf 2 (length value) in
+    let on : length front ≡ 3 = omega (arith, bytes-length 2 (length value)) in
+    let held : StandsAt s (length front) os = rw (split-value tag value rest) (value-held value front rest os (h .1 .0) (h .1 .1)) in (
       omega (arith, n, event-right e p .1),
       (
         rw (n, h .0) (event-right e p .0),
-        ap (λ (t : ℕ). eventOf (pre ++ (fieldOf tag value ++ rest)) t (length pre + 3)) (h .0) ∙ event-back _ (length pre + 3) e p held,
+        ap (λ (t : ℕ). eventOf s t 3) (h .0) ∙ event-back s 3 e p (subst (λ (i : ℕ). StandsAt s i os) on held),
       ),
     )
 
 -- what is written is read
 pub field-back : FieldBack
-field-back e tag value pre rest stage h t =
-    let said = said-if (isPassed e) e tag value pre rest refl h in
-    let ends : length pre + length (fieldOf tag value) ≡ length pre + 3 + length value = omega (arith, field-length tag value) in
-    rw ends (made-whole (pre ++ (fieldOf tag value ++ rest)) (length pre) tag (length value) stage e (frame-back tag value pre rest (said .0)) (said .1 .0)
-    (said .1 .1) t)
+unfolding nextOf
+field-back e tag value rest at stage h t l =
+    let s = fieldOf tag value ++ rest in
+    let said = said-if (isPassed e) e tag value rest refl h in
+    let is = tag-back tag value rest in
+    let n = length-back tag value rest (said .0) in
+    let m = field-length tag value in
+    let long = length-append (fieldOf tag value) rest in
+    let event : eventOf s (tagIn s) 3 ≡ e = ap (λ (i : ℕ). eventOf s i 3) is ∙ said .1 .1 in
+    let found = found-whole at s (length s) stage (read-is at (length s) 0 (omega (arith, m, long)) (omega (arith, m, l)))
+    (rw is (tag-turn e tag value stage h t))
+    (read-is at (length s) 2 (omega (arith, m, long)) (omega (arith, m, l))) (length value) (sym n)
+    (rw is (said .1 .0))
+    (read-is at (length s) (2 + length value) (omega (arith, m, long)) (omega (arith, m, l))) e (sym event) t in
+    sym found ∙ ap (GoesOn e) (sym m)
 
 -- ---- a log that was written is read back, and ends whole
 
-row-back : (xs : List Spelt) (pre : List ℕ) (stage : Stage) → length (pre ++ logOf xs) ≤ 32768 → AllSay xs → AllInTurn stage xs
-    → Reads (pre ++ logOf xs) (length pre) stage (withOffsets (length pre) xs) whole
-row-back [] pre stage l h t =
-    let here : length pre ≡ length (pre ++ []) = omega (arith, length-append pre []) in
-    ap (λ (i : ℕ). nextAt (pre ++ []) i stage) here ∙ next-end (pre ++ []) stage l t
-row-back (x ∷ xs) pre stage l h t =
+row-back : (xs : List Spelt) (at : ℕ) (stage : Stage) → at + length (logOf xs) ≤ 2 ^ 48 → AllSay xs → AllInTurn stage xs
+    → Reads at (logOf xs) stage (withOffsets at xs) whole
+unfolding nextOf
+row-back [] at stage l h t =
+    let here : nextOf at [] stage ≡ Unfinished 0 = none-come at [] stage in
+    rw here (end-here at stage t)
+row-back (x ∷ xs) at stage l h t =
     let field = fieldOf (x .tag) (x .value) in
-    let on : length (pre ++ field) ≡ length pre + length field = length-append pre field in
-    let same : (pre ++ field) ++ logOf xs ≡ pre ++ (field ++ logOf xs) = append-assoc pre field (logOf xs) in
-    let then = stageAfter stage (x .event) in
-    let later : Reads ((pre ++ field) ++ logOf xs) (length (pre ++ field)) then (withOffsets (length (pre ++ field)) xs) whole =
-    row-back xs (pre ++ field) then (omega (arith, l, ap length same)) (h .1) (t .1) in
-    let read = field-back (x .event) (x .tag) (x .value) pre (logOf xs) stage (h .0) (t .0) in
-    (refl, (next-whole _ (length pre) stage (x .event) _ l read, rw (← append-assoc, ← on) later))
+    let long = length-append field (logOf xs) in
+    let read = field-back (x .event) (x .tag) (x .value) (logOf xs) at stage (h .0) (t .0) (omega (arith, l, long)) in
+    let later = row-back xs (at + length field) (stageAfter stage (x .event)) (omega (arith, l, long)) (h .1) (t .1) in
+    (refl, (length field, (refl, (read, rw (drop-append-seam field (logOf xs)) later))))
 
 pub log-back : LogBack
 log-back xs h t l =
-    sym (one-reading (logOf xs) (record { fields = withOffsets 0 xs; ends = whole }) (row-back xs [] BeforeL l h t))
+    sym (one-reading (logOf xs) (record { fields = withOffsets 0 xs; ends = whole }) (row-back xs 0 BeforeL (omega (arith, l)) h t))
 
 -- ---- what is read was written
 
@@ -253,8 +248,8 @@ tag-says s at (suc (suc (suc (suc (suc zero))))) n a b e = record { taken = refl
 tag-says s at (suc (suc (suc (suc (suc (suc zero)))))) n a b e = record { taken = refl; tagged = refl; sized = e; held = (refl, tt) }
 tag-says s at (suc (suc (suc (suc (suc (suc (suc tag))))))) n a b e = absurd (omega arith)
 
-value-at-length : (s : List ℕ) (at : ℕ) → at + 3 + lengthAt s at ≤ length s → length (valueAt s at) ≡ lengthAt s at
-value-at-length s at l = length-take-le (lengthAt s at) (drop (at + 3) s) (omega (arith, length-drop (at + 3) s))
+value-in-length : (s : List ℕ) → 3 + lengthIn s ≤ length s → length (valueIn s) ≡ lengthIn s
+value-in-length s l = length-take-le (lengthIn s) (drop 3 s) (omega (arith, length-drop 3 s))
 
 says-if : (t : Bool) (s : List ℕ) (at tag n : ℕ) → ((i : ℕ) → getD s i 0 < 256) → leb 128 tag ≡ t → rightLength tag n ≡ true → at + n ≤ length s → n < 65536
     → tag < 256
@@ -273,44 +268,48 @@ says-if false s at tag n b p r l m h =
       (ap (λ (k : ℕ). take k (drop at s)) (w .sized) ∙ sym (value-of os s at b (omega (arith, w .sized)) (w .held)), fit-of os s at b (w .held)),
     )
 
--- from a whole field's offset on, the log is the field and what stands after it
-field-splits : (s : List ℕ) (at next : ℕ) → ((i : ℕ) → getD s i 0 < 256) → at + 3 + lengthAt s at ≤ length s → next ≡ at + 3 + lengthAt s at
-    → drop at s ≡ fieldOf (tagAt s at) (valueAt s at) ++ drop next s
+-- the bytes are a whole field's and what follows them
+field-splits : (s : List ℕ) (size : ℕ) → ((i : ℕ) → getD s i 0 < 256) → 3 + lengthIn s ≤ length s → size ≡ 3 + lengthIn s
+    → s ≡ fieldOf (tagIn s) (valueIn s) ++ drop size s
 unfolding fieldOf
-field-splits s at next b l e =
-    let n = lengthAt s at in
-    let two : bytesOf 2 (length (valueAt s at)) ≡ take 2 (drop (suc at) s) =
-    ap (bytesOf 2) (value-at-length s at l) ∙ bytes-back 2 s (at + 1) b (omega arith) ∙ ap (λ (i : ℕ). take 2 (drop i s)) (add-one at) in
-    let three : at + 3 ≡ suc at + 2 = omega arith in
-    let after : valueAt s at ++ drop next s ≡ drop 2 (drop (suc at) s) =
-    ap (λ (d : List ℕ). valueAt s at ++ d) (ap (λ (i : ℕ). drop i s) e ∙ sym (drop-drop n (at + 3) s)) ∙ take-append-drop n (drop (at + 3) s)
-    ∙ ap (λ (i : ℕ). drop i s) three ∙ sym (drop-drop 2 (suc at) s) in
-    drop-cons s at 0 (omega arith) ∙ ap (λ (d : List ℕ). tagAt s at ∷ d)
-    (sym (append-assoc (bytesOf 2 (length (valueAt s at))) (valueAt s at) (drop next s) ∙ ap₂ (λ (d r : List ℕ). d ++ r) two after
-    ∙ take-append-drop 2 (drop (suc at) s)))
+field-splits [] size b l e = absurd (omega (arith, l))
+field-splits (x ∷ xs) size b l e =
+    let s = x ∷ xs in
+    let n = lengthIn s in
+    let two : bytesOf 2 (length (valueIn s)) ≡ take 2 xs = ap (bytesOf 2) (value-in-length s l) ∙ bytes-back 2 s 1 b (omega (arith, l)) in
+    let after : valueIn s ++ drop size s ≡ drop 2 xs =
+    ap (λ (d : List ℕ). valueIn s ++ d) (ap (λ (i : ℕ). drop i s) e ∙ sym (drop-drop n 3 s)) ∙ take-append-drop n (drop 3 s) in
+    ap (λ (d : List ℕ). x ∷ d)
+    (sym (append-assoc (bytesOf 2 (length (valueIn s))) (valueIn s) (drop size s) ∙ ap₂ (λ (d r : List ℕ). d ++ r) two after ∙ take-append-drop 2 xs))
 
 -- a whole field is one that was written
 pub field-only : FieldOnly
-field-only s at stage e next b h =
-    let w = whole-is s at stage e next h in
-    let l = framed-fits s at (w .framed) in
+field-only at s stage e size b h =
+    let w = goes-is at s stage e size h in
+    let l : 3 + lengthIn s ≤ length s = omega (arith, w .has, w .size) in
     let f = byte-at s b in (
-      (rw (← w .says) (says-if (leb 128 (tagAt s at)) s (at + 3) (tagAt s at) (lengthAt s at) f refl (w .right) l (number-lt s (at + 1) 2 f) (f at)), w .turn),
-      field-splits s at next f l (w .ends),
+      (rw (← w .says) (says-if (leb 128 (tagIn s)) s 3 (tagIn s) (lengthIn s) f refl (w .right) l (number-lt s 1 2 f) (f 0)), w .turn),
+      field-splits s size f l (w .size),
     )
 
+bytes-left : (n : ℕ) (s : List ℕ) → AllBytes s → AllBytes (drop n s)
+bytes-left zero s b = b
+bytes-left (suc n) [] b = b
+bytes-left (suc n) (x ∷ s) b = bytes-left n s (b .1)
+
 -- and a log that ends whole is one that was written
-row-only : (s : List ℕ) (at : ℕ) (stage : Stage) (fs : List WholeField) (e : End) → AllBytes s → Reads s at stage fs e → e ≡ whole
-    → (xs : List Spelt) × (AllSay xs × (AllInTurn stage xs × (drop at s ≡ logOf xs)))
-row-only s at stage [] e b r q =
-    let w = ends-only s at stage (r ∙ ap Ends q) in
-    ([], (tt, (w .0, ap (λ (n : ℕ). drop n s) (w .1) ∙ drop-length s)))
-row-only s at stage (f ∷ fs) e b r q =
-    let o = field-only s at stage (f .event) (f .next) b (goes-only s at stage (f .event) (f .next) (r .1 .0) .0) in
-    let w = row-only s (f .next) (stageAfter stage (f .event)) fs e b (r .1 .1) q in
-    let x : Spelt = record { event = f .event; tag = tagAt s at; value = valueAt s at } in
-    let bytes = ap (λ (d : List ℕ). fieldOf (tagAt s at) (valueAt s at) ++ d) (w .1 .1 .1) in
+row-only : (at : ℕ) (s : List ℕ) (stage : Stage) (fs : List WholeField) (e : End) → AllBytes s → Reads at s stage fs e → e ≡ whole
+    → (xs : List Spelt) × (AllSay xs × (AllInTurn stage xs × (s ≡ logOf xs)))
+row-only at s stage [] e b r q =
+    let w = ended-whole at s stage [] e r q in
+    ([], (tt, (w .0, drop-of-length-le s {i = 0} (omega (arith, w .1)))))
+row-only at s stage (f ∷ fs) e b r q =
+    let size = r .1 .0 in
+    let o = field-only at s stage (f .event) size b (r .1 .1 .1 .0) in
+    let w = row-only (f .next) (drop size s) (stageAfter stage (f .event)) fs e (bytes-left size s b) (r .1 .1 .1 .1) q in
+    let x : Spelt = record { event = f .event; tag = tagIn s; value = valueIn s } in
+    let bytes = ap (λ (d : List ℕ). fieldOf (tagIn s) (valueIn s) ++ d) (w .1 .1 .1) in
     (x ∷ w .0, ((o .0 .0, w .1 .0), ((o .0 .1, w .1 .1 .0), o .1 ∙ bytes)))
 
 pub log-only : LogOnly
-log-only s b h = row-only s 0 BeforeL (readLog s .fields) (readLog s .ends) b (has-reading s) h
+log-only s b h = row-only 0 s BeforeL (readLog s .fields) (readLog s .ends) b (has-reading s) h

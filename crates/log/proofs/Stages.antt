@@ -1,19 +1,22 @@
 -- Laws of the stages of a log: what may come before L, what after it, and that L has been read after every whole field.
+-- Assumes nothing.
 use mathlib.Core.Path.{_≡_, refl, sym, ap, subst, _∙_}
-use mathlib.Core.Bool.{true, false, not, _&&_}
+use mathlib.Core.Bool.{true, false, not, _&&_, _||_}
 use mathlib.Core.Logic.{_⊎_, inl, inr, ⊎-elim}
 use mathlib.Core.List.{List, [], _∷_}
 use Prim.Native.Nat.{ℕ, _≤_}
-use borrow.Author.Tests.{leb-true}
+use native.Mathlib.Omega.{arith}
+use borrow.Author.Tests.{leb-true, le-leb, ne-eqb}
 use types.Run.{OneOf, miss}
 use denote.Enum.Declared.{tagOf}
-use lib.Dec.{leb}
+use lib.Dec.{leb, eqb}
 use Rattle.base.proofs.Tests.{and-left, and-right}
 use Rattle.log.specs.declared.Stage.{Stage}
 use Rattle.log.specs.declared.Stage.the-variants.{BeforeL}
 use Rattle.log.specs.declared.Event.{Event}
 use Rattle.log.specs.declared.Event.the-variants.{Largest, Open, Close, Rename, Arrive, Serve, Passed}
-use Rattle.log.specs.Format.{isL, pastL, stageAfter, inTurn}
+use Rattle.log.specs.Format.{lastTag, isL, pastL, stageAfter, rightTag, inTurn}
+use Rattle.log.specs.Spelling.{Says}
 use Rattle.log.specs.Laws.{PastAfter}
 use Rattle.log.proofs.Event.{the-type}
 use Rattle.log.proofs.Fields.{differ}
@@ -69,3 +72,23 @@ turn-first e h =
 pub past-after : PastAfter
 unfolding stageAfter
 past-after e stage h = ⊎-elim (λ w. rw (w .1)) (λ w. rw (w .0) (w .1 stage ∙ h)) (l-or-later e)
+
+-- ---- the tag that an event in its turn is spelt with
+
+-- it is one of the log's, and is 6 where the event is L
+said-tag : (e : Event) (tag : ℕ) (value : List ℕ) → Says e tag value → (leb 128 tag || (leb 1 tag && leb tag lastTag) ≡ true) × (eqb tag 6 ≡ isL e)
+said-tag (Largest l) tag value h = rw (h .0) (refl, refl)
+said-tag (Open o) tag value h = rw (h .0) (refl, refl)
+said-tag (Close a) tag value h = rw (h .0) (refl, refl)
+said-tag (Rename a b) tag value h = rw (h .0) (refl, refl)
+said-tag (Arrive a b n) tag value h = rw (h .0) (refl, refl)
+said-tag Serve tag value h = rw (h .0) (refl, refl)
+said-tag Passed tag value h = rw (le-leb 128 tag (h .0 .0), ne-eqb tag 6 (λ e. omega (arith, h .0 .0))) (refl, refl)
+
+-- so it may stand there
+pub tag-turn : (e : Event) (tag : ℕ) (value : List ℕ) (stage : Stage) → Says e tag value → inTurn e stage ≡ true → rightTag tag stage ≡ true
+unfolding rightTag
+tag-turn e tag value stage h t =
+    let s = said-tag e tag value h in
+    ⊎-elim (λ w. rw (s .0, s .1, ap isL (w .1)) (turn-l (w .0) e stage (w .1) t .0))
+    (λ w. rw (s .0, s .1, w .0, w .1 stage, t)) (l-or-later e)

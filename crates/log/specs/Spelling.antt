@@ -4,7 +4,7 @@ use mathlib.Core.Bool.{Bool, true, false}
 use mathlib.Core.List.{List, [], _∷_, _++_}
 use Prim.Native.Nat.{ℕ, zero, suc, _+_, _/_, _%_, _^_, _≤_, _<_}
 use lib.ListN.{length, take, drop}
-use Rattle.log.specs.Format.{lengthAt, tagOf, isPassed, pastL, stageAfter, inTurn}
+use Rattle.log.specs.Format.{lengthIn, tagOf, isPassed, pastL, stageAfter, inTurn}
 use Rattle.log.specs.Rows.{WholeField}
 use Rattle.log.specs.declared.Stage.{Stage}
 use Rattle.log.specs.declared.Event.{Event}
@@ -52,9 +52,9 @@ InWidth (o ∷ os) = (o .number < 256 ^ o .width) × InWidth os
 unfoldable pub fieldOf : (tag : ℕ) (value : List ℕ) → List ℕ
 fieldOf tag value = tag ∷ (bytesOf 2 (length value) ++ value)
 
--- The value of the field at an offset of a log.
-abbrev pub valueAt : (log : List ℕ) (at : ℕ) → List ℕ
-valueAt log at = take (lengthAt log at) (drop (at + 3) log)
+-- The value of the field that begins with these bytes.
+abbrev pub valueIn : (bytes : List ℕ) → List ℕ
+valueIn bytes = take (lengthIn bytes) (drop 3 bytes)
 
 abbrev pub SaysIf : (passed : Bool) → Event → (tag : ℕ) (value : List ℕ) → Type 0
 SaysIf true e tag value = ((128 ≤ tag) × (tag < 256)) × (length value < 65536)

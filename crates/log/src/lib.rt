@@ -1,20 +1,24 @@
-// The reader of a log: what the field at an offset says, and where the next one begins.
+// The reader of a log: what is known of a field by the bytes of it that have come.
 ghost use mathlib.Core.Path.{_≡_};
-ghost use Prim.Native.Nat.{_+_, _-_, _<_, _≤_};
+ghost use mathlib.Core.Logic.{_⊎_};
+ghost use mathlib.Core.Bool.{cond};
+ghost use Prim.Native.Nat.{_+_, _-_, _^_, _<_, _≤_};
 ghost use lib.ListN.{length};
-ghost use Rattle.log.specs.Format.{numberAt, lengthOf, rightLength, frameAt, eventOf};
-ghost use Rattle.log.specs.Format.{pastL, stageAfter, inTurn, fieldAt, isLong};
-ghost use Rattle.log.specs.Rows.{atEnd, endsLong, nextAt};
+ghost use Rattle.log.specs.declared.Next.the-variants.{Ends, Unfinished as unfinished};
+ghost use Rattle.log.specs.declared.End.the-variants.{Long as long};
+ghost use Rattle.log.specs.Format.{numberAt, lengthIn, lengthOf, rightLength, eventOf};
+ghost use Rattle.log.specs.Format.{pastL, stageAfter, rightTag, inTurn, isRead, isPast, nextIn};
+ghost use Rattle.log.specs.Rows.{endIn};
 
-mod tags;
+pub mod tags;
 
 use numbers::GREATEST_LARGEST;
 use numbers::LEAST_LARGEST;
-use numbers::LONGEST_LOG;
+use numbers::LOG_END;
 use operands::Opening;
 
 // The bytes of a field before its value: the tag and the length.
-const HEADER: usize = 3;
+pub const HEADER: usize = 3;
 
 // What a whole field says, its numbers in the order of the log: L; an opening's; block; old and new; block, number and
 // length. Passed is a field that is passed over.
@@ -37,20 +41,16 @@ pub enum Stage {
 // How a log ends: where its last field ends, at a broken field's offset, or it is long.
 pub enum End {
     Whole,
-    Broken(usize),
+    Broken(u64),
     Long,
 }
 
-// What stands at an offset of a log: a whole field, with the offset after it, or the log's end.
+// What is known of a field: it is whole, and has so many bytes; or it ends the log; or it is not finished, and so many
+// of its bytes have come.
 pub enum Next {
     GoesOn(Event, usize),
     Ends(End),
-}
-
-// A field whose bytes are all there, with its tag and the length of its value.
-enum Frame {
-    Framed(u8, usize),
-    Cut,
+    Unfinished(usize),
 }
 
 // A byte as a number that keeps its bound.
@@ -60,15 +60,15 @@ fn wide(byte: u8) -> u32
     byte as u32
 }
 
-// The number of n bytes at an offset, high byte first.
-fn number(log: &[u8], at: usize, n: usize) -> u32
-    requires { ⌜ (at + n ≤ length (now log)) × (n ≤ 4) ⌝ }
-    ensures { λ r. ⌜ r ≡ numberAt (now (log .entry)) at n ⌝ }
+// The number of n bytes from byte i on, high byte first.
+fn number(bytes: &[u8], i: usize, n: usize) -> u32
+    requires { ⌜ (i + n ≤ length (now bytes)) × (n ≤ 4) ⌝ }
+    ensures { λ r. ⌜ r ≡ numberAt (now (bytes .entry)) i n ⌝ }
 {
     let mut sum: u32 = 0;
     let mut left = n;
     while 0 < left {
-        let byte = wide(log[at + (n - left)]);
+        let byte = wide(bytes[i + (n - left)]);
         sum = sum * 256 + byte;
         left -= 1;
     }
@@ -76,35 +76,19 @@ fn number(log: &[u8], at: usize, n: usize) -> u32
 }
 
 // The same of two bytes.
-fn number16(log: &[u8], at: usize) -> u16
-    requires { ⌜ at + 2 ≤ length (now log) ⌝ }
-    ensures { λ r. ⌜ r ≡ numberAt (now (log .entry)) at 2 ⌝ }
+fn number16(bytes: &[u8], i: usize) -> u16
+    requires { ⌜ i + 2 ≤ length (now bytes) ⌝ }
+    ensures { λ r. ⌜ r ≡ numberAt (now (bytes .entry)) i 2 ⌝ }
 {
-    number(log, at, 2) as u16
+    number(bytes, i, 2) as u16
 }
 
-// An offset past the end has no byte left, so that no sum of offsets wraps.
-fn bytes_left(len: usize, at: usize) -> usize
-    ensures { λ r. ⌜ r ≡ len - at ⌝ }
+// The length that a field's three first bytes say its value has.
+pub fn length_in(bytes: &[u8]) -> usize
+    requires { ⌜ 3 ≤ length (now bytes) ⌝ }
+    ensures { λ r. ⌜ (r ≡ lengthIn (now (bytes .entry))) × (r < 65536) ⌝ }
 {
-    if len < at {
-        return 0;
-    }
-    len - at
-}
-
-fn frame_at(log: &[u8], at: usize) -> Frame
-    ensures { λ r. ⌜ r ≡ frameAt (now (log .entry)) at ⌝ }
-{
-    let left = bytes_left(log.len(), at);
-    if left < HEADER {
-        return Frame::Cut;
-    }
-    let n = number16(log, at + 1) as usize;
-    if left - HEADER < n {
-        return Frame::Cut;
-    }
-    Frame::Framed(log[at], n)
+    number16(bytes, 1) as usize
 }
 
 // The length that a value has by its tag; a field that is passed over needs none.
@@ -133,23 +117,23 @@ fn right_length(tag: u8, n: usize) -> bool
     false
 }
 
-// What a field of this tag says, its value at an offset.
-fn event_at(log: &[u8], tag: u8, at: usize) -> Event
-    requires { ⌜ at + lengthOf tag ≤ length (now log) ⌝ }
-    ensures { λ r. ⌜ r ≡ eventOf (now (log .entry)) tag at ⌝ }
+// What a field of this tag says, its value from byte i on.
+fn event_at(bytes: &[u8], tag: u8, i: usize) -> Event
+    requires { ⌜ i + lengthOf tag ≤ length (now bytes) ⌝ }
+    ensures { λ r. ⌜ r ≡ eventOf (now (bytes .entry)) tag i ⌝ }
 {
     match tag {
-        tags::LARGEST => Event::Largest(number(log, at, 2)),
+        tags::LARGEST => Event::Largest(number(bytes, i, 2)),
         tags::OPEN => Event::Open(Opening {
-            number: number(log, at, 4),
-            share: number(log, at + 4, 4),
+            number: number(bytes, i, 4),
+            share: number(bytes, i + 4, 4),
         }),
-        tags::CLOSE => Event::Close(number(log, at, 4)),
-        tags::RENAME => Event::Rename(number(log, at, 4), number(log, at + 4, 4)),
+        tags::CLOSE => Event::Close(number(bytes, i, 4)),
+        tags::RENAME => Event::Rename(number(bytes, i, 4), number(bytes, i + 4, 4)),
         tags::RECORD => Event::Arrive(
-            number(log, at, 4),
-            number(log, at + 4, 4),
-            number16(log, at + 8),
+            number(bytes, i, 4),
+            number(bytes, i + 4, 4),
+            number16(bytes, i + 8),
         ),
         tags::SERVE => Event::Serve,
         _ => Event::Passed,
@@ -176,6 +160,22 @@ pub fn stage_after(stage: Stage, event: Event) -> Stage
     Stage::AfterL
 }
 
+// Whether a tag may stand in a stage: it is one of the log's, and tag 6 comes first and once.
+fn right_tag(tag: u8, stage: Stage) -> bool
+    ensures { λ r. ⌜ r ≡ rightTag tag stage ⌝ }
+{
+    if tags::LAST < tag && tag < tags::PASSED {
+        return false;
+    }
+    if tag < tags::FIRST {
+        return false;
+    }
+    if past_l(stage) {
+        return tag != tags::LARGEST;
+    }
+    tag == tags::LARGEST
+}
+
 // L comes first and once, in its range, and nothing else before it.
 fn in_turn(event: Event, stage: Stage) -> bool
     ensures { λ r. ⌜ r ≡ inTurn event stage ⌝ }
@@ -190,65 +190,74 @@ fn in_turn(event: Event, stage: Stage) -> bool
     LEAST_LARGEST <= largest && largest <= GREATEST_LARGEST
 }
 
-// The field at an offset, in a stage: the log goes on with it, or it is broken and ends the log.
-fn field_at(log: &[u8], at: usize, stage: Stage) -> Next
-    ensures { λ r. ⌜ r ≡ fieldAt (now (log .entry)) at stage ⌝ }
+// How many bytes may come before the one that is past the end of every log.
+fn room_from(at: u64) -> usize
+    ensures { λ r. ⌜ r ≡ 2 ^ 48 - at ⌝ }
 {
-    let Frame::Framed(tag, n) = frame_at(log, at) else {
+    if LOG_END < at {
+        return 0;
+    }
+    (LOG_END - at) as usize
+}
+
+// Whether byte i of a field is read: it has come, and is not past the end of every log.
+fn is_read(at: u64, came: usize, i: usize) -> bool
+    ensures { λ r. ⌜ r ≡ isRead at came i ⌝ }
+{
+    if came <= i {
+        return false;
+    }
+    i < room_from(at)
+}
+
+// A field of which nothing more is known is not finished, unless the log is long.
+fn not_known(at: u64, came: usize) -> Next
+    ensures { λ r. ⌜ r ≡ cond (isPast at came) (Ends long) (unfinished came) ⌝ }
+{
+    if room_from(at) < came {
+        return Next::Ends(End::Long);
+    }
+    Next::Unfinished(came)
+}
+
+// What is known of the field at an offset, of which so many bytes have come. They stand in the list, or so many of them
+// as any field has whose value is not passed over.
+pub fn next_in(bytes: &[u8], came: usize, at: u64, stage: Stage) -> Next
+    requires { ⌜ (came ≤ length (now bytes)) ⊎ (13 ≤ length (now bytes)) ⌝ }
+    ensures { λ r. ⌜ r ≡ nextIn at (now (bytes .entry)) came stage ⌝ }
+{
+    if !is_read(at, came, 0) {
+        return not_known(at, came);
+    }
+    let tag = bytes[0];
+    if !right_tag(tag, stage) {
         return Next::Ends(End::Broken(at));
-    };
+    }
+    if !is_read(at, came, 2) {
+        return not_known(at, came);
+    }
+    let n = length_in(bytes);
     if !right_length(tag, n) {
         return Next::Ends(End::Broken(at));
     }
-    let value = at + HEADER;
-    let next = value + n;
-    let event = event_at(log, tag, value);
-    if in_turn(event, stage) {
-        return Next::GoesOn(event, next);
+    if !is_read(at, came, 2 + n) {
+        return not_known(at, came);
     }
-    Next::Ends(End::Broken(at))
+    let event = event_at(bytes, tag, HEADER);
+    if !in_turn(event, stage) {
+        return Next::Ends(End::Broken(at));
+    }
+    Next::GoesOn(event, HEADER + n)
 }
 
-// Whether a log of this many bytes is over 32,768, and so is not read.
-fn is_long(len: usize) -> bool
-    ensures { λ r. ⌜ r ≡ isLong len ⌝ }
-{
-    LONGEST_LOG < len
-}
-
-// Whether the log ends whole at an offset: its last field ends there, and L has been read.
-fn at_end(log: &[u8], at: usize, stage: Stage) -> bool
-    ensures { λ r. ⌜ r ≡ atEnd (now (log .entry)) at stage ⌝ }
+// How a log ends of whose last field so many bytes have come.
+pub fn end_in(at: u64, came: usize, stage: Stage) -> End
+    ensures { λ r. ⌜ r ≡ endIn at came stage ⌝ }
 {
     if past_l(stage) {
-        return at == log.len();
+        if came == 0 {
+            return End::Whole;
+        }
     }
-    false
-}
-
-// The field at an offset, or the end of the log. Whether a log ends, and how, is decided here alone.
-pub fn next_at(log: &[u8], at: usize, stage: Stage) -> Next
-    ensures { λ r. ⌜ r ≡ nextAt (now (log .entry)) at stage ⌝ }
-{
-    if is_long(log.len()) {
-        return Next::Ends(End::Long);
-    }
-    if at_end(log, at, stage) {
-        return Next::Ends(End::Whole);
-    }
-    field_at(log, at, stage)
-}
-
-// Whether what stands there is the end of a long log.
-pub fn ends_long(next: Next) -> bool
-    ensures { λ r. ⌜ r ≡ endsLong next ⌝ }
-{
-    match next {
-        Next::GoesOn(_, _) => false,
-        Next::Ends(end) => match end {
-            End::Whole => false,
-            End::Broken(_) => false,
-            End::Long => true,
-        },
-    }
+    End::Broken(at)
 }

@@ -47,5 +47,5 @@ pub const CLASSES: usize = CLASS_END as usize;
 // No slot begins at this clock or later.
 pub const CLOCK_END: u64 = 1 << 62;
 
-// A log over so many bytes is long, and is not read.
-pub const LONGEST_LOG: usize = 32768;
+// A byte of a log with this offset is past the end of every log, and is not read.
+pub const LOG_END: u64 = 1 << 48;

@@ -12,15 +12,15 @@ use Rattle.accounts.specs.Accounts.{overfull, counted}
 use Rattle.log.specs.declared.Event.{Event}
 use Rattle.log.specs.declared.Event.the-variants.{Largest, Open, Close, Rename, Arrive, Serve, Passed}
 use Rattle.log.specs.declared.End.{End}
-use Rattle.log.specs.declared.End.the-variants.{Broken as broken}
+use Rattle.log.specs.declared.End.the-variants.{Broken as broken, Long as long}
 use Rattle.log.specs.Format.{isL}
 use Rattle.log.specs.Rows.{WholeField, Reading, readFrom, readLog, NoL}
 use Rattle.log.proofs.Fields.{differ}
-use Rattle.log.proofs.Readings.{reads, no-l, read-whole, read-ends, long-log}
+use Rattle.log.proofs.Readings.{reads, no-l, read-whole, read-ends, read-cut, end-cut}
 use Rattle.listing_rules.specs.Events.{turnOf}
 use Rattle.report_lines.specs.Text.{fullLine}
-use Rattle.report_rules.specs.Report.{Reporting, unmade, fieldCounted, byEnd, reportEnd, reportOn, reportOf}
-use Rattle.report_rules.specs.Laws.{ReportWhole, ReportEnds, ReportBroken, ReportFirst, ReportLong, SameBoard, StaysFull}
+use Rattle.report_rules.specs.Report.{Reporting, fieldCounted, byEnd, reportEnd, reportOn, reportOf}
+use Rattle.report_rules.specs.Laws.{ReportWhole, ReportEnds, ReportCut, ReportBroken, ReportPart, ReportLong, ReportFirst, SameBoard, StaysFull}
 
 -- the report of a reading
 abbrev reported : Reporting → (p : ℕ) → Reading → List ℕ
@@ -29,27 +29,36 @@ reported r p x = reportOn r p (x .fields) (x .ends)
 -- a whole field is counted, and the report goes on from its end
 pub report-whole : ReportWhole
 unfolding reportOn
-report-whole r p log at stage e next h = ap (reported r p) (read-whole log at stage e next h)
+report-whole r p at bytes stage e size h = ap (reported r p) (read-whole at bytes stage e size h)
 
 -- the log's end makes the report
 pub report-ends : ReportEnds
 unfolding reportOn
-report-ends r p log at stage e h = ap (reported r p) (read-ends log at stage e h)
+report-ends r p at bytes stage e h = ap (reported r p) (read-ends at bytes stage e h)
+
+pub report-cut : ReportCut
+unfolding reportOn
+report-cut r p at bytes stage came h = ap (reported r p) (read-cut at bytes stage came h)
+
+-- a log that breaks or is long before the counting has stopped gives that one line
+end-alone : (r : Reporting) (p : ℕ) (e : End) → r .counts .full ≡ false → reportEnd r p e ≡ byEnd r p e
+unfolding reportEnd
+end-alone r p e k = ap (λ (t : Bool). cond t fullLine (byEnd r p e)) k
 
 pub report-broken : ReportBroken
-unfolding reportEnd
-report-broken r p log at stage n h k =
-    report-ends r p log at stage (broken n) h ∙ ap (λ (t : Bool). cond t fullLine (byEnd r p (broken n))) k
+report-broken r p at bytes stage n h k = report-ends r p at bytes stage (broken n) h ∙ end-alone r p (broken n) k
+
+pub report-part : ReportPart
+report-part r p at bytes stage came h l k =
+    report-cut r p at bytes stage came h ∙ ap (reportEnd r p) (end-cut at came stage l) ∙ end-alone r p (broken at) k
+
+pub report-long : ReportLong
+report-long r p at bytes stage h k = report-ends r p at bytes stage long h ∙ end-alone r p long k
 
 -- a log is read from its first byte
 pub report-first : ReportFirst
 unfolding reportOf readLog
 report-first log = refl
-
--- and one over 32,768 bytes gives the one line
-pub report-long : ReportLong
-unfolding reportOf reportOn reportEnd
-report-long log h = ap (reported unmade 0) (long-log log h)
 
 -- the board of every field but L is that of its call
 pub same-board : SameBoard
@@ -87,7 +96,7 @@ full-on (f ∷ fs) e r p n h = full-on fs e (fieldCounted r (f .event)) p (n .1)
 
 pub stays-full : StaysFull
 unfolding readFrom
-stays-full r p log at stage past h =
-    let x = readFrom log at stage in
-    let row = reads (suc (length log)) log at stage (omega arith) in
-    full-on (x .fields) (x .ends) r p (no-l log at stage (x .fields) (x .ends) past row) h
+stays-full r p at bytes stage past h =
+    let x = readFrom at bytes stage in
+    let row = reads (suc (length bytes)) at bytes stage (omega arith) in
+    full-on (x .fields) (x .ends) r p (no-l at bytes stage (x .fields) (x .ends) past row) h

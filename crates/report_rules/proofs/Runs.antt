@@ -1,14 +1,13 @@
 -- A report is made from a run of its log's calls, by what each field makes of board and counts; so its lines are short.
 use mathlib.Core.Path.{_≡_, refl, sym, ap, subst, _∙_}
 use mathlib.Core.Bool.{Bool, true, false, cond}
-use mathlib.Core.Logic.{_⊎_, inl, inr}
 use mathlib.Core.List.{List, [], _∷_, _++_}
-use Prim.Native.Nat.{ℕ, zero, suc, _+_, _-_, _^_, _≤_, _<_}
+use Prim.Native.Nat.{ℕ, zero, suc, _+_, _-_, _^_, _≤_}
 use native.Mathlib.Omega.{arith}
 use lib.ListN.{length}
 use lib.Dec.{ltb}
 use lib.IntN.{pos, negsuc, _-ℤ_, natAbs}
-use Rattle.base.proofs.Numbers.{true-le, split}
+use Rattle.base.proofs.Numbers.{true-le}
 use Rattle.rules.specs.Board.{Board, at, isOpen, fresh}
 use Rattle.rules.specs.Blocks.{meant}
 use Rattle.rules.specs.Calls.{Single, open!, rename!, close!, record!, serve!, step}
@@ -25,9 +24,9 @@ use Rattle.log.specs.declared.Event.{Event}
 use Rattle.log.specs.declared.Event.the-variants.{Largest, Open, Close, Rename, Arrive, Serve, Passed}
 use Rattle.log.specs.declared.End.{End}
 use Rattle.log.specs.Format.{isL}
-use Rattle.log.specs.Rows.{WholeField, Reading, readLog, NoL, LFirst}
+use Rattle.log.specs.Rows.{WholeField, readLog, NoL, LFirst}
 use Rattle.log.proofs.Fields.{differ}
-use Rattle.log.proofs.Readings.{log-row, long-log}
+use Rattle.log.proofs.Readings.{log-row}
 use Rattle.report_lines.specs.Text.{accountLine}
 use Rattle.report_lines.proofs.Fitting.{counted-fits}
 use Rattle.report_rules.specs.Report.{Reporting, unmade, fieldCounted, difference, placeLine, reportEnd, reportOn, reportOf}
@@ -74,13 +73,7 @@ sizeOf Serve = 0
 sizeOf Passed = 0
 
 l-first : (log : List ℕ) (f : WholeField) (fs : List WholeField) → readLog log .fields ≡ f ∷ fs → LFirst (f ∷ fs)
-l-first log f fs h = go (split (length log) 32768)
-  where
-    go : (length log ≤ 32768) ⊎ (32768 < length log) → LFirst (f ∷ fs)
-    go (inl short) = subst LFirst h (log-row log short .first)
-    go (inr long!) =
-        let none : _≡_ {A = ℕ} 0 (length (f ∷ fs)) = ap (λ (r : Reading). length (r .fields)) (sym (long-log log long!)) ∙ ap length h in
-        absurd (omega (arith, none))
+l-first log f fs h = subst LFirst h (log-row log .first)
 
 pub l-begins : LBegins
 l-begins log f fs h = let w = l-first log f fs h .0 in (w .0, w .1 .0)

@@ -3,8 +3,8 @@
 use mathlib.Core.Path.{_≡_}
 use mathlib.Core.Bool.{true, false}
 use mathlib.Core.List.{List, [], _∷_, _++_}
-use Prim.Native.Nat.{ℕ, _^_, _≤_, _<_}
-use lib.ListN.{length}
+use Prim.Native.Nat.{ℕ, _+_, _^_, _≤_, _<_}
+use lib.ListN.{length, drop}
 use Rattle.rules.specs.Board.{at, fresh}
 use Rattle.rules.specs.Blocks.{meant}
 use Rattle.rules.specs.Calls.{Single, open!, rename!, close!, record!, serve! }
@@ -16,10 +16,10 @@ use Rattle.log.specs.declared.Stage.the-variants.{BeforeL}
 use Rattle.log.specs.declared.Event.{Event}
 use Rattle.log.specs.declared.Event.the-variants.{Largest, Open, Close, Rename, Arrive, Serve, Passed}
 use Rattle.log.specs.declared.End.{End}
-use Rattle.log.specs.declared.End.the-variants.{Broken as broken}
-use Rattle.log.specs.declared.Next.the-variants.{GoesOn, Ends}
+use Rattle.log.specs.declared.End.the-variants.{Broken as broken, Long as long}
+use Rattle.log.specs.declared.Next.the-variants.{GoesOn, Ends, Unfinished}
 use Rattle.log.specs.Format.{pastL, stageAfter}
-use Rattle.log.specs.Rows.{WholeField, nextAt, readLog}
+use Rattle.log.specs.Rows.{WholeField, endIn, nextOf, readLog}
 use Rattle.log.specs.Worked.{workedLog}
 use Rattle.lines.specs.Listing.{brokenLine, longLine}
 use Rattle.listing_rules.specs.Listing.{Playing, played}
@@ -29,26 +29,38 @@ use Rattle.report_rules.specs.Report.{Reporting, unmade, fieldCounted, p
 
 -- A whole field is counted, and the report goes on from its end.
 abbrev pub ReportWhole : Type 0
-ReportWhole = (r : Reporting) (p : ℕ) (log : List ℕ) (at : ℕ) (stage : Stage) (e : Event) (next : ℕ)
-    → nextAt log at stage ≡ GoesOn e next
-    → reportFrom r p log at stage ≡ reportFrom (fieldCounted r e) p log next (stageAfter stage e)
+ReportWhole = (r : Reporting) (p at : ℕ) (bytes : List ℕ) (stage : Stage) (e : Event) (size : ℕ)
+    → nextOf at bytes stage ≡ GoesOn e size
+    → reportFrom r p at bytes stage
+    ≡ reportFrom (fieldCounted r e) p (at + size) (drop size bytes) (stageAfter stage e)
 
 -- Where the log ends the report is made.
 abbrev pub ReportEnds : Type 0
-ReportEnds = (r : Reporting) (p : ℕ) (log : List ℕ) (at : ℕ) (stage : Stage) (e : End)
-    → nextAt log at stage ≡ Ends e → reportFrom r p log at stage ≡ reportEnd r p e
+ReportEnds = (r : Reporting) (p at : ℕ) (bytes : List ℕ) (stage : Stage) (e : End)
+    → nextOf at bytes stage ≡ Ends e → reportFrom r p at bytes stage ≡ reportEnd r p e
 
--- Unless the counting has stopped, a field that is not whole gives `broken N`, and that alone.
+abbrev pub ReportCut : Type 0
+ReportCut = (r : Reporting) (p at : ℕ) (bytes : List ℕ) (stage : Stage) (came : ℕ)
+    → nextOf at bytes stage ≡ Unfinished came → reportFrom r p at bytes stage ≡ reportEnd r p (endIn at came stage)
+
+-- Unless the counting has stopped, a broken or a cut field gives `broken N`, and a byte with offset 2^48 `long`, and
+-- that alone.
 abbrev pub ReportBroken : Type 0
-ReportBroken = (r : Reporting) (p : ℕ) (log : List ℕ) (at : ℕ) (stage : Stage) (n : ℕ)
-    → nextAt log at stage ≡ Ends (broken n) → r .counts .full ≡ false → reportFrom r p log at stage ≡ brokenLine n
+ReportBroken = (r : Reporting) (p at : ℕ) (bytes : List ℕ) (stage : Stage) (n : ℕ)
+    → nextOf at bytes stage ≡ Ends (broken n) → r .counts .full ≡ false → reportFrom r p at bytes stage ≡ brokenLine n
 
--- A log is read from its first byte, and one over 32,768 bytes gives the one line `long`.
-abbrev pub ReportFirst : Type 0
-ReportFirst = (log : List ℕ) → reportOf log ≡ reportFrom unmade 0 log 0 BeforeL
+abbrev pub ReportPart : Type 0
+ReportPart = (r : Reporting) (p at : ℕ) (bytes : List ℕ) (stage : Stage) (came : ℕ)
+    → nextOf at bytes stage ≡ Unfinished came → 0 < came → r .counts .full ≡ false
+    → reportFrom r p at bytes stage ≡ brokenLine at
 
 abbrev pub ReportLong : Type 0
-ReportLong = (log : List ℕ) → 32768 < length log → reportOf log ≡ longLine
+ReportLong = (r : Reporting) (p at : ℕ) (bytes : List ℕ) (stage : Stage)
+    → nextOf at bytes stage ≡ Ends long → r .counts .full ≡ false → reportFrom r p at bytes stage ≡ longLine
+
+-- A log is read from its first byte.
+abbrev pub ReportFirst : Type 0
+ReportFirst = (log : List ℕ) → reportOf log ≡ reportFrom unmade 0 0 log BeforeL
 
 -- The board is the listing's, field by field, whatever comes of the counting.
 abbrev pub SameBoard : Type 0
@@ -58,8 +70,8 @@ SameBoard = (r : Reporting) (q : Playing) (e : Event) → r .board ≡ q .board
 -- Once the counting has stopped, the report is the one line `full`, whatever follows. (It stops at a serve, so after
 -- L.)
 abbrev pub StaysFull : Type 0
-StaysFull = (r : Reporting) (p : ℕ) (log : List ℕ) (at : ℕ) (stage : Stage) → pastL stage ≡ true
-    → r .counts .full ≡ true → reportFrom r p log at stage ≡ fullLine
+StaysFull = (r : Reporting) (p at : ℕ) (bytes : List ℕ) (stage : Stage) → pastL stage ≡ true
+    → r .counts .full ≡ true → reportFrom r p at bytes stage ≡ fullLine
 
 -- ---- A report speaks of a run: all that is promised of the counts of runs holds of its lines.
 

@@ -75,9 +75,9 @@ unfoldable pub reportOn : Reporting → (p : ℕ) → List WholeField → End �
 reportOn r p [] e = reportEnd r p e
 reportOn r p (f ∷ fs) e = reportOn (fieldCounted r (f .event)) p fs e
 
--- the report of what follows an offset, without the places before p
-abbrev pub reportFrom : Reporting → (p : ℕ) (log : List ℕ) (at : ℕ) → Stage → List ℕ
-reportFrom r p log at stage = reportOn r p (readFrom log at stage .fields) (readFrom log at stage .ends)
+-- the report of these bytes, the first of which has this offset, without the places before p
+abbrev pub reportFrom : Reporting → (p at : ℕ) (bytes : List ℕ) → Stage → List ℕ
+reportFrom r p at bytes stage = reportOn r p (readFrom at bytes stage .fields) (readFrom at bytes stage .ends)
 
 -- THE REPORT
 unfoldable pub reportOf : (log : List ℕ) → List ℕ

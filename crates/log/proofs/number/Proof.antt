@@ -10,10 +10,10 @@ use Rattle.log.proofs.number.Statement.{statement}
 use Rattle.log.proofs.number.Tie as tie
 
 abbrev Inv-loop : tie.InvT-loop
-Inv-loop log at n sum₀ left₀ sum left = (left ≤ n) × (sum ≡ numberAt log at (n - left))
+Inv-loop bytes i n sum₀ left₀ sum left = (left ≤ n) × (sum ≡ numberAt bytes i (n - left))
 
 abbrev μ-loop : tie.MeasureT-loop
-μ-loop log at n sum₀ left₀ sum left = left
+μ-loop bytes i n sum₀ left₀ sum left = left
 
 loop-holds : tie.Need-loop-holds Inv-loop μ-loop
 loop-holds c = let q : c .before .args .n - c .before .args .n ≡ 0 = omega arith in (omega arith, rw q (number-none _ _))
@@ -35,7 +35,7 @@ mul-sum c =
     let at-loop-test = c .before .before in
     let at-loop = at-loop-test .before in
     let at-start = at-loop .before .before in
-    shift-fits (now (at-start .args .log)) (at-start .args .at) (at-start .args .n - c .before .before .before .loop .left) (at-loop .loop .sum)
+    shift-fits (now (at-start .args .bytes)) (at-start .args .i) (at-start .args .n - c .before .before .before .loop .left) (at-loop .loop .sum)
     (λ (j : ℕ). c .before .before .before .before .shared-slice-known .given j .fits)
     (omega (arith, at-loop-test .loop-test .taken, at-loop .loop .inv .0, at-start .pre)) (at-loop .loop .inv .1)
 
@@ -44,7 +44,7 @@ add-sum c =
     let at-loop-test = c .before .before in
     let at-loop = at-loop-test .before in
     let at-start = at-loop .before .before in
-    turn-fits (now (at-start .args .log)) (at-start .args .at) (at-start .args .n - c .before .before .before .loop .left) (at-loop .loop .sum)
+    turn-fits (now (at-start .args .bytes)) (at-start .args .i) (at-start .args .n - c .before .before .before .loop .left) (at-loop .loop .sum)
     (c .wide .result) (λ (j : ℕ). c .before .before .before .before .shared-slice-known .given j .fits)
     (omega (arith, at-loop-test .loop-test .taken, at-loop .loop .inv .0, at-start .pre)) (at-loop .loop .inv .1) (c .wide .ensures .1)
 
@@ -65,7 +65,7 @@ loop-again c =
       omega arith,
       rw (
         q,
-        number-more (now (at-start .args .log)) (at-start .args .at) (at-start .args .n - c .before .before .before .loop .left),
+        number-more (now (at-start .args .bytes)) (at-start .args .i) (at-start .args .n - c .before .before .before .loop .left),
         ← at-loop .loop .inv .1,
         c .wide .ensures .0,
       ),
@@ -76,7 +76,7 @@ returns c =
     let at-loop = c .before in
     let at-start = at-loop .before .before in
     let q : c .before .before .before .args .n - c .before .loop .left ≡ c .before .before .before .args .n =
-    omega arith in at-loop .loop .inv .1 ∙ ap (numberAt (now (at-start .args .log)) (at-start .args .at)) q
+    omega arith in at-loop .loop .inv .1 ∙ ap (numberAt (now (at-start .args .bytes)) (at-start .args .i)) q
 
 pub number-spec : {M : Type 1} → statement M
 number-spec =

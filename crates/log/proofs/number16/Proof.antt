@@ -13,7 +13,7 @@ number-requires c κs = search needs
 cast-result : tie.Need-cast-result
 cast-result c =
     let at-start = c .before .before in
-    omega (arith, c .number .ensures, number-lt (now (at-start .args .log)) (at-start .args .at) 2 (λ (j : ℕ). c .before .shared-slice-known .given j .fits))
+    omega (arith, c .number .ensures, number-lt (now (at-start .args .bytes)) (at-start .args .i) 2 (λ (j : ℕ). c .before .shared-slice-known .given j .fits))
 
 returns : tie.Need-returns
 returns c = search needs
