@@ -1,14 +1,15 @@
-// The player of a log: it writes the listing in pieces, each into a lent buffer, and works on the engine's arrays from
-// field to field.
+// The player of a log that comes in fragments: it is lent one after the other, and writes the listing to lent buffers,
+// a line as soon as its field is whole. It works on the engine's arrays from field to field.
 ghost use mathlib.Core.Path.{_≡_};
-ghost use mathlib.Core.Bool.{true, false};
-ghost use Prim.Native.Nat.{_+_, _≤_};
-ghost use lib.ListN.{length, take};
+ghost use mathlib.Core.Bool.{true, false, _||_};
+ghost use lib.Dec.{ltb, eqb};
+ghost use lib.ListN.{length};
 ghost use Rattle.log.specs.Format.{pastL};
-ghost use Rattle.lines.specs.Text.{Written};
 ghost use Rattle.arrays.specs.Lists.{totalOf};
-ghost use Rattle.player.specs.Pieces.{beforeFirst, pieceCode, CanGoOn, endedPiece, PieceDone, PieceOf};
+ghost use Rattle.player.specs.Feeding.{beforeFirst, feedCode, CanGoOn, endedState, endedPiece, stayed};
+ghost use Rattle.player.specs.Feeding.{FeedDone, FeedOf, CloseOf};
 use board::Board;
+use fragments::FIELD_ROOM;
 use lines::LINE_ROOM;
 use log::Event;
 use log::Next;
@@ -18,24 +19,30 @@ use numbers::TABLE_ENTRIES;
 use numbers::codes;
 use units::Bytes;
 
-// The most bytes sent for each byte of a log that was read: a field has more than one, and sends one record at most.
-const SENT_PER_LOG_BYTE: usize = serving::ANY_LENGTH as usize;
+// A field has at least so many bytes, and sends one record at most.
+const FIELD_BYTES: u64 = 3;
 
-// What stands between two pieces of a listing: the stage of the log, the offset of the next field, the bytes sent so
-// far, and the board.
+// More bytes than a record is charged.
+const SENT_PER_FIELD: u64 = serving::ANY_LENGTH;
+
+// What stands between two calls: the stage of the log, and whether its listing is over; the offset of the next field,
+// how many bytes of it have come, and those that are kept; the bytes sent so far, and the board.
 pub struct State {
     pub stage: Stage,
-    pub at: usize,
+    pub over: bool,
+    pub at: u64,
+    pub came: usize,
+    pub kept: [u8; FIELD_ROOM],
     pub sent: Bytes,
     pub board: Board,
 }
 
-// A piece of a listing: the code of a refusal, or DONE; how many bytes were written; whether it was the last, as a
-// refusal is; and the state to go on from, which after the last is the one given.
+// A piece of a listing: the code of a refusal, or DONE; how many bytes of the fragment were taken, and how many were
+// written; and the state to go on from.
 pub struct Piece {
     pub code: u8,
+    pub taken: usize,
     pub used: usize,
-    pub over: bool,
     pub state: State,
 }
 
@@ -46,20 +53,12 @@ fn waiting(counts: &[u16; PLACES]) -> u32
     arrays::sum_shorts(counts)
 }
 
-// A line is put behind what is written.
-fn append(out: &mut [u8], used: usize, line: &[u8; LINE_ROOM], count: usize) -> usize
-    requires { ⌜ (count ≤ 64) × (used + count ≤ length (now out)) ⌝ }
-    ensures { λ r. ⌜ Written (now (out .entry)) used (take count (now (line .entry))) r (now (out .exit)) ⌝ }
-{
-    lines::put_front(out, used, line, count)
-}
-
-// Whether a piece may go on from a state: TABLE_LENGTH for the tables, SPOILT for a log, a sum or a board with which no
-// piece leaves one.
-fn unready(log: &[u8], ids: &[u32], lens: &[u16], s: State) -> u8
+// Whether a call may go on from a state: TABLE_LENGTH for the tables, SPOILT for an offset, kept bytes, a sum or a
+// board with which no call leaves one. Where the listing is over nothing but the tables is looked at.
+fn unready(ids: &[u32], lens: &[u16], s: State) -> u8
     ensures { λ r. ⌜
-        (r ≡ pieceCode (now (log .entry)) s (now (ids .entry)) (now (lens .entry)))
-        × (r ≡ 0 → pastL (s .stage) ≡ true → CanGoOn (now (log .entry)) s (now (ids .entry)) (now (lens .entry))) ⌝ }
+        (r ≡ feedCode s (now (ids .entry)) (now (lens .entry)))
+        × (r ≡ 0 → s .over ≡ false → CanGoOn s (now (ids .entry)) (now (lens .entry))) ⌝ }
 {
     if ids.len() != TABLE_ENTRIES {
         return codes::TABLE_LENGTH;
@@ -67,37 +66,83 @@ fn unready(log: &[u8], ids: &[u32], lens: &[u16], s: State) -> u8
     if lens.len() != TABLE_ENTRIES {
         return codes::TABLE_LENGTH;
     }
+    if s.over {
+        return codes::DONE;
+    }
     let stage = s.stage;
+    let kept = s.kept;
+    if !fragments::is_fit(&kept, s.came, s.at, stage) {
+        return codes::SPOILT;
+    }
     if !log::past_l(stage) {
         return codes::DONE;
     }
-    if log::ends_long(log::next_at(log, s.at, stage)) {
-        return codes::SPOILT;
-    }
     let sent = s.sent;
-    if s.at < sent.0 as usize / SENT_PER_LOG_BYTE {
+    if s.at / FIELD_BYTES < sent.0 / SENT_PER_FIELD {
         return codes::SPOILT;
     }
     spoilt::early(ids, lens, s.board)
 }
 
-// The last piece: what was written, and the listing is over.
-fn last_piece(used: usize, s: State) -> Piece
-    ensures { λ r. ⌜ r ≡ endedPiece used s ⌝ }
+// The state in which the listing is over; nothing else of it is looked at any more.
+fn ended(s: State) -> State
+    ensures { λ r. ⌜ r ≡ endedState s ⌝ }
 {
+    let stage = s.stage;
+    let kept = s.kept;
+    let sent = s.sent;
+    let board = s.board;
+    State {
+        stage: stage,
+        over: true,
+        at: s.at,
+        came: s.came,
+        kept: kept,
+        sent: sent,
+        board: board,
+    }
+}
+
+// The last piece: what was taken and written, and the listing is over.
+fn last_piece(taken: usize, used: usize, s: State) -> Piece
+    ensures { λ r. ⌜ r ≡ endedPiece taken used s ⌝ }
+{
+    let state = ended(s);
     Piece {
         code: codes::DONE,
+        taken: taken,
         used: used,
-        over: true,
+        state: state,
+    }
+}
+
+// A piece that leaves the state as it is, and writes nothing.
+fn nothing(code: u8, taken: usize, s: State) -> Piece
+    ensures { λ r. ⌜ r ≡ stayed code taken s ⌝ }
+{
+    Piece {
+        code: code,
+        taken: taken,
+        used: 0,
         state: s,
     }
 }
 
-// The fields after L in turn, as long as there is room for a line, and then the last line.
-fn next_piece(log: &[u8], ids: &mut [u32], lens: &mut [u16], out: &mut [u8], s: State) -> Piece
-    requires { ⌜ CanGoOn (now log) s (now ids) (now lens) ⌝ }
+// Whether a piece stops between two fields: no room is left for a line, or no byte of the fragment.
+fn stops(room: usize, left: usize) -> bool
+    ensures { λ r. ⌜ r ≡ (ltb room 64 || eqb left 0) ⌝ }
+{
+    if room < LINE_ROOM {
+        return true;
+    }
+    left == 0
+}
+
+// The fields after L in turn, as long as there is room for a line.
+fn next_piece(fragment: &[u8], ids: &mut [u32], lens: &mut [u16], out: &mut [u8], s: State) -> Piece
+    requires { ⌜ CanGoOn s (now ids) (now lens) × (pastL (s .stage) ≡ true) ⌝ }
     ensures { λ r. ⌜
-        PieceDone (now (log .entry)) s (now (ids .entry)) (now (lens .entry)) (now (out .entry))
+        FeedDone s (now (ids .entry)) (now (lens .entry)) (now (fragment .entry)) (now (out .entry))
         r (now (ids .exit)) (now (lens .exit)) (now (out .exit)) ⌝ }
 {
     let b = s.board;
@@ -114,11 +159,13 @@ fn next_piece(log: &[u8], ids: &mut [u32], lens: &mut [u16], out: &mut [u8], s: 
     let mut now = board::numbers_of(b);
     let mut stage = s.stage;
     let mut at = s.at;
+    let mut came = s.came;
+    let mut kept = s.kept;
     let mut sent = s.sent;
+    let mut taken: usize = 0;
     let mut used: usize = 0;
-    let mut line = [0u8; LINE_ROOM];
     loop {
-        if out.len() - used < LINE_ROOM {
+        if stops(out.len() - used, fragment.len() - taken) {
             let board = board::packed(
                 numbers,
                 shares,
@@ -135,24 +182,30 @@ fn next_piece(log: &[u8], ids: &mut [u32], lens: &mut [u16], out: &mut [u8], s: 
             );
             return Piece {
                 code: codes::DONE,
+                taken: taken,
                 used: used,
-                over: false,
                 state: State {
                     stage: stage,
+                    over: false,
                     at: at,
+                    came: came,
+                    kept: kept,
                     sent: sent,
                     board: board,
                 },
             };
         }
-        let here = log::next_at(log, at, stage);
+        let here = fragments::read_on(fragment, taken, &mut kept, came, at, stage);
         match here {
             Next::Ends(end) => {
-                let count = fields::show_end(end, now.clock, sent, waiting(&counts), &mut line);
-                let last = append(out, used, &line, count);
-                return last_piece(last, s);
+                let last = fields::show_end(end, now.clock, sent, waiting(&counts), out, used);
+                return last_piece(fragment.len(), last, s);
             }
-            Next::GoesOn(event, on) => {
+            Next::Unfinished(part) => {
+                taken += part - came;
+                came = part;
+            }
+            Next::GoesOn(event, size) => {
                 let left = now.left;
                 let moved = fields::play_field(
                     event,
@@ -175,11 +228,14 @@ fn next_piece(log: &[u8], ids: &mut [u32], lens: &mut [u16], out: &mut [u8], s: 
                     &mut held,
                     ids,
                     lens,
-                    &mut line,
+                    out,
+                    used,
                 );
-                used = append(out, used, &line, moved.shown);
+                used = moved.used;
+                taken += size - came;
+                at += size as u64;
+                came = 0;
                 stage = log::stage_after(stage, event);
-                at = on;
                 let total = moved.sent;
                 sent = total;
                 let after = moved.after;
@@ -189,43 +245,66 @@ fn next_piece(log: &[u8], ids: &mut [u32], lens: &mut [u16], out: &mut [u8], s: 
     }
 }
 
-// The first field: the board is made, or the listing is one line.
-fn first_piece(log: &[u8], ids: &mut [u32], lens: &mut [u16], out: &mut [u8], s: State) -> Piece
-    requires { ⌜ (pastL (s .stage) ≡ false) × (pieceCode (now log) s (now ids) (now lens) ≡ 0) ⌝ }
+// The first field: the board is made, or the listing is one line. The piece ends there.
+fn first_piece(
+    fragment: &[u8],
+    ids: &mut [u32],
+    lens: &mut [u16],
+    out: &mut [u8],
+    s: State,
+) -> Piece
+    requires { ⌜ CanGoOn s (now ids) (now lens) × (pastL (s .stage) ≡ false) ⌝ }
     ensures { λ r. ⌜
-        PieceDone (now (log .entry)) s (now (ids .entry)) (now (lens .entry)) (now (out .entry))
+        FeedDone s (now (ids .entry)) (now (lens .entry)) (now (fragment .entry)) (now (out .entry))
         r (now (ids .exit)) (now (lens .exit)) (now (out .exit)) ⌝ }
 {
-    if out.len() < LINE_ROOM {
-        return Piece {
-            code: codes::DONE,
-            used: 0,
-            over: false,
-            state: s,
-        };
+    if stops(out.len(), fragment.len()) {
+        return nothing(codes::DONE, 0, s);
     }
-    let mut line = [0u8; LINE_ROOM];
-    let here = log::next_at(log, 0, Stage::BeforeL);
+    let stage = s.stage;
+    let came = s.came;
+    let mut kept = s.kept;
+    let here = fragments::read_on(fragment, 0, &mut kept, came, s.at, stage);
     match here {
         Next::Ends(end) => {
-            let count = fields::show_end(end, 0, Bytes(0), 0, &mut line);
-            let last = append(out, 0, &line, count);
-            last_piece(last, s)
+            let last = fields::show_end(end, 0, Bytes(0), 0, out, 0);
+            last_piece(fragment.len(), last, s)
         }
-        Next::GoesOn(event, on) => {
+        Next::Unfinished(part) => {
+            let sent = s.sent;
+            let board = s.board;
+            Piece {
+                code: codes::DONE,
+                taken: part - came,
+                used: 0,
+                state: State {
+                    stage: stage,
+                    over: false,
+                    at: s.at,
+                    came: part,
+                    kept: kept,
+                    sent: sent,
+                    board: board,
+                },
+            }
+        }
+        Next::GoesOn(event, size) => {
             // No other field is whole before L, so this is never taken.
             let Event::Largest(largest) = event else {
-                return last_piece(0, s);
+                return nothing(codes::DONE, 0, s);
             };
-            let stage = log::stage_after(Stage::BeforeL, event);
+            let after = log::stage_after(stage, event);
             let board = blocks::make_in(ids, lens, largest);
             Piece {
                 code: codes::DONE,
+                taken: size - came,
                 used: 0,
-                over: false,
                 state: State {
-                    stage: stage,
-                    at: on,
+                    stage: after,
+                    over: false,
+                    at: s.at + size as u64,
+                    came: 0,
+                    kept: kept,
                     sent: Bytes(0),
                     board: board,
                 },
@@ -234,26 +313,48 @@ fn first_piece(log: &[u8], ids: &mut [u32], lens: &mut [u16], out: &mut [u8], s:
     }
 }
 
-// The next piece of a log's listing, into a lent buffer.
-pub fn list_piece(log: &[u8], ids: &mut [u32], lens: &mut [u16], out: &mut [u8], s: State) -> Piece
+// The next fragment of a log: what there is to list of it, into a lent buffer.
+pub fn feed(fragment: &[u8], ids: &mut [u32], lens: &mut [u16], out: &mut [u8], s: State) -> Piece
     ensures { λ r. ⌜
-        PieceOf (now (log .entry)) s (now (ids .entry)) (now (lens .entry)) (now (out .entry))
+        FeedOf s (now (ids .entry)) (now (lens .entry)) (now (fragment .entry)) (now (out .entry))
         r (now (ids .exit)) (now (lens .exit)) (now (out .exit)) ⌝ }
 {
-    let refusal = unready(log, &ids[..], &lens[..], s);
+    let refusal = unready(&ids[..], &lens[..], s);
     if refusal != codes::DONE {
-        return Piece {
-            code: refusal,
-            used: 0,
-            over: true,
-            state: s,
-        };
+        return nothing(refusal, 0, s);
+    }
+    if s.over {
+        return nothing(codes::DONE, fragment.len(), s);
     }
     let stage = s.stage;
     if log::past_l(stage) {
-        return next_piece(log, ids, lens, out, s);
+        return next_piece(fragment, ids, lens, out, s);
     }
-    first_piece(log, ids, lens, out, s)
+    first_piece(fragment, ids, lens, out, s)
+}
+
+// The end of a log: its last line, into a lent buffer, unless it is written. Without room for it nothing is done.
+pub fn finish(ids: &[u32], lens: &[u16], out: &mut [u8], s: State) -> Piece
+    ensures { λ r. ⌜
+        CloseOf s (now (ids .entry)) (now (lens .entry)) (now (out .entry)) r (now (out .exit)) ⌝ }
+{
+    let refusal = unready(ids, lens, s);
+    if refusal != codes::DONE {
+        return nothing(refusal, 0, s);
+    }
+    if s.over {
+        return nothing(codes::DONE, 0, s);
+    }
+    if out.len() < LINE_ROOM {
+        return nothing(codes::DONE, 0, s);
+    }
+    let stage = s.stage;
+    let end = log::end_in(s.at, s.came, stage);
+    let b = s.board;
+    let counts = b.counts;
+    let sent = s.sent;
+    let last = fields::show_end(end, b.clock, sent, waiting(&counts), out, 0);
+    last_piece(0, last, s)
 }
 
 // Where a listing begins: L has not been read, and there is no board yet.
@@ -262,7 +363,10 @@ pub fn begin() -> State
 {
     State {
         stage: Stage::BeforeL,
+        over: false,
         at: 0,
+        came: 0,
+        kept: [0; FIELD_ROOM],
         sent: Bytes(0),
         board: board::blank(0),
     }

@@ -1,25 +1,50 @@
-// Reports on a log: the log on standard input, its report on standard output. A log that cannot be read has no report,
-// and a Rattle program has no exit status: what fails is said on standard error.
+// Reports on a log as it comes: the log on standard input, its report on standard output. A log that cannot be read has
+// no report, and a Rattle program has no exit status: what fails is said on standard error.
 use libc::STDERR_FILENO;
-use numbers::LONGEST_LOG;
 use numbers::TABLE_ENTRIES;
 
-// The bytes of a log that is read, and one more, so that a longer one is seen to be long.
-const MOST: usize = LONGEST_LOG + 1;
+// The bytes that are read at a time at most.
+const FRAGMENT: usize = 65536;
 
-fn main() {
-    let mut log = [0u8; MOST];
-    let mut whole = true;
-    let n = log_input::read_log(&mut log, &mut whole);
-    if !whole {
-        io::write_all(STDERR_FILENO, b"report: the log cannot be read\n");
-        return;
-    }
-    let mut ids = [0u32; TABLE_ENTRIES];
-    let mut lens = [0u16; TABLE_ENTRIES];
-    let first = reporting::begin();
-    let written = report_output::write_from(&log[..n], &mut ids, &mut lens, first);
+// The bytes of the buffer for a piece of the report.
+const ROOM: usize = 4096;
+
+// Says so where a report could not be written.
+fn say(written: bool) {
     if !written {
         io::write_all(STDERR_FILENO, b"report: the report cannot be written\n");
+    }
+}
+
+fn main() {
+    let mut ids = [0u32; TABLE_ENTRIES];
+    let mut lens = [0u16; TABLE_ENTRIES];
+    let mut fragment = [0u8; FRAGMENT];
+    let mut out = [0u8; ROOM];
+    let mut state = reporting::begin();
+    loop {
+        let mut failed = false;
+        let n = log_input::next_fragment(&mut fragment, &mut failed);
+        if failed {
+            io::write_all(STDERR_FILENO, b"report: the log cannot be read\n");
+            return;
+        }
+        if n == 0 {
+            say(report_output::write_end(&ids, &lens, &mut out, state));
+            return;
+        }
+        let fed = report_output::write_fragment(
+            &fragment[..n],
+            &mut ids,
+            &mut lens,
+            &mut out,
+            state,
+        );
+        if !fed.goes {
+            say(fed.written);
+            return;
+        }
+        let next = fed.state;
+        state = next;
     }
 }

@@ -1,32 +1,40 @@
-// A log played to its end with the counts beside the engine's arrays, for its report. No line is written.
-ghost use Rattle.report_play.specs.Rest.{CanGoOn, RestPlayed};
+// A log that comes in fragments, played with the counts beside the engine's arrays, for its report. No line is written.
+ghost use Rattle.report_play.specs.Playing.{CanPlay, PlayedOn};
 use board::Board;
 use counting::Counts;
+use fragments::FIELD_ROOM;
 use log::End;
 use log::Next;
 use log::Stage;
 
-// What stands between two pieces of a report: the stage of the log, the offset of the next field, the place from which
-// lines are still to be written, the board, and the counts beside it.
+// What stands between two calls: the stage of the log, and whether its report is over; the offset of the next field,
+// how many bytes of it have come, and those that are kept; the place from which lines are still to be written, the
+// board, and the counts beside it.
 pub struct State {
     pub stage: Stage,
-    pub at: usize,
+    pub over: bool,
+    pub at: u64,
+    pub came: usize,
+    pub kept: [u8; FIELD_ROOM],
     pub shown: usize,
     pub board: Board,
     pub counts: Counts,
 }
 
-// A log that is played to its end: how it ends, and the state there.
+// A fragment that is played: whether the log is broken or long in it, how it ends then, and whether the counting had
+// stopped there; else the state behind it.
 pub struct Played {
+    pub ends: bool,
     pub end: End,
+    pub full: bool,
     pub state: State,
 }
 
-// All fields from a state on, up to the log's end. No line is written.
-pub fn play_rest(log: &[u8], ids: &mut [u32], lens: &mut [u16], s: State) -> Played
-    requires { ⌜ CanGoOn (now log) s (now ids) (now lens) ⌝ }
+// The fields after L in turn, as far as they are whole in this fragment.
+pub fn play_on(fragment: &[u8], ids: &mut [u32], lens: &mut [u16], s: State) -> Played
+    requires { ⌜ CanPlay s (now ids) (now lens) ⌝ }
     ensures { λ r. ⌜
-        RestPlayed (now (log .entry)) s (now (ids .entry)) (now (lens .entry))
+        PlayedOn s (now (ids .entry)) (now (lens .entry)) (now (fragment .entry))
         r (now (ids .exit)) (now (lens .exit)) ⌝ }
 {
     let b = s.board;
@@ -49,42 +57,29 @@ pub fn play_rest(log: &[u8], ids: &mut [u32], lens: &mut [u16], s: State) -> Pla
     let mut now = board::numbers_of(b);
     let mut stage = s.stage;
     let mut at = s.at;
-    loop {
-        let here = log::next_at(log, at, stage);
+    let mut came = s.came;
+    let mut kept = s.kept;
+    let mut taken: usize = 0;
+    while taken < fragment.len() {
+        let here = fragments::read_on(fragment, taken, &mut kept, came, at, stage);
         match here {
             Next::Ends(end) => {
-                let board = board::packed(
-                    numbers,
-                    shares,
-                    starts,
-                    counts,
-                    deficits,
-                    ready,
-                    next,
-                    heads,
-                    tails,
-                    held,
-                    b.largest,
-                    now,
-                );
                 return Played {
+                    ends: true,
                     end: end,
-                    state: State {
-                        stage: stage,
-                        at: at,
-                        shown: s.shown,
-                        board: board,
-                        counts: Counts {
-                            slots: slots,
-                            credits: credits,
-                            bytes: sent,
-                            lost: losses,
-                            full: full,
-                        },
-                    },
+                    full: full,
+                    state: s,
                 };
             }
-            Next::GoesOn(event, on) => {
+            Next::Unfinished(part) => {
+                taken += part - came;
+                came = part;
+            }
+            Next::GoesOn(event, size) => {
+                taken += size - came;
+                at += size as u64;
+                came = 0;
+                stage = log::stage_after(stage, event);
                 let left = now.left;
                 let moved = report_fields::play_counted(
                     event,
@@ -113,11 +108,44 @@ pub fn play_rest(log: &[u8], ids: &mut [u32], lens: &mut [u16], s: State) -> Pla
                     lens,
                 );
                 full = moved.full;
-                stage = log::stage_after(stage, event);
-                at = on;
                 let after = moved.after;
                 now = after;
             }
         }
+    }
+    let board = board::packed(
+        numbers,
+        shares,
+        starts,
+        counts,
+        deficits,
+        ready,
+        next,
+        heads,
+        tails,
+        held,
+        b.largest,
+        now,
+    );
+    Played {
+        ends: false,
+        end: End::Whole,
+        full: full,
+        state: State {
+            stage: stage,
+            over: false,
+            at: at,
+            came: came,
+            kept: kept,
+            shown: s.shown,
+            board: board,
+            counts: Counts {
+                slots: slots,
+                credits: credits,
+                bytes: sent,
+                lost: losses,
+                full: full,
+            },
+        },
     }
 }

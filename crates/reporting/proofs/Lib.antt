@@ -1,4 +1,5 @@
 -- The laws of this crate, for those that stand on it.
 pub mod Codes
 pub mod Shown
-pub mod Pieces
+pub mod Feeding
+pub mod Closing

@@ -1,17 +1,14 @@
--- The report's lines on the arrays are those of the definition, and what is written of them place by place.
+-- The report's lines on the arrays are those of the definition, and what is written of them place by place. Assumes
+-- nothing.
 use mathlib.Core.Path.{_≡_, refl, sym, ap, ap₂, subst, _∙_}
 use mathlib.Core.Bool.{Bool, true, false, cond, true≢false}
 use mathlib.Core.Logic.{_⊎_, inl, inr, _≢_}
-use mathlib.Core.List.{List, [], _∷_, _++_, append-assoc, append-nil}
+use mathlib.Core.List.{List, [], _++_, append-assoc, append-nil}
 use Prim.Native.Nat.{ℕ, zero, suc, _+_, _-_, _*_, _≤_, _<_}
 use native.Mathlib.Omega.{arith}
-use native.Mathlib.Nat.{min-le-left}
 use lib.IntN.{ℤ, pos, _-ℤ_}
-use lib.ListN.{length, getD, take, length-take}
+use lib.ListN.{length, getD, take}
 use borrow.Author.Tests.{lt-ltb}
-use types.Run.{OneOf, miss}
-use denote.Enum.Declared.{tagOf}
-use Rattle.log.proofs.End.{the-type}
 use Rattle.rules.specs.Board.{at}
 use Rattle.board.specs.declared.Board as struct
 use Rattle.board.specs.Reading.{view}
@@ -20,15 +17,15 @@ use Rattle.board.proofs.Fields.{number-is, share-is}
 use Rattle.log.specs.declared.End.{End}
 use Rattle.log.specs.declared.End.the-variants.{Whole as whole, Broken as broken, Long as long}
 use Rattle.lines.specs.Text.{Written, Line}
-use Rattle.lines.proofs.Texts.{none, then, from-front}
+use Rattle.lines.proofs.Texts.{none, then, written-length, from-front}
 use Rattle.report_lines.specs.Text.{accountLine, fullLine}
-use Rattle.report_rules.specs.Report.{placeLine, placeLines, reportEnd}
-use Rattle.counting.specs.Counting.{Tallies, accountWith, accountNow}
+use Rattle.report_rules.specs.Report.{Reporting, placeLine, placeLines, reportEnd}
+use Rattle.counting.specs.Counting.{Tallies, talliesOf, accountWith, accountNow}
 use Rattle.report_fields.specs.Fields.{ledger, reads}
 use Rattle.report_play.specs.declared.State.{State}
-use Rattle.reporting.specs.declared.Piece.{Piece}
-use Rattle.reporting.specs.Shown.{lineBy, lineAt, linesIn, linesFromIn, endLine, reportIn, showing, ReportShown}
-use Rattle.reporting.specs.Pieces.{endedPiece}
+use Rattle.report_play.specs.Playing.{oneLine}
+use Rattle.reporting.specs.Feeding.{endedPiece}
+use Rattle.reporting.specs.Shown.{lineBy, lineAt, linesIn, linesFromIn, isAlone, showing, PlacesShown}
 
 -- ---- The lines on the arrays
 
@@ -48,71 +45,40 @@ module _ (b : struct.Board) (ids lens : List ℕ) (k : Known b ids lens) (t : Ta
   lines-is zero p = refl
   lines-is (suc n) p = ap₂ (λ (x y : List ℕ). x ++ y) (line-is p) (lines-is n (suc p))
 
-  pub report-is : (e : End) (p : ℕ) → reportIn b t full e p ≡ reportEnd (reads (ledger b ids lens t full)) p e
-  unfolding reportIn reportEnd
-  report-is whole p = ap (λ (x : List ℕ). cond full fullLine x) (lines-is (64 - p) p)
-  report-is (broken n) p = refl
-  report-is long p = refl
+  -- a whole log's, where the counting goes on
+  pub whole-report : full ≡ false → (p : ℕ) → linesFromIn b t p ≡ reportEnd (reads (ledger b ids lens t full)) p whole
+  unfolding reportEnd
+  whole-report h p = lines-is (64 - p) p ∙ sym (ap (λ (x : Bool). cond x fullLine (placeLines (reads (ledger b ids lens t full)) p (64 - p))) h)
 
 -- the line of an open place, with the difference of its account
 pub place-line : (share number slots credit bytes lost : ℕ) (d : ℤ) → share ≢ 0 → d ≡ pos (bytes * 65536) -ℤ pos credit
-    → (before line : List ℕ) (count : ℕ) → Line before (accountLine number slots credit bytes d lost) count line × (count ≤ 128)
-    → Line before (lineBy share number (accountWith slots credit bytes lost)) count line × (count ≤ 128)
-place-line share number slots credit bytes lost d ne e before line count (l, few) =
-    (subst (λ (text : List ℕ). Line before text count line) same l, few)
+    → (out : List ℕ) (used used′ : ℕ) (out′ : List ℕ)
+    → Written out used (accountLine number slots credit bytes d lost) used′ out′ × (used′ ≤ used + 128)
+    → Written out used (lineBy share number (accountWith slots credit bytes lost)) used′ out′ × (used′ ≤ used + 128)
+place-line share number slots credit bytes lost d ne e out used used′ out′ (w, few) =
+    (subst (λ (text : List ℕ). Written out used text used′ out′) same w, few)
   where
     same : accountLine number slots credit bytes d lost ≡ lineBy share number (accountWith slots credit bytes lost)
     same =
         ap (λ (x : ℤ). accountLine number slots credit bytes x lost) e
         ∙ sym (ap (λ (t : Bool). cond t (accountLine number slots credit bytes (pos (bytes * 65536) -ℤ pos credit) lost) []) (lt-ltb 0 share (omega arith)))
 
+pub no-line : (out : List ℕ) (used : ℕ) → Written out used [] used out × (used ≤ used + 128)
+no-line out used = (none out used, omega arith)
+
 -- ---- A report of one line
 
--- the front of a list is no longer than asked
-pub front-most : (n : ℕ) (l : List ℕ) → length (take n l) ≤ n
-front-most n l = rw (length-take n l) (min-le-left n (length l))
+-- it is one, whatever is shown
+pub alone-line : (r : Reporting) (p : ℕ) (full : Bool) (e : End) → full ≡ r .counts .full → isAlone full e ≡ true → oneLine full e ≡ reportEnd r p e
+unfolding oneLine reportEnd
+alone-line r p full whole h k = rw (sym h, k)
+alone-line r p full (broken n) h k = rw (sym h)
+alone-line r p full long h k = rw (sym h)
 
-pub no-line : (l : List ℕ) → Line l [] 0 l × (0 ≤ 128)
-no-line l = (from-front l [] l 0 (omega arith) (none l 0), omega arith)
-
-module _ (text : ℕ → List ℕ) (s : State) (out : List ℕ) (used : ℕ) (written out′ : List ℕ) (fits : length written ≤ length out)
-    (w : Written out 0 written used out′) (is : written ≡ text (s .shown)) where
-  pub shown-all : ReportShown text s out (endedPiece used s) out′
-  shown-all = record {
-    done = refl;
-    fits = omega (arith, w .ends);
-    joined = append-nil (take used out′) ∙ l .text ∙ is;
-    rest = l .rest;
-    stays = refl;
-    onward = λ e. absurd (true≢false e);
-  }
-    where
-      l : Line out written used out′
-      l = from-front out written out′ used fits w
-
--- a shown report is shown whatever spells it
-pub shown-as : (text text′ : ℕ → List ℕ) → ((p : ℕ) → text p ≡ text′ p) → (s : State) (out : List ℕ) (x : Piece) (out′ : List ℕ)
-    → ReportShown text s out x out′ → ReportShown text′ s out x out′
-shown-as text text′ same s out x out′ = subst (λ (f : ℕ → List ℕ). ReportShown f s out x out′) (λ i p. same p i)
-
--- the line that a log's end gives, where it does not end whole
-abbrev pub unwhole : List ℕ
-unwhole = 1 ∷ 2 ∷ []
-
-module _ (b : struct.Board) (t : Tallies) where
-  pub full-report : (full : Bool) (e : End) → full ≡ true → (p : ℕ) → fullLine ≡ reportIn b t full e p
-  unfolding reportIn
-  full-report full e h p = rw h
-
-  pub end-report : (full : Bool) (e : End) → full ≡ false → OneOf unwhole (tagOf the-type e) → (p : ℕ) → endLine e ≡ reportIn b t full e p
-  unfolding reportIn
-  end-report full whole h k p = absurd (miss unwhole 0 tt k)
-  end-report full (broken n) h k p = rw h
-  end-report full long h k p = rw h
-
-  pub whole-report : (full : Bool) (e : End) → full ≡ false → e ≡ whole → (p : ℕ) → linesFromIn b t p ≡ reportIn b t full e p
-  unfolding reportIn
-  whole-report full e h k p = rw (h, k)
+pub not-alone : (full : Bool) (e : End) → isAlone full e ≡ false → (full ≡ false) × (e ≡ whole)
+not-alone full whole h = (h, refl)
+not-alone full (broken n) h = absurd (true≢false h)
+not-alone full long h = absurd (true≢false h)
 
 -- ---- The places in turn
 
@@ -148,54 +114,57 @@ module _ (b : struct.Board) (t : Tallies) where
   }
 
   module _ (shown : ℕ) (out₀ : List ℕ) (p used : ℕ) (out : List ℕ) (u : Showing shown out₀ p used out) where
-    pub showing-fits : 128 ≤ length out - used → (count : ℕ) → count ≤ 128 → used + count ≤ length out
-    showing-fits h count few = omega (arith, u .fits, u .same)
-
     -- the line of a place more
-    pub showing-next : p < 64 → 128 ≤ length out - used → (before line : List ℕ) (count : ℕ)
-        → Line before (lineAt b t p) count line × (count ≤ 128) → (used′ : ℕ) (out′ : List ℕ)
-        → Written out used (take count line) used′ out′ → length out′ ≡ length out → Showing shown out₀ (p + 1) used′ out′
-    showing-next h room before line count (l, few) used′ out′ w same! = record {
-      text = u .text ++ take count line;
-      written = then (u .text) (take count line) (u .written) w;
+    pub showing-next : p < 64 → 128 ≤ length out - used → (used′ : ℕ) (out′ : List ℕ)
+        → Written out used (lineAt b t p) used′ out′ × (used′ ≤ used + 128) → Showing shown out₀ (p + 1) used′ out′
+    showing-next h room used′ out′ (w, few) = record {
+      text = u .text ++ lineAt b t p;
+      written = then (u .text) (lineAt b t p) (u .written) w;
       joined =
-          append-assoc (u .text) (take count line) (linesFromIn b t (p + 1))
-          ∙ ap (λ (x : List ℕ). u .text ++ (x ++ linesFromIn b t (p + 1))) (l .text)
+          append-assoc (u .text) (lineAt b t p) (linesFromIn b t (p + 1))
           ∙ ap (λ (x : List ℕ). u .text ++ x) (sym (lines-next p h))
           ∙ u .joined;
-      fits = omega (arith, w .ends, u .same, count-is, showing-fits room count few);
-      same = same! ∙ u .same;
+      fits = omega (arith, few, room, u .same);
+      same = written-length out used (lineAt b t p) used′ out′ w ∙ u .same;
       moved = inl (on (u .moved));
     }
       where
-        count-is : length (take count line) ≡ count
-        count-is = ap length (l .text) ∙ sym (l .counts)
-
         on : ((shown < p) × (p ≤ 64)) ⊎ ((shown ≡ p) × (used ≡ 0)) → (shown < p + 1) × (p + 1 ≤ 64)
         on (inl m) = (omega (arith, m .0), omega arith)
         on (inr m) = (omega (arith, m .0), omega arith)
 
-    -- there is no room for another
-    pub showing-more : (s : State) → s .shown ≡ shown → 128 ≤ length out₀ → length out - used < 128
-        → ReportShown (linesFromIn b t) s out₀ (record { code = 0; used = used; over = false; state = showing s p }) out
-    showing-more s s-is enough full = record {
-      done = refl;
-      fits = u .fits;
-      joined = ap (λ (x : List ℕ). x ++ linesFromIn b t p) (l .text) ∙ u .joined ∙ ap (linesFromIn b t) (sym s-is);
-      rest = l .rest;
-      stays = refl;
-      onward = λ e. go (u .moved);
-    }
-      where
-        l : Line out₀ (u .text) used out
-        l = from-front out₀ (u .text) out used (omega (arith, u .written .ends, u .fits)) (u .written)
+    showing-line : Line out₀ (u .text) used out
+    showing-line = from-front out₀ (u .text) out used (omega (arith, u .written .ends, u .fits)) (u .written)
 
-        go : ((shown < p) × (p ≤ 64)) ⊎ ((shown ≡ p) × (used ≡ 0)) → (s .shown < p) × (p ≤ 64)
-        go (inl m) = (omega (arith, m .0, s-is), m .1)
-        go (inr m) = absurd (omega (arith, m .1, u .same))
+    showing-none : 64 ≤ p → u .text ≡ linesFromIn b t shown
+    showing-none h = sym (append-nil (u .text)) ∙ ap (λ (x : List ℕ). u .text ++ x) (sym (lines-none p h)) ∙ u .joined
 
-    -- or there is none
-    pub showing-last : (s : State) → s .shown ≡ shown → 64 ≤ p → ReportShown (linesFromIn b t) s out₀ (endedPiece used s) out
-    showing-last s s-is h =
-        shown-all (linesFromIn b t) s out₀ used (u .text) out (omega (arith, u .written .ends, u .fits)) (u .written)
-        (sym (append-nil (u .text)) ∙ ap (λ (x : List ℕ). u .text ++ x) (sym (lines-none p h)) ∙ u .joined ∙ ap (linesFromIn b t) (sym s-is))
+module _ (s : State) (out₀ : List ℕ) (p used : ℕ) (out : List ℕ) (u : Showing (s .board) (talliesOf (s .counts)) (s .shown) out₀ p used out) where
+  abbrev line : Line out₀ (u .text) used out
+  line = showing-line (s .board) (talliesOf (s .counts)) (s .shown) out₀ p used out u
+
+  -- there is no room for another
+  pub showing-more : 128 ≤ length out₀ → length out - used < 128 → PlacesShown s out₀ (record { code = 0; taken = 0; used = used; state = showing s p }) out
+  showing-more enough full = record {
+    done = refl;
+    none = refl;
+    fits = u .fits;
+    joined = ap (λ (x : List ℕ). x ++ linesFromIn (s .board) (talliesOf (s .counts)) p) (line .text) ∙ u .joined;
+    rest = line .rest;
+    stays = inr (refl, go (u .moved));
+  }
+    where
+      go : ((s .shown < p) × (p ≤ 64)) ⊎ ((s .shown ≡ p) × (used ≡ 0)) → (s .shown < p) × (p ≤ 64)
+      go (inl m) = m
+      go (inr m) = absurd (omega (arith, m .1, u .same, enough, full))
+
+  -- or there is none
+  pub showing-last : 64 ≤ p → PlacesShown s out₀ (endedPiece 0 used s) out
+  showing-last h = record {
+    done = refl;
+    none = refl;
+    fits = u .fits;
+    joined = append-nil (take used out) ∙ line .text ∙ showing-none (s .board) (talliesOf (s .counts)) (s .shown) out₀ p used out u h;
+    rest = line .rest;
+    stays = inl refl;
+  }

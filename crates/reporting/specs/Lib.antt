@@ -1,2 +1,2 @@
+pub mod Feeding
 pub mod Shown
-pub mod Pieces
