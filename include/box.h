@@ -31,15 +31,15 @@ extern "C" {
 #define BOX_LEAST_LARGEST 64      /* L, the largest record, is 64 .. */
 #define BOX_GREATEST_LARGEST 2048 /* .. to 2,048 bytes */
 #define BOX_WHOLE_LINE 65536      /* a share is 1 to 65,536, in 65,536ths of the line */
-#define BOX_LONGEST_LOG 32768     /* a log over so many bytes is listed as `long` */
-#define BOX_LEAST_PIECE 64        /* box_listing writes nothing if its piece has fewer bytes */
+#define BOX_FIELD_ROOM 13         /* bytes that are kept of a log's unfinished field at most */
+#define BOX_LEAST_PIECE 64        /* box_feed, box_finish and box_listing need so many bytes to write to */
 
 /* ---- The codes that the box gives, in the order in which a call checks for them. Each is given exactly when: */
 
 enum box_code {
     BOX_DONE = 0,            /* done (all calls but a burst) */
     BOX_TABLE_LENGTH = 3,    /* a lent table hasn't 2,048 entries (never given here: the declarations fix the length) */
-    BOX_SPOILT = 2,          /* the board is spoilt (all calls but make) */
+    BOX_SPOILT = 2,          /* the board is spoilt (all calls but make), or a feeder is none that a call leaves */
     BOX_NO_BLOCK_WAITS = 1,  /* no block waits (serve, burst) */
     BOX_OUT_OF_RANGE = 4,    /* L, block number, share or length outside its range (make, open, rename, record) */
     BOX_UNKNOWN_BLOCK = 6,   /* no open block has that number (close, rename, record) */
@@ -90,6 +90,24 @@ struct box_total {
     uint64_t bytes; /* the bytes that they total */
 };
 
+/* What stands between two fragments of a log. All zeros are where a log begins: struct box_feeder feeder = {0}; it has a
+ * board of its own, and the two tables that are passed with it are its own too, whatever stands in them at first. */
+struct box_feeder {
+    struct box_board board;       /* the log's board, once L has been read */
+    uint64_t at;                  /* the offset of the next field, from the first byte of the whole log */
+    uint64_t sent;                /* the bytes sent so far */
+    uint64_t came;                /* how many bytes of that field have come */
+    uint8_t kept[BOX_FIELD_ROOM]; /* the first of them; those of a value that is passed over are not kept */
+    uint8_t made;                 /* 0: L has not been read */
+    uint8_t over;                 /* 0: the listing is not over, and more is to be written */
+};
+
+/* What a call did with a fragment. */
+struct box_fed {
+    uint64_t taken; /* bytes of the fragment that were taken; give the others again */
+    uint64_t used;  /* bytes that were written to the front of the buffer */
+};
+
 /* ---- The calls. Where a call is refused, board and tables are as they were, but for a refused making. */
 
 /* Makes a board whose largest record has `largest` bytes, and clears both tables. A refusal leaves the tables as they
@@ -130,9 +148,24 @@ uint8_t box_burst(struct box_board *board, const uint32_t ids[BOX_TABLE_ENTRIES]
                   const uint16_t lens[BOX_TABLE_ENTRIES], uint64_t bytes, uint32_t *list, uint64_t list_length,
                   struct box_total *total);
 
-/* Plays a whole log (docs/LOG.md) on a board and tables of its own, which lie on the stack, and writes its listing to
- * the front of `out`, piece by piece; `piece` is room to work in. The answer is how many bytes it wrote. They are the
- * whole listing if that has room in `out` and the piece has BOX_LEAST_PIECE bytes or more; else only its beginning. */
+/* ---- Logs (docs/LOG.md) and their listings */
+
+/* Takes the next fragment of a log, of any length, and writes what there is to list of it to the front of `out`. Bytes
+ * that were not taken are given again, by the next call. With BOX_LEAST_PIECE bytes or more in `out` something is taken
+ * of every fragment that has a byte; a listing that is over takes all and writes nothing. After a refusal *fed is all
+ * zeros, and nothing is changed. Codes 0, 2. */
+uint8_t box_feed(struct box_feeder *feeder, uint32_t ids[BOX_TABLE_ENTRIES], uint16_t lens[BOX_TABLE_ENTRIES],
+                 const uint8_t *fragment, uint64_t fragment_length, uint8_t *out, uint64_t out_length,
+                 struct box_fed *fed);
+
+/* To be called where the log has ended: writes the listing's last line, unless it is over. With BOX_LEAST_PIECE bytes or
+ * more in `out` it is over then. Codes 0, 2. */
+uint8_t box_finish(struct box_feeder *feeder, const uint32_t ids[BOX_TABLE_ENTRIES],
+                   const uint16_t lens[BOX_TABLE_ENTRIES], uint8_t *out, uint64_t out_length, struct box_fed *fed);
+
+/* Plays a whole log on a board and tables of its own, which lie on the stack, and writes its listing to the front of
+ * `out`, piece by piece; `piece` is room to work in. The answer is how many bytes it wrote. They are the whole listing if
+ * that has room in `out` and the piece has BOX_LEAST_PIECE bytes or more; else only its beginning. */
 uint64_t box_listing(const uint8_t *log, uint64_t log_length, uint8_t *piece, uint64_t piece_length, uint8_t *out,
                      uint64_t out_length);
 
@@ -174,6 +207,19 @@ BOX_LAYOUT(sizeof(struct box_total) == 16);
 BOX_LAYOUT(BOX_ALIGNMENT(struct box_total) == 8);
 BOX_LAYOUT(offsetof(struct box_total, count) == 0);
 BOX_LAYOUT(offsetof(struct box_total, bytes) == 8);
+BOX_LAYOUT(sizeof(struct box_feeder) == 2040);
+BOX_LAYOUT(BOX_ALIGNMENT(struct box_feeder) == 8);
+BOX_LAYOUT(offsetof(struct box_feeder, board) == 0);
+BOX_LAYOUT(offsetof(struct box_feeder, at) == 2000);
+BOX_LAYOUT(offsetof(struct box_feeder, sent) == 2008);
+BOX_LAYOUT(offsetof(struct box_feeder, came) == 2016);
+BOX_LAYOUT(offsetof(struct box_feeder, kept) == 2024);
+BOX_LAYOUT(offsetof(struct box_feeder, made) == 2037);
+BOX_LAYOUT(offsetof(struct box_feeder, over) == 2038);
+BOX_LAYOUT(sizeof(struct box_fed) == 16);
+BOX_LAYOUT(BOX_ALIGNMENT(struct box_fed) == 8);
+BOX_LAYOUT(offsetof(struct box_fed, taken) == 0);
+BOX_LAYOUT(offsetof(struct box_fed, used) == 8);
 
 #undef BOX_LAYOUT
 #undef BOX_ALIGNMENT

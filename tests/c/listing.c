@@ -5,11 +5,11 @@
 #include <stdlib.h>
 #include <string.h>
 
-/* One byte more than a log may have, so that a longer one is seen to be long. */
-static uint8_t log_bytes[BOX_LONGEST_LOG + 1];
+/* Longer than any log that is given. */
+static uint8_t log_bytes[1 << 20];
 static uint8_t piece[65536];
 /* No field of a log has under 3 bytes, and no line over 64. */
-static uint8_t out[(BOX_LONGEST_LOG / 3 + 2) * 64];
+static uint8_t out[(sizeof log_bytes / 3 + 2) * 64];
 
 static int failed(const char *path)
 {
@@ -27,6 +27,7 @@ int main(int count, char **words)
         if (!file) return failed(path);
         const size_t length = fread(log_bytes, 1, sizeof log_bytes, file);
         fclose(file);
+        if (length == sizeof log_bytes) return failed(path);
         const uint64_t written = box_listing(log_bytes, length, piece, piece_length, out, sizeof out);
         memcpy(path + strlen(path) - 3, "box", 3);
         file = fopen(path, "wb");

@@ -1,6 +1,6 @@
-/* Boards and tables that no run of calls leaves, held against every call: each answers BOX_SPOILT, tells zeros, and
- * changes no byte of board, tables and list. Buffers that are too short, held against box_listing. It says what is
- * wrong and exits with 1, or prints how many boards and lengths of a piece it tried. */
+/* Boards and tables that no run of calls leaves, and feeders that no feeding leaves, held against every call: each
+ * answers BOX_SPOILT, tells zeros, and changes no byte of board, feeder, tables and list. Buffers that are too short,
+ * held against box_listing. It says what is wrong and exits with 1, or prints how many it tried. */
 #include "box.h"
 
 #include <stdio.h>
@@ -12,9 +12,11 @@
 
 struct lent {
     struct box_board board;
+    struct box_feeder feeder;
     uint32_t ids[BOX_TABLE_ENTRIES];
     uint16_t lens[BOX_TABLE_ENTRIES];
     uint32_t list[ROOM];
+    uint8_t out[BOX_LEAST_PIECE];
 };
 
 static struct lent busy, lent, before;
@@ -35,7 +37,26 @@ static void refused(uint8_t code, const char *call, const char *where)
     check(memcmp(&lent, &before, sizeof lent) == 0, "a byte was changed", where);
 }
 
-/* Every call on what is lent now. */
+/* Both calls of the feeder that is lent now, with a whole field and without a byte. */
+static void feeder_refuses(const char *where)
+{
+    static const uint8_t serve[] = {5, 0, 0};
+    struct box_feeder *feeder = &lent.feeder;
+    struct box_fed fed;
+    tried++;
+    before = lent;
+    for (uint64_t length = 0; length <= sizeof serve; length += sizeof serve) {
+        fed.taken = fed.used = 1;
+        refused(box_feed(feeder, lent.ids, lent.lens, serve, length, lent.out, sizeof lent.out, &fed),
+                "feed is not refused", where);
+        check(!fed.taken && !fed.used, "feed tells something", where);
+    }
+    fed.taken = fed.used = 1;
+    refused(box_finish(feeder, lent.ids, lent.lens, lent.out, sizeof lent.out, &fed), "finish is not refused", where);
+    check(!fed.taken && !fed.used, "finish tells something", where);
+}
+
+/* Every call on what is lent now; a mark of a feeder is yes if it is any number but 0. */
 static void all_refuse(const char *where)
 {
     struct box_sent sent = {1, 1, 1, 1};
@@ -50,6 +71,10 @@ static void all_refuse(const char *where)
     check(!sent.block && !sent.number && !sent.length && !sent.clock, "serve tells something", where);
     refused(box_burst(&lent.board, lent.ids, lent.lens, 4096, lent.list, ROOM, &total), "burst is not refused", where);
     check(!total.count && !total.bytes, "burst tells something", where);
+    memset(&lent.feeder, 0, sizeof lent.feeder);
+    memcpy(&lent.feeder.board, &lent.board, sizeof lent.board);
+    lent.feeder.made = 200;
+    feeder_refuses(where);
 }
 
 /* Twenty-four blocks with the numbers 1, 2, 4 .. and shares of many classes, most of them waiting, a slot open. */
@@ -150,6 +175,62 @@ static void refused_makings(void)
     }
 }
 
+/* ---- Feeders with a good board that no feeding leaves, and those beside them that one does */
+
+static void feed_on(uint64_t at, uint64_t came, uint64_t sent, const uint8_t *kept, size_t count)
+{
+    lent = busy;
+    memset(&lent.feeder, 0, sizeof lent.feeder);
+    memcpy(&lent.feeder.board, &busy.board, sizeof busy.board);
+    memcpy(lent.feeder.kept, kept, count);
+    lent.feeder.at = at;
+    lent.feeder.came = came;
+    lent.feeder.sent = sent;
+    lent.feeder.made = 1;
+}
+
+/* With no byte of a fragment nothing is done, and no number of the feeder is another. */
+static void goes_on(const char *where)
+{
+    struct box_fed fed = {1, 1};
+    const struct box_feeder *is = &lent.feeder, *was = &before.feeder;
+    tried++;
+    before = lent;
+    check(box_feed(&lent.feeder, lent.ids, lent.lens, lent.out, 0, lent.out + 1, 0, &fed) == BOX_DONE, "is refused", where);
+    check(!fed.taken && !fed.used, "something is told", where);
+    check(is->at == was->at && is->came == was->came && is->sent == was->sent, "a number is another", where);
+    check(is->made == was->made && is->over == was->over, "a mark is another", where);
+    check(memcmp(is->kept, was->kept, sizeof is->kept) == 0, "a byte that is kept is another", where);
+}
+
+static void unfit_feeders(void)
+{
+    static const uint8_t none[1] = {0}, unknown[] = {7}, second_l[] = {6}, close[] = {2, 0, 4, 0, 0, 0, 1},
+                         wrong_length[] = {2, 0, 5}, passed[] = {128, 255, 255};
+    const uint64_t end = UINT64_C(1) << 48;
+    feed_on(end, 0, 0, none, 1), goes_on("an offset of 2^48");
+    feed_on(end + 1, 0, 0, none, 1), feeder_refuses("an offset past 2^48");
+    feed_on(end - 6, 6, 0, close, 7), goes_on("a field up to 2^48");
+    feed_on(end - 5, 6, 0, close, 7), feeder_refuses("a field past 2^48");
+    feed_on(30, 6, 0, close, 7), goes_on("all but the last byte");
+    feed_on(30, 7, 0, close, 7), feeder_refuses("a whole field");
+    feed_on(30, 1, 0, unknown, 1), feeder_refuses("a tag that is none");
+    feed_on(30, 1, 0, second_l, 1), feeder_refuses("a second L");
+    feed_on(30, 2, 0, wrong_length, 3), goes_on("a length that has not come");
+    feed_on(30, 3, 0, wrong_length, 3), feeder_refuses("a wrong length");
+    feed_on(30, 65537, 0, passed, 3), goes_on("a value passed over, but for its last byte");
+    feed_on(30, 65538, 0, passed, 3), feeder_refuses("a value passed over");
+    feed_on(30, UINT64_MAX, 0, passed, 3), feeder_refuses("more bytes than there are");
+    feed_on(30, 0, 10 * 65536 + 65535, none, 1), goes_on("as many bytes sent as ten fields can send");
+    feed_on(30, 0, 11 * 65536, none, 1), feeder_refuses("more bytes sent than ten fields can send");
+    feed_on(30, 0, UINT64_MAX, none, 1), feeder_refuses("all bytes sent");
+    memset(&lent.feeder, 255, sizeof lent.feeder); /* it is over, so nothing else is looked at */
+    struct box_fed fed = {1, 1};
+    check(box_feed(&lent.feeder, lent.ids, lent.lens, passed, 3, lent.out, 0, &fed) == BOX_DONE, "is refused", "over");
+    check(fed.taken == 3 && !fed.used && lent.feeder.over, "does not take all", "over");
+    tried++;
+}
+
 /* ---- box_listing with little room */
 
 /* L 100, open 11 with 32,768, a record, two serves. */
@@ -181,6 +262,7 @@ int main(void)
     change_every_bit();
     spoilt_tables();
     refused_makings();
+    unfit_feeders();
     little_room();
     printf("%u\n", tried);
     return 0;

@@ -1,5 +1,5 @@
 /* Measures how deep the stack of each function for C goes: it runs every call on a painted stack and looks how far down
- * the paint is gone. The calls are a random run on a busy board; a log for box_listing comes from standard input. It
+ * the paint is gone. The calls are a random run on a busy board; a log to feed and to list comes from standard input. It
  * writes lines 'NAME BYTES'. Build it without sanitizers, which use the stack too. */
 #define _POSIX_C_SOURCE 200809L
 #include "box.h"
@@ -19,12 +19,15 @@ static uint16_t lens[BOX_TABLE_ENTRIES];
 static uint32_t list[64];
 static struct box_sent sent;
 static struct box_total total;
-static uint8_t log_bytes[BOX_LONGEST_LOG + 1], piece[4096], out[(BOX_LONGEST_LOG / 3 + 2) * 64];
+/* The log is longer than what is read of it; no field has under 3 bytes, and no line over 64. */
+static uint8_t log_bytes[1 << 16], piece[4096], out[(sizeof log_bytes / 3 + 2) * 64];
 static size_t log_length;
+static struct box_feeder feeder;
+static struct box_fed fed;
 
-enum call { MAKE, OPEN, RENAME, CLOSE, RECORD, SERVE, BURST, LISTING, KINDS };
-static const char *const names[KINDS] = {"box_make",   "box_open",  "box_rename", "box_close",
-                                         "box_record", "box_serve", "box_burst",  "box_listing"};
+enum call { MAKE, OPEN, RENAME, CLOSE, RECORD, SERVE, BURST, FEED, FINISH, LISTING, KINDS };
+static const char *const names[KINDS] = {"box_make",  "box_open",  "box_rename", "box_close",  "box_record",
+                                         "box_serve", "box_burst", "box_feed",   "box_finish", "box_listing"};
 
 /* What the call on the painted stack is, what it answered, and where its caller's frame is. */
 static enum call call;
@@ -48,6 +51,8 @@ static void *run(void *unused)
     case RECORD: code = box_record(&board, ids, lens, a, b, length); break;
     case SERVE: code = box_serve(&board, ids, lens, &sent); break;
     case BURST: code = box_burst(&board, ids, lens, a, list, 64, &total); break;
+    case FEED: code = box_feed(&feeder, ids, lens, log_bytes + a, log_length - a, piece, sizeof piece, &fed); break;
+    case FINISH: code = box_finish(&feeder, ids, lens, piece, sizeof piece, &fed); break;
     case LISTING: code = box_listing(log_bytes, log_length, piece, sizeof piece, out, sizeof out) == 0; break;
     case KINDS: break;
     }
@@ -95,6 +100,8 @@ int main(void)
         length = (uint16_t)any(1026);
         measure(which);
     }
+    for (a = 0; a < log_length; a += (uint32_t)fed.taken) measure(FEED);
+    measure(FINISH);
     measure(LISTING);
     for (int which = 0; which < KINDS; which++) printf("%s %zu\n", names[which], deepest[which]);
     return 0;

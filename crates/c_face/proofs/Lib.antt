@@ -1,2 +1,1 @@
--- The laws of this crate, for its own proofs.
 pub mod Whole

@@ -1,164 +1,29 @@
 // The box for programs in C: a board is one pointer, and so is each table. Each function promises what the call or the
 // player below it promises, and asks nothing of a caller but what the types say.
-// A function for C passes what it is given and the board's value to one function, stores the reply's board whole and
-// returns the code. Its proof is a walk of these steps (tools/walks), so whatever is more stands in the function below.
+// A function for C passes what it is given and the value of the board or feeder to one function, stores the reply's
+// structs whole and returns the code. Its proof is a walk of these steps (tools/walks), so whatever is more stands in
+// the function of `c_calls` below it.
 ghost use mathlib.Core.Path.{_≡_};
+ghost use Prim.Native.Nat.{_≤_};
+ghost use lib.ListN.{length, drop};
 ghost use Rattle.rules.specs.Blocks.{opening};
 ghost use Rattle.rules.specs.Calls.{open!, rename!, close!, record! };
 ghost use Rattle.board.specs.Leaving.{returned, replied};
 ghost use Rattle.calls.specs.Promises.{called, made};
 ghost use Rattle.calls.specs.Contract.{burstNow, calledServe, calledBurst};
-ghost use Rattle.c_face.specs.Told.{servedOf, burstedOf};
-ghost use Rattle.c_face.specs.Listed.{Listed};
+ghost use Rattle.player.specs.Feeding.{feedCode};
+ghost use Rattle.c_calls.specs.Told.{servedOf, burstedOf};
+ghost use Rattle.c_calls.specs.Feeding.{FeederFed, FeederFinished};
+ghost use Rattle.c_face.specs.Listed.{Listed, Moved};
 use board::Board;
-use board::Reply;
+use c_calls::Fed;
+use c_calls::Feeder;
+use c_calls::Sent;
+use c_calls::Total;
 use lines::LINE_ROOM;
 use numbers::TABLE_ENTRIES;
-use operands::Opening;
-use units::Bytes;
-
-// What a serve sent: the block, the record's number and length, and the slot's clock.
-#[repr(C)]
-pub struct Sent {
-    pub block: u32,
-    pub number: u32,
-    pub length: u16,
-    pub clock: u64,
-}
-
-// What a burst sent: how many records, and the bytes they total.
-#[repr(C)]
-pub struct Total {
-    pub count: usize,
-    pub bytes: u64,
-}
-
-// The answer of a serve, what C is told as one value.
-struct ServeReply {
-    code: u8,
-    sent: Sent,
-    board: Board,
-}
-
-// The answer of a burst, what C is told as one value.
-struct BurstReply {
-    code: u8,
-    total: Total,
-    board: Board,
-}
-
-// ---- The calls on tables of their one length
-
-fn make_on(ids: &mut [u32; TABLE_ENTRIES], lens: &mut [u16; TABLE_ENTRIES], largest: u32) -> Reply
-    ensures { λ r. ⌜
-        returned r (now (ids .exit)) (now (lens .exit))
-        ≡ made (now (ids .entry)) (now (lens .entry)) largest ⌝ }
-{
-    calls::make(ids, lens, largest)
-}
-
-fn open_on(
-    ids: &[u32; TABLE_ENTRIES],
-    lens: &[u16; TABLE_ENTRIES],
-    block: u32,
-    share: u32,
-    b: Board,
-) -> Reply
-    ensures { λ r. ⌜
-        returned r (now (ids .exit)) (now (lens .exit))
-        ≡ called b (now (ids .entry)) (now (lens .entry)) (open! (opening block share)) ⌝ }
-{
-    let opening = Opening {
-        number: block,
-        share: share,
-    };
-    calls::open(ids, lens, opening, b)
-}
-
-fn rename_on(
-    ids: &[u32; TABLE_ENTRIES],
-    lens: &[u16; TABLE_ENTRIES],
-    old: u32,
-    new: u32,
-    b: Board,
-) -> Reply
-    ensures { λ r. ⌜
-        returned r (now (ids .exit)) (now (lens .exit))
-        ≡ called b (now (ids .entry)) (now (lens .entry)) (rename! old new) ⌝ }
-{
-    calls::rename(ids, lens, old, new, b)
-}
-
-fn close_on(ids: &[u32; TABLE_ENTRIES], lens: &[u16; TABLE_ENTRIES], block: u32, b: Board) -> Reply
-    ensures { λ r. ⌜
-        returned r (now (ids .exit)) (now (lens .exit))
-        ≡ called b (now (ids .entry)) (now (lens .entry)) (close! block) ⌝ }
-{
-    calls::close(ids, lens, block, b)
-}
-
-fn record_on(
-    ids: &mut [u32; TABLE_ENTRIES],
-    lens: &mut [u16; TABLE_ENTRIES],
-    block: u32,
-    id: u32,
-    length: u16,
-    b: Board,
-) -> Reply
-    ensures { λ r. ⌜
-        returned r (now (ids .exit)) (now (lens .exit))
-        ≡ called b (now (ids .entry)) (now (lens .entry)) (record! block (record { number = id; bytes = length })) ⌝ }
-{
-    calls::record(ids, lens, block, id, length, b)
-}
-
-fn serve_on(ids: &[u32; TABLE_ENTRIES], lens: &[u16; TABLE_ENTRIES], b: Board) -> ServeReply
-    ensures { λ r. ⌜
-        returned (servedOf (r .code) (r .sent) (r .board)) (now (ids .exit)) (now (lens .exit))
-        ≡ calledServe b (now (ids .entry)) (now (lens .entry)) ⌝ }
-{
-    let served = calls::serve(ids, lens, b);
-    let board = served.board;
-    let sent = Sent {
-        block: served.block,
-        number: served.number,
-        length: served.length,
-        clock: served.clock,
-    };
-    ServeReply {
-        code: served.code,
-        sent: sent,
-        board: board,
-    }
-}
-
-fn burst_on(
-    ids: &[u32; TABLE_ENTRIES],
-    lens: &[u16; TABLE_ENTRIES],
-    bytes: u64,
-    list: &mut [u32],
-    b: Board,
-) -> BurstReply
-    ensures { λ r. ⌜
-        returned (burstNow (burstedOf (r .code) (r .total) (r .board)) (now (list .exit)))
-        (now (ids .exit)) (now (lens .exit))
-        ≡ calledBurst b (now (ids .entry)) (now (lens .entry)) bytes (now (list .entry)) ⌝ }
-{
-    let bursted = calls::burst(ids, lens, Bytes(bytes), list, b);
-    let board = bursted.board;
-    let sent = bursted.bytes;
-    let total = Total {
-        count: bursted.count,
-        bytes: sent.0,
-    };
-    BurstReply {
-        code: bursted.code,
-        total: total,
-        board: board,
-    }
-}
-
-// ---- The functions for C
+use player::Piece;
+use player::State;
 
 // A board is made, and both tables are cleared; a refusal leaves the board of all zeros.
 #[no_mangle]
@@ -172,7 +37,7 @@ pub extern "C" fn box_make(
         returned (replied r (now (b .exit))) (now (ids .exit)) (now (lens .exit))
         ≡ made (now (ids .entry)) (now (lens .entry)) largest ⌝ }
 {
-    let reply = make_on(ids, lens, largest);
+    let reply = c_calls::make_on(ids, lens, largest);
     *b = reply.board;
     reply.code
 }
@@ -190,7 +55,7 @@ pub extern "C" fn box_open(
         returned (replied r (now (b .exit))) (now (ids .exit)) (now (lens .exit))
         ≡ called (now (b .entry)) (now (ids .entry)) (now (lens .entry)) (open! (opening block share)) ⌝ }
 {
-    let reply = open_on(ids, lens, block, share, *b);
+    let reply = c_calls::open_on(ids, lens, block, share, *b);
     *b = reply.board;
     reply.code
 }
@@ -208,7 +73,7 @@ pub extern "C" fn box_rename(
         returned (replied r (now (b .exit))) (now (ids .exit)) (now (lens .exit))
         ≡ called (now (b .entry)) (now (ids .entry)) (now (lens .entry)) (rename! old new) ⌝ }
 {
-    let reply = rename_on(ids, lens, old, new, *b);
+    let reply = c_calls::rename_on(ids, lens, old, new, *b);
     *b = reply.board;
     reply.code
 }
@@ -225,7 +90,7 @@ pub extern "C" fn box_close(
         returned (replied r (now (b .exit))) (now (ids .exit)) (now (lens .exit))
         ≡ called (now (b .entry)) (now (ids .entry)) (now (lens .entry)) (close! block) ⌝ }
 {
-    let reply = close_on(ids, lens, block, *b);
+    let reply = c_calls::close_on(ids, lens, block, *b);
     *b = reply.board;
     reply.code
 }
@@ -245,7 +110,7 @@ pub extern "C" fn box_record(
         ≡ called (now (b .entry)) (now (ids .entry)) (now (lens .entry))
         (record! block (record { number = id; bytes = length })) ⌝ }
 {
-    let reply = record_on(ids, lens, block, id, length, *b);
+    let reply = c_calls::record_on(ids, lens, block, id, length, *b);
     *b = reply.board;
     reply.code
 }
@@ -262,7 +127,7 @@ pub extern "C" fn box_serve(
         returned (servedOf r (now (sent .exit)) (now (b .exit))) (now (ids .exit)) (now (lens .exit))
         ≡ calledServe (now (b .entry)) (now (ids .entry)) (now (lens .entry)) ⌝ }
 {
-    let reply = serve_on(ids, lens, *b);
+    let reply = c_calls::serve_on(ids, lens, *b);
     *b = reply.board;
     *sent = reply.sent;
     reply.code
@@ -283,10 +148,72 @@ pub extern "C" fn box_burst(
         (now (ids .exit)) (now (lens .exit))
         ≡ calledBurst (now (b .entry)) (now (ids .entry)) (now (lens .entry)) bytes (now (list .entry)) ⌝ }
 {
-    let reply = burst_on(ids, lens, bytes, list, *b);
+    let reply = c_calls::burst_on(ids, lens, bytes, list, *b);
     *b = reply.board;
     *total = reply.total;
     reply.code
+}
+
+// The next fragment of a log: what there is to list of it goes to the front of a lent buffer, and C is told how much of
+// the fragment was taken and how much was written.
+#[no_mangle]
+pub extern "C" fn box_feed(
+    feeder: &mut Feeder,
+    ids: &mut [u32; TABLE_ENTRIES],
+    lens: &mut [u16; TABLE_ENTRIES],
+    fragment: &[u8],
+    out: &mut [u8],
+    fed: &mut Fed,
+) -> u8
+    ensures { λ r. ⌜
+        FeederFed (now (feeder .entry)) (now (ids .entry)) (now (lens .entry)) (now (fragment .entry))
+        (now (out .entry)) r (now (fed .exit)) (now (feeder .exit))
+        (now (ids .exit)) (now (lens .exit)) (now (out .exit)) ⌝ }
+{
+    let reply = c_calls::feed_on(ids, lens, fragment, out, *feeder);
+    *feeder = reply.feeder;
+    *fed = reply.fed;
+    reply.code
+}
+
+// The end of a log: its last line goes to the front of a lent buffer, unless it is written.
+#[no_mangle]
+pub extern "C" fn box_finish(
+    feeder: &mut Feeder,
+    ids: &[u32; TABLE_ENTRIES],
+    lens: &[u16; TABLE_ENTRIES],
+    out: &mut [u8],
+    fed: &mut Fed,
+) -> u8
+    ensures { λ r. ⌜
+        FeederFinished (now (feeder .entry)) (now (ids .entry)) (now (lens .entry)) (now (out .entry))
+        r (now (fed .exit)) (now (feeder .exit)) (now (out .exit)) ⌝ }
+{
+    let reply = c_calls::finish_on(ids, lens, out, *feeder);
+    *feeder = reply.feeder;
+    *fed = reply.fed;
+    reply.code
+}
+
+// The next piece of a listing whose log is all here: of what is not taken of it, or its last line.
+fn next_piece(
+    log: &[u8],
+    taken: usize,
+    ids: &mut [u32],
+    lens: &mut [u16],
+    piece: &mut [u8],
+    s: State,
+) -> Piece
+    requires { ⌜
+        (taken ≤ length (now log)) × ((64 ≤ length (now piece)) × (feedCode s (now ids) (now lens) ≡ 0)) ⌝ }
+    ensures { λ r. ⌜
+        Moved s (now (ids .entry)) (now (lens .entry)) (drop taken (now (log .entry))) (now (piece .entry))
+        r (now (ids .exit)) (now (lens .exit)) (now (piece .exit)) ⌝ }
+{
+    if log.len() <= taken {
+        return player::finish(&ids[..], &lens[..], piece, s);
+    }
+    player::feed(&log[taken..], ids, lens, piece, s)
 }
 
 // The listing of a log, by pieces that each go through a lent buffer; the answer is how many bytes of it were written.
@@ -297,21 +224,23 @@ pub extern "C" fn box_listing(log: &[u8], piece: &mut [u8], out: &mut [u8]) -> u
     let mut ids = [0u32; TABLE_ENTRIES];
     let mut lens = [0u16; TABLE_ENTRIES];
     let mut state = player::begin();
+    let mut taken: usize = 0;
     let mut end: usize = 0;
     if piece.len() < LINE_ROOM {
         return 0;
     }
     loop {
-        let listed = player::list_piece(log, &mut ids, &mut lens, piece, state);
+        let listed = next_piece(log, taken, &mut ids, &mut lens, piece, state);
         let used = listed.used;
         if out.len() - end < used {
             return end;
         }
         end = lines::put_text(&mut *out, end, &piece[..used]);
-        if listed.over {
+        let after = listed.state;
+        if after.over {
             return end;
         }
-        let after = listed.state;
+        taken += listed.taken;
         state = after;
     }
 }

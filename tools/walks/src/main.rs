@@ -1,6 +1,6 @@
-//! `walks FOLDER` writes the proof of each function for C that takes a board, as FOLDER/NAME/Proof.antt. Each is a walk
-//! of the function's MIR: what the prover's automation does for other functions, spelled out, since a reference to a
-//! struct is not covered by it.
+//! `walks FOLDER` writes the proof of each function for C that takes a board or a feeder, as FOLDER/NAME/Proof.antt.
+//! Each is a walk of the function's MIR: what the prover's automation does for other functions, spelled out, since a
+//! reference to a struct is not covered by it.
 
 mod functions;
 mod names;

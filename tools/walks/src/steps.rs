@@ -1,7 +1,7 @@
 //! The walk itself: the function's MIR, statement by statement.
 
 use crate::names::{borrow, cell, ender, freeing, last, local, opened, own, seen, token};
-use crate::parameters::Kind::{Board, List, Number, WrittenTable};
+use crate::parameters::Kind::{Fragment, Kept, List, Number, WrittenTable};
 use crate::parameters::{nth, Parameter};
 use crate::pieces::{length, list_typed, owed, owned_struct, tokens};
 use crate::script::Script;
@@ -39,7 +39,7 @@ impl Walk<'_> {
         for (i, p) in self.all.iter().enumerate() {
             let typed = match p.kind {
                 Number(_) => format!("(tt, record {{ fits = {}-fits }})", p.name),
-                List(_) => list_typed(p),
+                List(_) | Fragment(_) => list_typed(p),
                 _ => "(tt, tt)".into(),
             };
             s.step(format!("pass1 ! (init ! {} refl {typed})", s.at(&local(i + 1))));
@@ -72,8 +72,8 @@ impl Walk<'_> {
         s.step(format!("spelt ! {shows} {laws} fullShare ({name} .now) vs{} {address}", p.lifetime));
         s.replace(3, &[&cell(p), "value", &opened(p), &seen(p), &ender(p)]);
         s.front(&["value"]);
-        if p.kind == Board && self.function.reads_board {
-            s.bind(&format!("peeks ! {shows} (b .now) (mach (b .now) ∷ [])"), "was");
+        if matches!(p.kind, Kept(_)) && self.function.reads_kept {
+            s.bind(&format!("peeks ! {shows} ({name} .now) (mach ({name} .now) ∷ [])"), "was");
         }
         s.drop("value");
     }
@@ -101,12 +101,12 @@ impl Walk<'_> {
             }
         }
         let mut arguments = locals.passed.clone();
-        if let Some(board) = locals.board {
-            let (from, raw, to) = (s.at(&local(1)), s.at(&cell(&self.all[0])), s.at(&local(board)));
-            let typed = "LL.lawful B.the-type B′.the-laws 𝓤 H A W .typed (b .now) _ was .0";
+        if let Some(kept) = locals.kept {
+            let (from, raw, to) = (s.at(&local(1)), s.at(&cell(self.kept())), s.at(&local(kept)));
+            let typed = format!("LL.lawful B.the-type B′.the-laws 𝓤 H A W .typed ({} .now) _ was .0", self.kept().name);
             let load = format!("load ! (from ! (hop ! (look ! {from} refl) (stop !))) (look-raw ! {raw} refl)");
             s.step(format!("assigns ! (of-opd ! ({load})) {HERE} (init ! {to} refl ({typed}))"));
-            arguments.push(board);
+            arguments.push(kept);
         }
         let names = self.passed_names();
         s.front(&names.iter().map(String::as_str).collect::<Vec<_>>());
@@ -114,7 +114,7 @@ impl Walk<'_> {
             s.step("join !");
         }
         s.replace(names.len(), &["asked"]);
-        let gives = if self.function.reads_board { "(gives was)" } else { "gives" };
+        let gives = if self.function.reads_kept { "(gives was)" } else { "gives" };
         s.step(format!("use1 W (raw (Callee .pre to)) {gives}"));
         let operands = arguments.iter().rev().fold("no-more !".to_string(), |rest, &argument| {
             format!("and-then ! (load ! {HERE} (look ! {} refl)) ({rest})", s.at(&local(argument)))
@@ -135,8 +135,8 @@ impl Walk<'_> {
         s.split("split", "answer", &["answer", "ensured"]);
         s.front(&["ensured"]);
         let last_types = self.passed().map(|p| if p.has_last() { "List ℕ" } else { "Unit {0}" });
-        let board = self.function.reads_board.then_some("Unit {0}");
-        let last_types = product(&last_types.chain(board).map(String::from).collect::<Vec<_>>());
+        let kept = self.function.reads_kept.then_some("Unit {0}");
+        let last_types = product(&last_types.chain(kept).map(String::from).collect::<Vec<_>>());
         let promise = format!("Promise r{}", self.last_values());
         let heard = format!("‵ (lasts g.ended {lfts} passed ws) ⊛ raw (fact 𝓤 ({promise}))");
         s.step(format!("use1 W (some (λ (ws : {last_types}). {heard})) (id⊢ 𝓤 _)"));
@@ -229,8 +229,8 @@ struct Locals {
     reply: usize,
     /// Of each thing that is passed on, the local that it is passed from.
     passed: Vec<usize>,
-    /// The board that is passed on.
-    board: Option<usize>,
+    /// The value of what is kept, where it is passed on.
+    kept: Option<usize>,
     count: usize,
     parameters: Vec<&'static str>,
 }
@@ -239,7 +239,7 @@ impl Locals {
     fn new(walk: &Walk) -> Locals {
         let parameters: Vec<&str> = walk.all.iter().map(|p| p.name).collect();
         let reply = parameters.len() + 1;
-        let mut locals = Locals { reply, passed: Vec::new(), board: None, count: reply + 1, parameters };
+        let mut locals = Locals { reply, passed: Vec::new(), kept: None, count: reply + 1, parameters };
         for p in walk.passed() {
             // A table is lent again through one local, a list through two: its address, then the whole.
             locals.count += match p.kind {
@@ -249,8 +249,8 @@ impl Locals {
             };
             locals.passed.push(if p.has_last() { locals.count - 1 } else { locals.of(p) });
         }
-        if walk.function.reads_board {
-            locals.board = Some(locals.count);
+        if walk.function.reads_kept {
+            locals.kept = Some(locals.count);
             locals.count += 1;
         }
         locals

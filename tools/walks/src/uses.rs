@@ -1,6 +1,6 @@
 //! The `use` lines of a proof.
 
-use crate::walk::{Walk, CRATE};
+use crate::walk::{Walk, BELOW, CRATE};
 
 /// What the proofs use of the prover's library and of the crates below; a proof uses those of them that it names.
 #[rustfmt::skip]
@@ -36,8 +36,8 @@ const USES: &[(&str, &str)] = &[
     ("denote.Builtin", "u8 u16 u32 u64"),
     ("denote.Array", "Array"),
     ("denote.Ref", "RefT MutRef ShrRef shr-tells ptr-vals mut-tells"),
-    ("denote.Slice", "MutSlice Room finally sliceVal slice-vals mut-slice-tells"),
-    ("denote.Signature", "plain shrRefTo typesAt"),
+    ("denote.Slice", "MutSlice ShrSlice Room finally sliceVal slice-vals mut-slice-tells shr-slice-tells"),
+    ("denote.Signature", "plain shrRefTo shrSliceOf typesAt"),
     ("denote.Signature.Array", "arrayOf"),
     ("denote.Steps", "only opens closes owned peeks heard nothing"),
     ("denote.Struct.Steps", "spelt"),
@@ -56,7 +56,9 @@ const USES: &[(&str, &str)] = &[
     ("Rattle.board.specs.Leaving", "returned"),
     ("Rattle.calls.specs.Promises", "called made"),
     ("Rattle.calls.specs.Contract", "burstNow calledServe calledBurst"),
-    ("Rattle.c_face.specs.Told", "servedOf burstedOf"),
+    ("Rattle.c_calls.specs.declared.Feeder", "Feeder"),
+    ("Rattle.c_calls.specs.Told", "servedOf burstedOf"),
+    ("Rattle.c_calls.specs.Feeding", "FeederFed FeederFinished"),
 ];
 
 impl Walk<'_> {
@@ -73,27 +75,28 @@ impl Walk<'_> {
         }
         let reply = self.function.reply;
         let own = format!("Rattle.{CRATE}.proofs");
-        let own_specs = format!("Rattle.{CRATE}.specs.declared");
+        let (below, below_specs) = (format!("Rattle.{BELOW}.proofs"), format!("Rattle.{BELOW}.specs.declared"));
         let (specs, proofs) = match reply.of_board {
             true => ("Rattle.board.specs.declared".into(), "Rattle.board.proofs".into()),
-            false => (own_specs.clone(), own.clone()),
+            false => (below_specs.clone(), below.clone()),
         };
         lines.push(format!("use {specs}.{0}.{{{0}}}", reply.name));
-        lines.extend(self.told().map(|told| format!("use {own_specs}.{told}.{{{told}}}")));
+        lines.extend(self.told().map(|told| format!("use {below_specs}.{told}.{{{told}}}")));
         lines.push("use denote.Struct.Laws as LL".into());
         let mut as_module = |folder: &str, name: &str, short: &str| {
             lines.push(format!("use {folder}.{name} as {short}"));
             lines.push(format!("use {folder}.{name}.Laws as {short}′"));
         };
-        as_module("Rattle.board.proofs", "Board", "B");
+        let kept = self.kept_struct();
+        as_module(if kept == "Board" { "Rattle.board.proofs" } else { &below }, kept, "B");
         as_module(&proofs, reply.name, "R");
         if let Some(told) = self.told() {
-            as_module(&own, told, "O");
+            as_module(&below, told, "O");
         }
         let (f, g) = (self.function.name, &self.callee);
-        lines.push(format!("use {own}.{g} as g\nuse {own}.{g}.Symbol as g-def"));
-        lines.push(format!("use {own}.{g}.Symbol.{{name as #{}}}", self.callee_key));
-        lines.push(format!("use {own}.{g}.Met as g-thm\nuse {own}.{f} as f"));
+        lines.push(format!("use {below}.{g} as g\nuse {below}.{g}.Symbol as g-def"));
+        lines.push(format!("use {below}.{g}.Symbol.{{name as #{}}}", self.callee_key));
+        lines.push(format!("use {below}.{g}.Met as g-thm\nuse {own}.{f} as f"));
         lines.push(format!("use {own}.{f}.Key.{{name as #{}}}", self.key));
         lines.push(format!("use {own}.{f}.Statement as stated\nuse {own}.{f}.Code as code\n"));
         lines.join("\n")

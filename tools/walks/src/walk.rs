@@ -2,13 +2,15 @@
 
 use crate::functions::Function;
 use crate::names::{borrow, last, own, seen, token};
-use crate::parameters::Kind::{Board, List, Number, Table, Told, WrittenTable};
+use crate::parameters::Kind::{Fragment, Kept, List, Number, Table, Told, WrittenTable};
 use crate::parameters::{nth, Parameter};
 use crate::pieces::{abbrev, dashed, length, owned_number, owned_struct, tokens};
 use crate::script::Script;
 use crate::text::{fitted, list, packed, product, tall_tuple, tuple};
 
 pub const CRATE: &str = "c_face";
+/// The crate of the functions that they call.
+pub const BELOW: &str = "c_calls";
 
 pub fn proof(function: &Function) -> String {
     let walk = Walk::new(function);
@@ -28,8 +30,8 @@ pub struct Walk<'a> {
 impl<'a> Walk<'a> {
     fn new(function: &'a Function) -> Walk<'a> {
         let callee = function.callee();
-        let key = |name: &str| dashed(&format!("{CRATE}·{name}"));
-        let (callee_key, key) = (key(&callee), key(function.name));
+        let key = |of: &str, name: &str| dashed(&format!("{of}·{name}"));
+        let (callee_key, key) = (key(BELOW, &callee), key(CRATE, function.name));
         Walk { function, all: &function.parameters, callee, callee_key, key }
     }
 
@@ -42,7 +44,18 @@ impl<'a> Walk<'a> {
         self.all.iter().filter(|p| p.is_struct())
     }
 
-    /// What the callee is passed, but for the board.
+    /// What is kept between two calls.
+    pub fn kept(&self) -> &'a Parameter {
+        &self.all[0]
+    }
+
+    /// The struct that it is.
+    pub fn kept_struct(&self) -> &'static str {
+        let Kept(name) = self.kept().kind else { panic!("a function for C has a board or a feeder first") };
+        name
+    }
+
+    /// What the callee is passed, but for the value of what is kept.
     pub fn passed(&self) -> impl DoubleEndedIterator<Item = &'a Parameter> {
         self.all.iter().filter(|p| !p.is_struct())
     }
@@ -66,7 +79,10 @@ impl<'a> Walk<'a> {
 
     /// A struct's field of the reply.
     pub fn field(&self, p: &Parameter) -> &'static str {
-        let name = if p.kind == Board { "board" } else { p.name };
+        let name = match p.kind {
+            Kept(name) => name.to_lowercase(),
+            _ => p.name.into(),
+        };
         self.function.reply.fields.iter().find(|&&field| field == name).expect("the reply has this field")
     }
 
@@ -82,9 +98,11 @@ impl<'a> Walk<'a> {
     fn head(&self) -> String {
         format!(
             "-- `{CRATE}::{}` meets its contract: a walk of its MIR, written by tools/walks.\n\
-             -- The board behind the borrow is one machine value from beginning to end, whatever its fields are.\n\
+             -- The {} behind the borrow is one machine value from beginning to end, whatever its fields are.\n\
              -- All that is known of `{}` is that it meets its contract. Assumes nothing.\n",
-            self.function.name, self.callee
+            self.function.name,
+            self.kept_struct().to_lowercase(),
+            self.callee
         )
     }
 
@@ -132,17 +150,20 @@ impl<'a> Walk<'a> {
         for p in self.all {
             match p.kind {
                 Number(width) => binders += &format!(" ({0}-fits : {0} < 2 ^ {1})", p.name, &width[1..]),
-                List(entry) => binders += &format!(" ({0}-room : Room {entry} (length ({0} .now)))", p.name),
+                List(entry) | Fragment(entry) => {
+                    binders += &format!(" ({0}-room : Room {entry} (length ({0} .now)))", p.name)
+                }
                 _ => (),
             }
         }
         let mut passed: Vec<String> = self.passed().map(|p| p.name.into()).collect();
         let mut passed_meanings: Vec<String> = self.passed().map(Parameter::meaning).collect();
         let mut passed_values: Vec<String> = self.passed().map(Parameter::values).collect();
-        if self.function.reads_board {
-            passed.push("b .now".into());
-            passed_meanings.push("Board".into());
-            passed_values.push("mach (b .now) ∷ []".into());
+        if self.function.reads_kept {
+            let kept = self.kept().name;
+            passed.push(format!("{kept} .now"));
+            passed_meanings.push(self.kept_struct().into());
+            passed_values.push(format!("mach ({kept} .now) ∷ []"));
         }
         let passed_shares: Vec<String> = self.passed_references().map(Parameter::share).collect();
         let passed_lfts = self.passed_lfts();
@@ -159,8 +180,8 @@ impl<'a> Walk<'a> {
                 format!("(({}, {}, tt, a, at), tt)", tuple(&lfts), tuple(&shares)),
             ),
             abbrev(4, "Post", "Val → SProp 𝓤", "walkOf 𝓤 H A f.ended stayed clauses .post bound"),
-            "    -- the machine value of a board".into(),
-            "    abbrev mach : Board → Val".into(),
+            format!("    -- the machine value of a {}", self.kept_struct().to_lowercase()),
+            format!("    abbrev mach : {} → Val", self.kept_struct()),
             "    mach d = LL.val B.the-type B′.the-laws d\n".into(),
             "    -- what is passed on".into(),
             abbrev(4, "Passed", "Type 0", product(&passed_meanings)),
@@ -193,8 +214,8 @@ impl<'a> Walk<'a> {
         }
         s.replace(1, &[&parts[0]]);
         s.nothing("all");
-        if self.function.reads_board {
-            s.add(owned_struct("B", "(b .now) _ is"), "one");
+        if self.function.reads_kept {
+            s.add(owned_struct("B", &format!("({} .now) _ is", self.kept().name)), "one");
             s.join("fjoin", &["one", "all"], "all");
         }
         for p in self.passed().rev() {
@@ -212,9 +233,9 @@ impl<'a> Walk<'a> {
         s.join("join", &["tokens", "all"], "all");
         s.frame("all");
         s.end("done !");
-        let (premise, is) = match self.function.reads_board {
-            true => ("Is B.the-row (b .now) (mach (b .now) ∷ []) → ", " is"),
-            false => ("", ""),
+        let (premise, is) = match self.function.reads_kept {
+            true => (format!("Is B.the-row ({0} .now) (mach ({0} .now) ∷ []) → ", self.kept().name), " is"),
+            false => (String::new(), ""),
         };
         [
             "    -- what the callee asks, the caller has".into(),
@@ -236,7 +257,7 @@ impl<'a> Walk<'a> {
         for p in self.all {
             let (name, row) = (p.name, p.row());
             match p.kind {
-                Board | Told(_) => {
+                Kept(_) | Told(_) => {
                     let body = format!("Body (mem {row}) {} ({name} .name)", p.address());
                     left.push((
                         seen(p),
@@ -248,7 +269,7 @@ impl<'a> Walk<'a> {
                     left.push((last(p), format!("‵ (fres ({name} .name) ({row} .coded .code {name}′))")))
                 }
                 List(entry) => left.push((last(p), format!("‵ (finally {entry} ({name} .name) {name}′)"))),
-                Table(_) | Number(_) => (),
+                Table(_) | Fragment(_) | Number(_) => (),
             }
         }
         left.extend(self.references().map(|p| (token(p), format!("‵ (flft {} {})", p.lft(), p.share()))));
@@ -313,7 +334,7 @@ impl<'a> Walk<'a> {
 
     fn last_value(&self, p: &Parameter) -> String {
         match p.kind {
-            Board | Told(_) => format!("r .{}", self.field(p)),
+            Kept(_) | Told(_) => format!("r .{}", self.field(p)),
             _ if p.has_last() => format!("{}′", p.name),
             _ => "tt".into(),
         }
@@ -347,8 +368,9 @@ impl<'a> Walk<'a> {
         let numbered = || self.all.iter().enumerate();
         let numbers =
             numbered().filter(|(_, p)| matches!(p.kind, Number(_))).map(|(i, _)| format!(" ({} .1)", nth("are", i)));
-        let lists =
-            numbered().filter(|(_, p)| matches!(p.kind, List(_))).map(|(i, _)| format!(" ({} .0 .1)", nth("are", i)));
+        let lists = numbered()
+            .filter(|(_, p)| matches!(p.kind, List(_) | Fragment(_)))
+            .map(|(i, _)| format!(" ({} .0 .1)", nth("are", i)));
         let facts: String = numbers.chain(lists).collect();
         let runs = |c: &str, l: &str| format!("(WpFn 𝓤 H {c} {l} code.function)");
         let known = |c: &str| format!("Triple 𝓤 ({c} #{}) Callee", self.callee_key);

@@ -4,8 +4,8 @@ use Rattle.board.specs.declared.Board.{Board}
 use Rattle.calls.specs.declared.Served.{Served}
 use Rattle.calls.specs.declared.Bursted.{Bursted}
 use Rattle.calls.specs.Contract.{burstReply}
-use Rattle.c_face.specs.declared.Sent.{Sent}
-use Rattle.c_face.specs.declared.Total.{Total}
+use Rattle.c_calls.specs.declared.Sent.{Sent}
+use Rattle.c_calls.specs.declared.Total.{Total}
 
 -- a serve's answer: its code, what was sent, and the board
 abbrev pub servedOf : (code : ℕ) → Sent → Board → Served
