@@ -90,8 +90,8 @@ struct box_total {
     uint64_t bytes; /* the bytes that they total */
 };
 
-/* What stands between two fragments of a log. All zeros are where a log begins: struct box_feeder feeder = {0}; it has a
- * board of its own, and the two tables that are passed with it are its own too, whatever stands in them at first. */
+/* What stands between two fragments of a log. All zeros are where a log begins: struct box_feeder feeder = {0}; it has
+ * a board of its own, and the two tables that are passed with it are its own too, whatever stands in them at first. */
 struct box_feeder {
     struct box_board board;       /* the log's board, once L has been read */
     uint64_t at;                  /* the offset of the next field, from the first byte of the whole log */
@@ -158,14 +158,14 @@ uint8_t box_feed(struct box_feeder *feeder, uint32_t ids[BOX_TABLE_ENTRIES], uin
                  const uint8_t *fragment, uint64_t fragment_length, uint8_t *out, uint64_t out_length,
                  struct box_fed *fed);
 
-/* To be called where the log has ended: writes the listing's last line, unless it is over. With BOX_LEAST_PIECE bytes or
- * more in `out` it is over then. Codes 0, 2. */
+/* To be called where the log has ended: writes the listing's last line, unless it is over. With BOX_LEAST_PIECE bytes
+ * or more in `out` it is over then. Codes 0, 2. */
 uint8_t box_finish(struct box_feeder *feeder, const uint32_t ids[BOX_TABLE_ENTRIES],
                    const uint16_t lens[BOX_TABLE_ENTRIES], uint8_t *out, uint64_t out_length, struct box_fed *fed);
 
 /* Plays a whole log on a board and tables of its own, which lie on the stack, and writes its listing to the front of
- * `out`, piece by piece; `piece` is room to work in. The answer is how many bytes it wrote. They are the whole listing if
- * that has room in `out` and the piece has BOX_LEAST_PIECE bytes or more; else only its beginning. */
+ * `out`, piece by piece; `piece` is room to work in. The answer is how many bytes it wrote. They are the whole listing
+ * if that has room in `out` and the piece has BOX_LEAST_PIECE bytes or more; else only its beginning. */
 uint64_t box_listing(const uint8_t *log, uint64_t log_length, uint8_t *piece, uint64_t piece_length, uint8_t *out,
                      uint64_t out_length);
 

@@ -1,6 +1,6 @@
-/* feed ROOM LOG ..: writes the listing of each NAME.log to NAME.box, by box_feed and box_finish through a buffer of so many
- * bytes. The log is read in fragments of 0 to 20 bytes and now and then of up to 5,000, and what a call leaves is given
- * again with what follows it. Every call must take or write something, or be given nothing. */
+/* feed ROOM LOG ..: writes the listing of each NAME.log to NAME.box, by box_feed and box_finish through a buffer of so
+ * many bytes. The log is read in fragments of 0 to 20 bytes and now and then of up to 5,000, and what a call leaves is
+ * given again with what follows it. Every call must take or write something, or be given nothing. */
 #include "box.h"
 
 #include <stdio.h>

@@ -1,4 +1,4 @@
-/* listing PIECE LOG ..: writes the listing of each NAME.log to NAME.box, by box_listing with pieces of so many bytes. */
+/* listing PIECE LOG ..: writes the listing of each NAME.log to NAME.box, by box_listing and pieces of so many bytes. */
 #include "box.h"
 
 #include <stdio.h>

@@ -196,7 +196,8 @@ static void goes_on(const char *where)
     const struct box_feeder *is = &lent.feeder, *was = &before.feeder;
     tried++;
     before = lent;
-    check(box_feed(&lent.feeder, lent.ids, lent.lens, lent.out, 0, lent.out + 1, 0, &fed) == BOX_DONE, "is refused", where);
+    const uint8_t code = box_feed(&lent.feeder, lent.ids, lent.lens, lent.out, 0, lent.out + 1, 0, &fed);
+    check(code == BOX_DONE, "is refused", where);
     check(!fed.taken && !fed.used, "something is told", where);
     check(is->at == was->at && is->came == was->came && is->sent == was->sent, "a number is another", where);
     check(is->made == was->made && is->over == was->over, "a mark is another", where);

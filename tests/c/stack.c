@@ -1,6 +1,6 @@
 /* Measures how deep the stack of each function for C goes: it runs every call on a painted stack and looks how far down
- * the paint is gone. The calls are a random run on a busy board; a log to feed and to list comes from standard input. It
- * writes lines 'NAME BYTES'. Build it without sanitizers, which use the stack too. */
+ * the paint is gone. The calls are a random run on a busy board; a log to feed and to list comes from standard input.
+ * It writes lines 'NAME BYTES'. Build it without sanitizers, which use the stack too. */
 #define _POSIX_C_SOURCE 200809L
 #include "box.h"
 
