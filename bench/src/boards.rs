@@ -1,5 +1,7 @@
 //! Bursts and public single calls on boards with busy lanes.
 
+use std::ops::RangeInclusive;
+
 use second::board::{Board, Tables};
 use second::calls::Lent;
 use second::codes::code_of;
@@ -133,9 +135,19 @@ impl Busy {
 
     /// Public records, each with the check of the board: the box's and the second program's.
     pub fn measure_records(&self, rounds: usize) -> [f64; 2] {
+        self.measure_records_of(1..=LARGEST, rounds)
+    }
+
+    /// The check of the board alone: a record of no bytes is refused right after it.
+    pub fn measure_checks(&self, rounds: usize) -> [f64; 2] {
+        self.measure_records_of(0..=0, rounds)
+    }
+
+    fn measure_records_of(&self, lengths: RangeInclusive<u32>, rounds: usize) -> [f64; 2] {
         let calls: Vec<(u32, Record)> = {
             let mut random = Random::new(2);
-            let record = |n: usize| Record { number: n as u32, length: random.between(1, LARGEST.into()) as u16 };
+            let mut length = || random.between((*lengths.start()).into(), (*lengths.end()).into()) as u16;
+            let record = |n: usize| Record { number: n as u32, length: length() };
             let block = |n: usize| (n % self.blocks) as u32 + 1;
             (0..SINGLE_CALLS).map(block).zip((0..SINGLE_CALLS).map(record)).collect()
         };

@@ -84,9 +84,11 @@ fn single_calls(rounds: usize) {
     println!("|---|---|---|---|---|");
     for blocks in BUSY {
         let busy = Busy::new(blocks, 16);
-        for (what, [proved, second]) in
-            [("record", busy.measure_records(rounds)), ("serve", busy.measure_serves(rounds))]
-        {
+        for (what, [proved, second]) in [
+            ("record", busy.measure_records(rounds)),
+            ("serve", busy.measure_serves(rounds)),
+            ("the spoilt test alone", busy.measure_checks(rounds)),
+        ] {
             println!("| {what} | {blocks} | {proved:.0} | {second:.0} | **{:.2}** |", proved / second);
         }
     }

@@ -3,10 +3,11 @@
 use std::collections::BTreeSet;
 
 use second::listing::{self, Line};
-use second::log::Stop;
+use second::log::{Field, Reader, Stop};
 use second::log_text;
-use second::maker::log_shapes::LOG_SHAPES;
+use second::maker::log_shapes::{LogShape, LOG_SHAPES};
 use second::maker::random::Random;
+use second::numbers::{class_of, interval, WHOLE_LINE};
 use second::play::play;
 
 const WORKED_LOG: [u8; 110] = [
@@ -159,9 +160,12 @@ fn the_log_shapes_reach_every_line_with_every_code_with_any_seed() {
     }
 }
 
+fn shape_named(name: &str) -> LogShape {
+    LOG_SHAPES.iter().find(|(known, _)| *known == name).unwrap().1
+}
+
 fn kinds_of_shape(name: &str, seed: u64) -> BTreeSet<(&'static str, u32)> {
-    let (_, shape) = LOG_SHAPES.iter().find(|(known, _)| *known == name).unwrap();
-    play(&shape(seed)).iter().map(kind_and_code).collect()
+    play(&shape_named(name)(seed)).iter().map(kind_and_code).collect()
 }
 
 #[test]
@@ -207,6 +211,35 @@ fn each_shape_reaches_what_it_is_named_for() {
             );
         }
     }
+}
+
+#[test]
+fn sixty_four_seeds_of_shares_have_each_share_once_and_two_slots_of_it_an_interval_apart() {
+    let mut seen = BTreeSet::new();
+    for seed in 1..=64 {
+        let log = shape_named("shares")(seed);
+        let (_, reader) = Reader::new(&log, 0).begin().unwrap();
+        let opened = reader.filter_map(|field| match field.unwrap() {
+            Field::Open { share, .. } => Some(share),
+            _ => None,
+        });
+        let lines = play(&log);
+        let clocks: Vec<u64> = lines
+            .iter()
+            .filter_map(|line| match line {
+                Line::Out(sent) => Some(sent.clock),
+                _ => None,
+            })
+            .collect();
+        let mut pairs = clocks.chunks(2);
+        for share in opened {
+            let [first, second] = *pairs.next().unwrap() else { panic!("share {share} has one slot") };
+            assert_eq!(second - first, interval(class_of(share).unwrap()), "share {share}");
+            assert!(seen.insert(share), "share {share}");
+        }
+        assert!(pairs.next().is_none(), "seed {seed}");
+    }
+    assert!(seen.into_iter().eq(1..=WHOLE_LINE));
 }
 
 #[test]

@@ -1,15 +1,18 @@
--- Laws of the set of the classes that pass a test.
+-- Laws of the set of the classes that pass a test, and of the lowest class of a set.
 use mathlib.Core.Path.{_≡_, refl, sym, ap, _∙_}
 use mathlib.Core.Logic.{_⊎_, inl, inr}
 use mathlib.Core.Bool.{Bool, true, false, cond}
-use Prim.Native.Nat.{ℕ, zero, suc, _^_, _<_}
-use native.Mathlib.Nat.{le-of-suc-le-suc, eq-or-lt-of-le, lt-of-le-of-lt}
+use Prim.Native.Nat.{ℕ, zero, suc, _/_, _%_, _^_, _<_}
+use native.Mathlib.Nat.{mod-lt, le-of-suc-le-suc, eq-or-lt-of-le, lt-of-le-of-lt}
 use native.Mathlib.Decide.{ℕ-discrete}
 use native.Mathlib.Omega.{arith}
+use lib.Count.{trailingZeros, under}
+use lib.Dec.{eqb, lit<}
 use Rattle.base.specs.Sums.{oneIf}
-use Rattle.bits.specs.Sets.{bitAt, withBit, withoutBit, setBelow}
+use Rattle.base.specs.Tests.{least}
+use Rattle.bits.specs.Sets.{bitAt, inSet, withBit, withoutBit, setBelow}
 use Rattle.bits.specs.Laws.{SetBit}
-use Rattle.bits.proofs.Bits.{with-own, with-other, with-lt, without-own, without-other, without-le, bits-ext, bit-high}
+use Rattle.bits.proofs.Bits.{with-own, with-other, with-lt, without-own, without-other, without-le, bits-ext, bit-high, bit-zero, bit-suc, two-cases}
 
 pub set-lt : (f : ℕ → Bool) (n : ℕ) → setBelow n f < 2 ^ n
 unfolding setBelow
@@ -60,3 +63,20 @@ set-less f g n k h e o = set-is g n (withoutBit (setBelow n f) k) (lt-of-le-of-l
         go : Dec (j ≡ k) → bitAt (withoutBit (setBelow n f) k) j ≡ oneIf (g j)
         go (yes q) = rw (q, e) (without-own (setBelow n f) k)
         go (no q) = without-other (setBelow n f) k j q ∙ set-bit f n j l ∙ ap oneIf (sym (o j q))
+
+-- ---- the lowest class by the zero bits below it
+
+-- the first of w classes that is in the set is as many as the zero bits that stand below it, and w where none is
+pub lowest-zeros : (w set : ℕ) (passes : ℕ → Bool) → ((k : ℕ) → passes k ≡ inSet set k) → least passes w ≡ trailingZeros w set
+unfolding least trailingZeros
+lowest-zeros zero set passes e = refl
+lowest-zeros (suc w) set passes e =
+    go (two-cases (set % 2) (mod-lt set (lit< tt))) (lowest-zeros w (set / 2) (λ k. passes (suc k)) (λ k. e (suc k) ∙ ap (λ b. eqb b 1) (bit-suc set k)))
+  where
+    lowest-bit : passes 0 ≡ eqb (set % 2) 1
+    lowest-bit = e 0 ∙ ap (λ b. eqb b 1) (bit-zero set)
+
+    go : (set % 2 ≡ 0) ⊎ (set % 2 ≡ 1) → least (λ k. passes (suc k)) w ≡ trailingZeros w (set / 2)
+        → cond (passes 0) 0 (suc (least (λ k. passes (suc k)) w)) ≡ under (set % 2) (trailingZeros w (set / 2))
+    go (inl even) later = rw (lowest-bit, even, later)
+    go (inr odd) later = rw (lowest-bit, odd)

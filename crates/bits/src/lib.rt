@@ -1,7 +1,7 @@
-// Sets of classes, each as the bits of one u32: put in, take out, ask, and the lowest.
+// Sets of classes, each as the bits of one u32: put in, take out, and the lowest.
 ghost use mathlib.Core.Path.{_≡_};
 ghost use Prim.Native.Nat.{_<_};
-ghost use Rattle.bits.specs.Sets.{inSet, withBit, withoutBit, lowestBit};
+ghost use Rattle.bits.specs.Sets.{withBit, withoutBit, lowestBit};
 
 // The set with class k.
 pub fn with_bit(set: u32, k: u32) -> u32
@@ -19,24 +19,9 @@ pub fn without_bit(set: u32, k: u32) -> u32
     set - (set & 1u32 << k)
 }
 
-// Whether class k is in the set.
-fn has_bit(set: u32, k: u32) -> bool
-    requires { ⌜ k < 32 ⌝ }
-    ensures { λ r. ⌜ r ≡ inSet set k ⌝ }
-{
-    (set >> k) % 2 == 1
-}
-
-// The lowest class of the set, and 32 where it has none.
+// The lowest class of the set, and 32 where it has none: the zero bits below its lowest 1.
 pub fn lowest(set: u32) -> u32
     ensures { λ r. ⌜ r ≡ lowestBit set ⌝ }
 {
-    let mut k: u32 = 0;
-    while k < 32 {
-        if has_bit(set, k) {
-            return k;
-        }
-        k += 1;
-    }
-    k
+    u32::trailing_zeros(set)
 }

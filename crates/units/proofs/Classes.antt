@@ -2,10 +2,11 @@
 use mathlib.Core.Path.{_≡_, refl, sym, _∙_}
 use mathlib.Core.Bool.{Bool}
 use mathlib.Core.Logic.{_⊎_, inl, inr}
-use Prim.Native.Nat.{ℕ, zero, suc, _+_, _*_, _-_, _/_, _^_, _≤_, _<_}
-use native.Mathlib.Nat.{mul-le-mul-right, mul-lt-mul-of-pos-right, le-antisymm, pow-suc, mul-div-cancel}
+use Prim.Native.Nat.{ℕ, zero, suc, _+_, _*_, _-_, _^_, _≤_, _<_}
+use native.Mathlib.Nat.{mul-le-mul-right, mul-lt-mul-of-pos-right, le-antisymm, pow-suc}
 use native.Mathlib.Omega.{arith}
-use lib.Dec.{leb, lit<}
+use lib.Count.{leadingZeros, leading-unique}
+use lib.Dec.{leb}
 use lib.Pow.{pow-pos, pow-mono, pow-add}
 use Rattle.base.specs.Tests.{least}
 use Rattle.base.proofs.Numbers.{split, true-le, false-lt}
@@ -13,7 +14,7 @@ use Rattle.base.proofs.Tests.{least-le, least-true, least-false}
 use Rattle.units.specs.Classes.{IsClass, classOf}
 use Rattle.units.specs.Laws.{ClassIs, ClassOnly}
 
-abbrev pub reaches : ℕ → ℕ → Bool
+abbrev reaches : ℕ → ℕ → Bool
 reaches s k = leb (2 ^ (16 - k)) s
 
 pub class-le : (s : ℕ) → classOf s ≤ 16
@@ -64,7 +65,11 @@ class-lo s h = rw (← power-up 16 (classOf s) (class-le s)) (mul-le-mul-right (
 pub class-hi : (s : ℕ) → s ≤ 65536 → s * 2 ^ classOf s < 131072
 class-hi s h = rw (← power-up 17 (classOf s) (omega (arith, class-le s))) (mul-lt-mul-of-pos-right (class-high s h) (pow-pos (classOf s)))
 
--- ---- the steps of the search for the class
+-- ---- the class by the zero bits in front of a share
 
-pub half-power : (n k : ℕ) → k < n → 2 ^ (n - k) / 2 ≡ 2 ^ (n - (k + 1))
-half-power n k h = let down : n - k ≡ suc (n - (k + 1)) = omega arith in rw (down, pow-suc) (mul-div-cancel (2 ^ (n - (k + 1))) (lit< tt))
+-- a share of class k has k + 15 of them: with the 17 - k bits from its highest 1 on they make 32
+pub class-zeros : (k s : ℕ) → IsClass k s → leadingZeros 32 s ≡ k + 15
+class-zeros k s c = sym (leading-unique 32 s (k + 15) (17 - k) (omega (arith, c .within)) (c .high) reaches-top)
+  where
+    reaches-top : 2 ^ (17 - k) ≤ 2 * s + 1
+    reaches-top = let up : 17 - k ≡ suc (16 - k) = omega (arith, c .within) in rw (up, pow-suc) (omega (arith, c .low))

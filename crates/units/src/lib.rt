@@ -4,8 +4,6 @@ ghost use mathlib.Core.Path.{_≡_};
 ghost use Prim.Native.Nat.{_^_, _<_, _≤_};
 ghost use Rattle.units.specs.Classes.{classOf, nextStart};
 ghost use Rattle.units.specs.Credit.{charged, largestCharge, chargeOf, creditOf};
-use numbers::GREATEST_SHARE;
-use numbers::LAST_CLASS;
 use numbers::PARTS_PER_BYTE;
 
 // An amount of credit: one byte is 65,536 parts. It stands in a board, which C lays out too.
@@ -18,21 +16,15 @@ pub struct Bytes(pub u64);
 // Bytes that the line carries with each record besides its own.
 const FRAMING: u64 = 0;
 
-// The class of a share: the k with 2^(16-k) <= share < 2^(17-k).
+// The zero bits in front of 65,536, the one share of class 0, in a u32.
+const ZEROS_OF_CLASS_0: u32 = 15;
+
+// The class of a share: the k with 2^(16-k) <= share < 2^(17-k). With each class there is one zero bit more in front.
 pub fn class_of(share: u32) -> u32
     requires { ⌜ (1 ≤ share) × (share ≤ 65536) ⌝ }
     ensures { λ r. ⌜ r ≡ classOf share ⌝ }
 {
-    let mut k: u32 = 0;
-    let mut limit: u32 = GREATEST_SHARE;
-    while k < LAST_CLASS {
-        if limit <= share {
-            return k;
-        }
-        limit = limit / 2;
-        k += 1;
-    }
-    k
+    u32::leading_zeros(share) - ZEROS_OF_CLASS_0
 }
 
 // 2^k slots: the length of an interval of class k.

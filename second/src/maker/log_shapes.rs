@@ -8,7 +8,7 @@ use crate::numbers::{CLASSES, LANE_DEPTH, PLACES, WHOLE_LINE};
 
 pub type LogShape = fn(u64) -> Vec<u8>;
 
-pub const LOG_SHAPES: [(&str, LogShape); 29] = [
+pub const LOG_SHAPES: [(&str, LogShape); 30] = [
     ("tiny", tiny),
     ("busy4", |seed| busy(seed, 4, 20_000)),
     ("busy16", |seed| busy(seed, 16, 20_000)),
@@ -19,6 +19,7 @@ pub const LOG_SHAPES: [(&str, LogShape); 29] = [
     ("held", held),
     ("classes", classes),
     ("powers", powers),
+    ("shares", shares),
     ("places", places),
     ("largest64", |seed| mixed(seed, 64)),
     ("largest2048", |seed| mixed(seed, 2_048)),
@@ -176,6 +177,23 @@ fn powers(seed: u64) -> Vec<u8> {
         for _ in 0..10 {
             maker.any_call(&habits);
         }
+    }
+    maker.log
+}
+
+/// A sixty-fourth of all shares, one after the other, so that 64 seeds in a row have each of them once. A block of the
+/// share waits alone with two records of L bytes, which take two slots: the time between them tells its class. The last
+/// block stays open, so that a report has its credit.
+fn shares(seed: u64) -> Vec<u8> {
+    let mut maker = LogMaker::new(Random::new(seed));
+    let length = maker.traffic.engine.largest as u16;
+    let count = WHOLE_LINE / 64;
+    let before = (seed % 64) as u32 * count;
+    for share in before + 1..=before + count {
+        maker.close_all();
+        maker.open(1, share);
+        maker.take_times(Call::Record { block: 1, number: share, length }, 2);
+        maker.serve_until_empty();
     }
     maker.log
 }
