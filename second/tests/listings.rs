@@ -5,7 +5,7 @@ use std::collections::BTreeSet;
 use second::listing::{self, Line};
 use second::log::{Field, Reader, Stop};
 use second::log_text;
-use second::maker::log_shapes::{LogShape, LOG_SHAPES};
+use second::maker::log_shapes::{LogShape, LOG_SHAPES, SEEDS_OF_SHARES};
 use second::maker::random::Random;
 use second::numbers::{class_of, interval, WHOLE_LINE};
 use second::play::play;
@@ -214,10 +214,10 @@ fn each_shape_reaches_what_it_is_named_for() {
 }
 
 #[test]
-fn sixty_four_seeds_of_shares_have_each_share_once_and_two_slots_of_it_an_interval_apart() {
+fn the_seeds_of_shares_have_each_share_once_and_two_slots_of_it_an_interval_apart() {
     let mut seen = BTreeSet::new();
-    for seed in 1..=64 {
-        let log = shape_named("shares")(seed);
+    for seed in 1..=SEEDS_OF_SHARES {
+        let log = shape_named("shares")(seed.into());
         let (_, reader) = Reader::new(&log, 0).begin().unwrap();
         let opened = reader.filter_map(|field| match field.unwrap() {
             Field::Open { share, .. } => Some(share),

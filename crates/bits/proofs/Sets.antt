@@ -12,7 +12,8 @@ use Rattle.base.specs.Sums.{oneIf}
 use Rattle.base.specs.Tests.{least}
 use Rattle.bits.specs.Sets.{bitAt, inSet, withBit, withoutBit, setBelow}
 use Rattle.bits.specs.Laws.{SetBit}
-use Rattle.bits.proofs.Bits.{with-own, with-other, with-lt, without-own, without-other, without-le, bits-ext, bit-high, bit-zero, bit-suc, two-cases}
+use Rattle.bits.proofs.Bits.{with-own, with-other, with-lt, without-own, without-other, without-le}
+use Rattle.bits.proofs.Bits.{bits-ext, bit-high, bit-zero, bit-suc, two-cases}
 
 pub set-lt : (f : ℕ → Bool) (n : ℕ) → setBelow n f < 2 ^ n
 unfolding setBelow
@@ -66,17 +67,24 @@ set-less f g n k h e o = set-is g n (withoutBit (setBelow n f) k) (lt-of-le-of-l
 
 -- ---- the lowest class by the zero bits below it
 
--- the first of w classes that is in the set is as many as the zero bits that stand below it, and w where none is
-pub lowest-zeros : (w set : ℕ) (passes : ℕ → Bool) → ((k : ℕ) → passes k ≡ inSet set k) → least passes w ≡ trailingZeros w set
+-- without its lowest bit a set is another set, so this is shown of every test that tells one
+first-zeros : (w set : ℕ) (told : ℕ → Bool) → ((k : ℕ) → told k ≡ inSet set k) → least told w ≡ trailingZeros w set
 unfolding least trailingZeros
-lowest-zeros zero set passes e = refl
-lowest-zeros (suc w) set passes e =
-    go (two-cases (set % 2) (mod-lt set (lit< tt))) (lowest-zeros w (set / 2) (λ k. passes (suc k)) (λ k. e (suc k) ∙ ap (λ b. eqb b 1) (bit-suc set k)))
+first-zeros zero set told e = refl
+first-zeros (suc w) set told e =
+    go (two-cases (set % 2) (mod-lt set (lit< tt))) (first-zeros w (set / 2) (λ k. told (suc k)) above)
   where
-    lowest-bit : passes 0 ≡ eqb (set % 2) 1
+    lowest-bit : told 0 ≡ eqb (set % 2) 1
     lowest-bit = e 0 ∙ ap (λ b. eqb b 1) (bit-zero set)
 
-    go : (set % 2 ≡ 0) ⊎ (set % 2 ≡ 1) → least (λ k. passes (suc k)) w ≡ trailingZeros w (set / 2)
-        → cond (passes 0) 0 (suc (least (λ k. passes (suc k)) w)) ≡ under (set % 2) (trailingZeros w (set / 2))
+    above : (k : ℕ) → told (suc k) ≡ inSet (set / 2) k
+    above k = e (suc k) ∙ ap (λ b. eqb b 1) (bit-suc set k)
+
+    go : (set % 2 ≡ 0) ⊎ (set % 2 ≡ 1) → least (λ k. told (suc k)) w ≡ trailingZeros w (set / 2)
+        → cond (told 0) 0 (suc (least (λ k. told (suc k)) w)) ≡ under (set % 2) (trailingZeros w (set / 2))
     go (inl even) later = rw (lowest-bit, even, later)
     go (inr odd) later = rw (lowest-bit, odd)
+
+-- the first of w classes that is in the set is as many as the zero bits that stand below it, and w where none is
+pub lowest-zeros : (w set : ℕ) → least (inSet set) w ≡ trailingZeros w set
+lowest-zeros w set = first-zeros w set (inSet set) (λ k. refl)

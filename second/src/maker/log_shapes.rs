@@ -181,14 +181,16 @@ fn powers(seed: u64) -> Vec<u8> {
     maker.log
 }
 
-/// A sixty-fourth of all shares, one after the other, so that 64 seeds in a row have each of them once. A block of the
-/// share waits alone with two records of L bytes, which take two slots: the time between them tells its class. The last
-/// block stays open, so that a report has its credit.
+/// So many seeds of `shares` in a row have each share once.
+pub const SEEDS_OF_SHARES: u32 = 64;
+
+/// Shares one after the other. A block of each waits alone with two records of L bytes, which take two slots: the time
+/// between them tells its class. The last block stays open, so that a report has its credit.
 fn shares(seed: u64) -> Vec<u8> {
     let mut maker = LogMaker::new(Random::new(seed));
     let length = maker.traffic.engine.largest as u16;
-    let count = WHOLE_LINE / 64;
-    let before = (seed % 64) as u32 * count;
+    let count = WHOLE_LINE / SEEDS_OF_SHARES;
+    let before = (seed % u64::from(SEEDS_OF_SHARES)) as u32 * count;
     for share in before + 1..=before + count {
         maker.close_all();
         maker.open(1, share);

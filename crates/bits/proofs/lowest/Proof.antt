@@ -1,7 +1,7 @@
 -- `bits::lowest` meets its contract: the zero bits below the lowest 1 are the classes before the first one in the set
 -- (lowest-zeros). Assumes nothing.
-use mathlib.Core.Path.{refl, sym}
-use Rattle.bits.specs.Sets.{inSet, lowestBit}
+use mathlib.Core.Path.{sym}
+use Rattle.bits.specs.Sets.{lowestBit}
 use Rattle.bits.proofs.Sets.{lowest-zeros}
 use Rattle.bits.proofs.lowest.Statement.{statement}
 use Rattle.bits.proofs.lowest.Tie as tie
@@ -10,7 +10,7 @@ use Rattle.bits.proofs.lowest.Lts as lts
 
 returns : tie.Need-returns
 unfolding lowestBit
-returns c = sym (lowest-zeros 32 (c .args .set) (inSet (c .args .set)) (λ k. refl))
+returns c = sym (lowest-zeros 32 (c .args .set))
 
 pub lowest-spec : {M : Type 1} → statement M
 lowest-spec = tie.close (tie.spec returns)

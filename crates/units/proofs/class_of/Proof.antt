@@ -1,5 +1,5 @@
--- `units::class_of` meets its contract: a share of class k has k + 15 zero bits in front (class-zeros), and its class is
--- `classOf` (class-is). Assumes nothing.
+-- `units::class_of` meets its contract: a share of class k has k + 15 zero bits in front (class-zeros), and `classOf` is
+-- its class (class-is). Assumes nothing.
 use mathlib.Core.Path.{_≡_}
 use Prim.Native.Nat.{ℕ, _+_, _≤_}
 use native.Mathlib.Omega.{arith}
