@@ -1,4 +1,6 @@
 // Arrays of any length, lent: the sum of one, and one set to zeros.
+#![tactic(auto)]
+
 ghost use Rattle.std.specs.Prelude.{◌≡◌, ◌*◌, ◌^◌, ◌≤◌, length};
 ghost use Rattle.arrays.specs.Lists.{total_of, zeroed};
 

@@ -3,6 +3,7 @@
 // A function for C passes what it is given and the value of the board or feeder to one function, stores the reply's
 // structs whole and returns the code. Its proof is a walk of these steps (tools/walks), so whatever is more stands in
 // the function of `c_calls` below it.
+#![tactic(auto)]
 ghost use Rattle.std.specs.Prelude.{◌≡◌, ◌≤◌, length, drop};
 ghost use Rattle.rules.specs.Blocks.{opening};
 ghost use Rattle.rules.specs.Calls.{open!, rename!, close!, record! };

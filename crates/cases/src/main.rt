@@ -1,5 +1,6 @@
 // Plays a case file: boards given field by field and the box's public calls on them, read from standard input in the
 // byte form of docs/CASES.md and answered line by line on standard output.
+#![tactic(auto)]
 use case_steps::tables;
 
 mod answers;

@@ -1,6 +1,7 @@
 // One field of a log done: what it says is done on the engine's arrays, and the step says what came of it. No line is
 // written, so that a listing and a report go by the same step. The board is not tested here: whoever goes from field to
 // field tests it once, and each step leaves it good.
+#![tactic(auto)]
 ghost use Rattle.std.specs.Prelude.{◌≡◌, false};
 ghost use Rattle.log_bytes.specs.Format.{is_l};
 ghost use Rattle.board.specs.Memory.{numbers_now, board_now, Holding, holding};

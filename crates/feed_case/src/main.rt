@@ -1,6 +1,7 @@
 // Feeds logs in the fragments that are given, from the offset that is given, through a buffer of the size that is
 // given: the bytes of a feed case file (docs/CASES.md) on standard input, what the box says of each log on standard
 // output. What fails is said on standard error.
+#![tactic(auto)]
 use libc::{STDERR_FILENO, STDOUT_FILENO};
 use lines::LINE_ROOM;
 use numbers::LOG_END;

@@ -1,5 +1,6 @@
 // One field of a log played: what it says is done (crate events), and its line is put behind what is written. The board
 // is not tested here: whoever goes from field to field tests it once, and each step leaves it good.
+#![tactic(auto)]
 ghost use Rattle.std.specs.Prelude.{◌≡◌, false, ◌+◌, ◌^◌, ◌<◌, ◌≤◌, length};
 ghost use Rattle.log_bytes.specs.Format.{is_l};
 ghost use Rattle.lines.specs.Text.{Written};

@@ -1,6 +1,7 @@
 // Plays a log as it comes: the log on standard input, its listing on standard output, each line as soon as its field
 // has come. A log that cannot be read has no last line, and a Rattle program has no exit status: what fails is said on
 // standard error.
+#![tactic(auto)]
 ghost use Rattle.std.specs.Prelude.{◌≡◌, true, false, ◌+◌, ◌≤◌, length};
 ghost use Rattle.player.specs.Feeding.{feed_code, offset_of};
 

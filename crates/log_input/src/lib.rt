@@ -1,4 +1,5 @@
 // A log from standard input as it comes, for the programs that play one.
+#![tactic(auto)]
 ghost use Rattle.io.specs.Counts.{IsPrefixLen};
 
 use libc::STDIN_FILENO;

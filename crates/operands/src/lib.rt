@@ -1,4 +1,5 @@
 // What a call is given.
+#![tactic(auto)]
 
 // What an opening is given: the block's number and its share.
 #[derive(Drop)]

@@ -1,5 +1,6 @@
 // Reports on a log as it comes: the log on standard input, its report on standard output. A log that cannot be read has
 // no report, and a Rattle program has no exit status: what fails is said on standard error.
+#![tactic(auto)]
 use libc::STDERR_FILENO;
 use numbers::TABLE_ENTRIES;
 

@@ -1,6 +1,7 @@
 // Reports a log whose blocks begin with counts that are handed in, so that tests come to reports that no log comes to:
 // the bytes of a report case (docs/CASES.md) on standard input, the report on standard output. What fails is said on
 // standard error.
+#![tactic(auto)]
 use libc::STDERR_FILENO;
 use numbers::TABLE_ENTRIES;
 use report_lines::REPORT_ROOM;

@@ -1,5 +1,6 @@
 // One field of a log done and counted: what it says is done on the engine's arrays, and a send or a close changes the
 // counts beside them. No line is written. The board is not tested here: whoever goes from field to field tests it once.
+#![tactic(auto)]
 ghost use Rattle.std.specs.Prelude.{◌≡◌, false, ◌≤◌, ◌<◌, get_or};
 ghost use Rattle.units.specs.Credit.{credit_of};
 ghost use Rattle.log_bytes.specs.Format.{is_l};

@@ -1,4 +1,5 @@
 // A report on standard output, for the programs that report on a log.
+#![tactic(auto)]
 ghost use Rattle.std.specs.Prelude.{◌≡◌, true, false, ◌+◌, ◌^◌, ◌≤◌, ◌<◌, length};
 ghost use Rattle.report_play.specs.Playing.{offset_of};
 

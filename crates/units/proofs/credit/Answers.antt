@@ -7,44 +7,33 @@ use Rattle.units.specs.Credit.{credit_of}
 use Rattle.units.proofs.Classes.{class_le, class_hi}
 use Rattle.units.proofs.Credits.{charge_small, credit_fits}
 use borrow.Author.Rules.{rules}
-use Rattle.units.proofs.credit.Statement.{statement}
-use Rattle.units.proofs.credit.Tie as tie
-use Rattle.units.proofs.credit.Reads as reads
-use Rattle.units.proofs.credit.Lts as lts
-use Rattle.units.proofs.interval.Reads as interval-reads
-use Rattle.units.proofs.largest_charge.Reads as largest-charge-reads
+use Rattle.units.proofs.credit.Goals as goal
 
-largest-charge-requires : tie.Need-largest-charge-requires
-largest-charge-requires c κs = search rules
-
-interval-requires : tie.Need-interval-requires
-interval-requires c κs =
+pub interval-step-requires : goal.interval-step-requires
+interval-step-requires c =
     let at-start = c.before in
     omega (arith, class_le at-start.args.share)
 
-mul-t7 : tie.Need-overflow-mul-t7
-mul-t7 c =
+pub overflow_mul-result : goal.overflow_mul-result
+overflow_mul-result c =
     let at-start = c.before.before in
-    record { fits = rw (c.interval.ensures, at-start.requires.1.1.0) (omega (arith, class_hi at-start.args.share at-start.requires.1.0)) }
+    record { fits = rw (c.interval-step.ensures, at-start.requires.1.1.0) (omega (arith, class_hi at-start.args.share at-start.requires.1.0)) }
 
-mul-t8 : tie.Need-overflow-mul-t8
-mul-t8 c =
+pub overflow_mul-result-2 : goal.overflow_mul-result-2
+overflow_mul-result-2 c =
     let at-interval = c.before in
     let at-largest-charge = at-interval.before in
     let at-start = at-largest-charge.before in
     record {
-      fits = rw (at-interval.interval.ensures, at-start.requires.1.1.0, at-largest-charge.largest-charge.ensures)
+      fits = rw (at-interval.interval-step.ensures, at-start.requires.1.1.0, at-largest-charge.largest_charge-most.ensures)
           (credit_fits (at-start.args.share * 2 ^ class_of at-start.args.share) _ (class_hi at-start.args.share at-start.requires.1.0)
           (charge_small at-start.args.largest.0 at-start.requires.1.1.1));
     }
 
-returns : tie.Need-returns
+pub returns : goal.returns
 unfolding credit_of
 returns c =
     let at-interval = c.before in
     let at-largest-charge = at-interval.before in
     let at-start = at-largest-charge.before in
-    rw (at-interval.interval.ensures, at-start.requires.1.1.0, at-largest-charge.largest-charge.ensures)
-
-pub credit_spec : {M : Type 1} → statement M
-credit_spec = tie.close (tie.spec largest-charge-requires interval-requires mul-t7 mul-t8 returns)
+    rw (at-interval.interval-step.ensures, at-start.requires.1.1.0, at-largest-charge.largest_charge-most.ensures)

@@ -3,14 +3,8 @@
 use mathlib.Core.Path.{sym}
 use Rattle.bits.specs.Sets.{lowest_bit}
 use Rattle.bits.proofs.Sets.{lowest_zeros}
-use Rattle.bits.proofs.lowest.Statement.{statement}
-use Rattle.bits.proofs.lowest.Tie as tie
-use Rattle.bits.proofs.lowest.Reads as reads
-use Rattle.bits.proofs.lowest.Lts as lts
+use Rattle.bits.proofs.lowest.Goals as goal
 
-returns : tie.Need-returns
+pub returns : goal.returns
 unfolding lowest_bit
 returns c = sym (lowest_zeros 32 c.args.set)
-
-pub lowest_spec : {M : Type 1} → statement M
-lowest_spec = tie.close (tie.spec returns)
