@@ -2,11 +2,7 @@
 -- Assumes nothing.
 use mathlib.Core.Path.{refl}
 use Rattle.counting.proofs.Counting.{zero_reads}
-use Rattle.counting.proofs.blank.Statement.{statement}
-use Rattle.counting.proofs.blank.Tie as tie
+use Rattle.counting.proofs.blank.Goals as goal
 
-returns : tie.Need-returns
+pub returns : goal.returns
 returns c = (refl, zero_reads)
-
-pub blank_spec : {M : Type 1} → statement M
-blank_spec = tie.close (tie.spec returns)
