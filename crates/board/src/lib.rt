@@ -13,7 +13,7 @@ use units::Parts;
 // `slot`. `deficits` are parts, as `left` is: an array that is lent holds numbers, which are wrapped at each read. A
 // board lies in memory as C lays it out, so that a program in C holds one by its address.
 #[repr(C)]
-#[derive(Drop)]
+#[derive(Clone, Copy)]
 pub struct Board {
     pub numbers: [u32; PLACES],
     pub shares: [u32; PLACES],
@@ -34,7 +34,7 @@ pub struct Board {
 }
 
 // The numbers of a board that serving changes.
-#[derive(Drop)]
+#[derive(Clone, Copy)]
 pub struct After {
     pub clock: u64,
     pub active: u32,
@@ -44,7 +44,7 @@ pub struct After {
 }
 
 // What a call gives back: its code, and the board.
-#[derive(Drop)]
+#[derive(Clone, Copy)]
 pub struct Reply {
     pub code: u8,
     pub board: Board,

@@ -20,7 +20,7 @@ use units::Bytes;
 
 // What a serve sent: the block, the record's number and length, and the slot's clock.
 #[repr(C)]
-#[derive(Drop)]
+#[derive(Clone, Copy)]
 pub struct Sent {
     pub block: u32,
     pub number: u32,
@@ -30,7 +30,7 @@ pub struct Sent {
 
 // What a burst sent: how many records, and the bytes they total.
 #[repr(C)]
-#[derive(Drop)]
+#[derive(Clone, Copy)]
 pub struct Total {
     pub count: usize,
     pub bytes: u64,
@@ -40,7 +40,7 @@ pub struct Total {
 // bytes of the field have come and those that are kept; and whether the board is made, so that L has been read, and
 // whether the listing is over, each 0 for no. All zeros are where a log begins.
 #[repr(C)]
-#[derive(Drop)]
+#[derive(Clone, Copy)]
 pub struct Feeder {
     pub board: Board,
     pub at: u64,
@@ -53,14 +53,14 @@ pub struct Feeder {
 
 // What a call did with a fragment: how many bytes of it were taken, and how many were written.
 #[repr(C)]
-#[derive(Drop)]
+#[derive(Clone, Copy)]
 pub struct Fed {
     pub taken: usize,
     pub used: usize,
 }
 
 // The answer of a serve, what C is told as one value.
-#[derive(Drop)]
+#[derive(Clone, Copy)]
 pub struct ServeReply {
     pub code: u8,
     pub sent: Sent,
@@ -68,7 +68,7 @@ pub struct ServeReply {
 }
 
 // The answer of a burst, what C is told as one value.
-#[derive(Drop)]
+#[derive(Clone, Copy)]
 pub struct BurstReply {
     pub code: u8,
     pub total: Total,
@@ -76,7 +76,7 @@ pub struct BurstReply {
 }
 
 // The answer to a fragment, what C is told as one value.
-#[derive(Drop)]
+#[derive(Clone, Copy)]
 pub struct FeedReply {
     pub code: u8,
     pub fed: Fed,

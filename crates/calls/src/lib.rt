@@ -14,7 +14,7 @@ use units::Bytes;
 
 // The answer of a serve: its code; the block that is served, the number and the length of the record sent, and the
 // slot's clock.
-#[derive(Drop)]
+#[derive(Clone, Copy)]
 pub struct Served {
     pub code: u8,
     pub block: u32,
@@ -25,7 +25,7 @@ pub struct Served {
 }
 
 // The answer of a burst: how many records it sent, the bytes they total, and the code that stopped it.
-#[derive(Drop)]
+#[derive(Clone, Copy)]
 pub struct Bursted {
     pub count: usize,
     pub bytes: Bytes,

@@ -12,7 +12,7 @@ use units::{Bytes, Parts};
 
 // The counts of each place since its block was opened: slots begun, the credit given by them and the credit lost, in
 // parts, and the bytes sent. `full` says that the counting has stopped.
-#[derive(Drop)]
+#[derive(Clone, Copy)]
 pub struct Counts {
     pub slots: [u64; PLACES],
     pub credits: [u64; PLACES],

@@ -14,7 +14,7 @@ use numbers::{CLASSES, PLACES, codes};
 use units::{Bytes, Parts};
 
 // What a field leaves besides the arrays: where its line ends, the bytes sent so far, and the board's numbers.
-#[derive(Drop)]
+#[derive(Clone, Copy)]
 pub struct Moved {
     pub used: usize,
     pub sent: Bytes,

@@ -7,7 +7,7 @@ ghost use Rattle.finding.specs.Finding.{place_with, found_in, lowest_free};
 use numbers::{NO_BLOCK, NO_PLACE, PLACES};
 
 // What is known of a number: an open block has it, at this place; or it is unknown.
-#[derive(Drop)]
+#[derive(Clone, Copy)]
 pub enum Found {
     OpenAt(usize),
     Unknown,

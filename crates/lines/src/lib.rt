@@ -1,5 +1,6 @@
 // The writer of a listing's lines: each straight into a lent buffer, from an offset with room for any line on.
 #![tactic(auto)]
+
 ghost use Rattle.std.specs.Prelude.{◌≡◌, [], ◌∷◌, ◌+◌, ◌≤◌, length};
 ghost use Rattle.lines.specs.Text.{decimal, columns, line_of, Written};
 ghost use Rattle.lines.specs.Listing.{open_line, close_line, name_line, in_line, out_line, refused_line};

@@ -6,7 +6,7 @@ use mathlib.Core.Logic.{◌⊎◌, inl, inr, ⊎_elim}
 use mathlib.Core.List.{List}
 use Prim.Native.Nat.{ℕ, zero, suc, ◌+◌, ◌-◌, ◌*◌, ◌^◌, ◌≤◌, ◌<◌}
 use native.Mathlib.Omega.{arith}
-use borrow.Author.Tests.{eqb_true, ne_eqb, le-leb, lt-leb, leb-true, lt-ltb, le-ltb, ltb-true, ltb-false}
+use borrow.Author.Tests.{eqb-true, ne_eqb, le-leb, lt-leb, leb-true, lt-ltb, le-ltb, ltb-true, ltb-false}
 use lib.Dec.{ltb, leb, eqb, lit≤}
 use lib.ListN.{get_or}
 use Rattle.base.specs.Tests.{alike}
@@ -191,7 +191,7 @@ right_room tag n h = go (leb 128 tag) refl h
         → (length_of tag ≤ n) × ((128 ≤ tag) ⊎ (n ≡ length_of tag))
     go true e h = (omega (arith, passed_length tag (leb-true 128 tag e)), inl (leb-true 128 tag e))
     go false e h =
-        let q = eqb_true n (length_of tag) (and_right (leb tag last_tag) _ (and_right (leb 1 tag) _ h)) in
+        let q = eqb-true n (length_of tag) (and_right (leb tag last_tag) _ (and_right (leb 1 tag) _ h)) in
         (omega (arith, q), inr q)
 
 -- so what the tag says is there to be read

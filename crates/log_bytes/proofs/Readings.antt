@@ -4,7 +4,7 @@ use mathlib.Core.Bool.{Bool, true, false, cond, ◌&&◌}
 use mathlib.Core.List.{List, [], ◌∷◌}
 use Prim.Native.Nat.{ℕ, zero, suc, ◌+◌, ◌-◌, ◌^◌, ◌≤◌, ◌<◌}
 use native.Mathlib.Omega.{arith}
-use borrow.Author.Tests.{eqb_true, ne_eqb}
+use borrow.Author.Tests.{eqb-true, ne_eqb}
 use lib.Dec.{eqb}
 use lib.ListN.{length, drop, length-drop}
 use Rattle.base.proofs.Tests.{and_left, and_right}
@@ -46,7 +46,7 @@ pub end_whole : (at came : ℕ) (stage : Stage) → end_in at came stage ≡ who
 unfolding end_in
 end_whole at came stage h =
     let t = go (past_l stage && eqb came 0) h in
-    (and_left (past_l stage) _ t, eqb_true came 0 (and_right (past_l stage) _ t))
+    (and_left (past_l stage) _ t, eqb-true came 0 (and_right (past_l stage) _ t))
   where
     go : (t : Bool) → cond t whole (broken at) ≡ whole → t ≡ true
     go true h = refl

@@ -5,7 +5,7 @@ use mathlib.Core.List.{List, [], ◌∷◌, ◌++◌, append_assoc}
 use Prim.Native.Nat.{ℕ, zero, suc, ◌+◌, ◌*◌, ◌/◌, ◌%◌, ◌^◌, ◌≤◌, ◌<◌}
 use native.Mathlib.Nat.{pow-suc}
 use native.Mathlib.Omega.{arith}
-use borrow.Author.Tests.{eqb_true, ne_eqb, le-leb, leb-true}
+use borrow.Author.Tests.{eqb-true, ne_eqb, le-leb, leb-true}
 use lib.Dec.{leb, eqb, lit<, lit≤}
 use lib.ListN.{get_or, length, take, drop, length-append, length-take, length-drop, take-append-drop, drop_of_length-le}
 use lib.Seq.{get_or_at, take-add, drop-drop, drop-append_seam, take-suc, get_or-drop, length-take-le}
@@ -260,7 +260,7 @@ says_if true s at tag n b p r l m k =
 says_if false s at tag n b p r l m h =
     let k : (leb 1 tag) && ((leb tag last_tag) && (eqb n (length_of tag))) ≡ true = rw p at r in
     let j = and_right (leb 1 tag) _ k in
-    let sized = eqb_true n (length_of tag) (and_right (leb tag last_tag) _ j) in
+    let sized = eqb-true n (length_of tag) (and_right (leb tag last_tag) _ j) in
     let w = tag_says s at tag n (leb-true 1 tag (and_left _ _ k)) (leb-true tag last_tag (and_left _ _ j)) sized in
     let os = operands_of (event_of s tag at) in
     rw w.taken (

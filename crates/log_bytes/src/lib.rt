@@ -17,7 +17,7 @@ pub const HEADER: usize = 3;
 
 // What a whole field says, its numbers in the order of the log: L; an opening's; block; old and new; block, number and
 // length. Passed is a field that is passed over.
-#[derive(Drop)]
+#[derive(Clone, Copy)]
 pub enum Event {
     Largest(u32),
     Open(Opening),
@@ -29,14 +29,14 @@ pub enum Event {
 }
 
 // How far a log has been read: L has not been read, or it has.
-#[derive(Drop)]
+#[derive(Clone, Copy)]
 pub enum Stage {
     BeforeL,
     AfterL,
 }
 
 // How a log ends: where its last field ends, at a broken field's offset, or it is long.
-#[derive(Drop)]
+#[derive(Clone, Copy)]
 pub enum End {
     Whole,
     Broken(u64),
@@ -45,7 +45,7 @@ pub enum End {
 
 // What is known of a field: it is whole, and has so many bytes; or it ends the log; or it is not finished, and so many
 // of its bytes have come.
-#[derive(Drop)]
+#[derive(Clone, Copy)]
 pub enum Next {
     GoesOn(Event, usize),
     Ends(End),

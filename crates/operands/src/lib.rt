@@ -2,7 +2,7 @@
 #![tactic(auto)]
 
 // What an opening is given: the block's number and its share.
-#[derive(Drop)]
+#[derive(Clone, Copy)]
 pub struct Opening {
     pub number: u32,
     pub share: u32,

@@ -7,7 +7,7 @@ use mathlib.Core.List.{List, [], ◌++◌, append-nil}
 use Prim.Native.Nat.{ℕ, ◌+◌, ◌-◌, ◌^◌, ◌≤◌, ◌<◌}
 use native.Mathlib.Omega.{arith}
 use native.Mathlib.Decide.{ℕ_discrete}
-use borrow.Author.Tests.{ltb-true, eqb_true}
+use borrow.Author.Tests.{ltb-true, eqb-true}
 use lib.Dec.{ltb, leb, eqb}
 use lib.ListN.{length, take, drop, length-replicate}
 use Rattle.base.proofs.Numbers.{true_le}
@@ -79,7 +79,7 @@ module _ (s : State) (ids lens fragment out : List ℕ) (k : CanGoOn s ids lens)
     where
       go : 64 ≤ length out → 0 < length fragment → (t : Bool) → ltb (length out) 64 ≡ t → t || eqb (length fragment) 0 ≡ true → ⊥
       go h n true q e = omega (arith, ltb-true (length out) 64 q, h)
-      go h n false q e = omega (arith, eqb_true (length fragment) 0 e, n)
+      go h n false q e = omega (arith, eqb-true (length fragment) 0 e, n)
 
   -- the listing is one line
   pub first_last : (e : End) → ((later : List ℕ) → next_of s.at (joined s.kept s.came fragment later) s.stage ≡ Ends e) → (last : ℕ) (out' : List ℕ)

@@ -5,7 +5,7 @@ use mathlib.Core.Logic.{◌⊎◌, inl, inr, ◌≢◌}
 use mathlib.Core.List.{List, [], ◌++◌, append_assoc, append-nil}
 use Prim.Native.Nat.{ℕ, ◌+◌, ◌-◌, ◌/◌, ◌^◌, ◌≤◌, ◌<◌}
 use native.Mathlib.Omega.{arith}
-use borrow.Author.Tests.{ltb-true, ltb-false, eqb_true, eq-eqb}
+use borrow.Author.Tests.{ltb-true, ltb-false, eqb-true, eq-eqb}
 use lib.Dec.{ltb, leb, eqb}
 use lib.ListN.{length, take, drop, length-drop, length-replicate}
 use lib.Seq.{drop-drop, length-sets}
@@ -302,7 +302,7 @@ module _ (whole : List ℕ → List ℕ) (from : ℕ) (fragment out₀ : List �
       either : (t : Bool) → ltb (length out - used) 64 ≡ t → t || eqb (length fragment - taken) 0 ≡ true
           → (taken ≡ length fragment) ⊎ ((length out₀ - used < 64) ⊎ (past_l s₀.stage ≡ false))
       either true q h = inr (inl (omega (arith, ltb-true (length out - used) 64 q, u.same)))
-      either false q h = inl (omega (arith, eqb_true (length fragment - taken) 0 h, u.within))
+      either false q h = inl (omega (arith, eqb-true (length fragment - taken) 0 h, u.within))
 
       forth : 64 ≤ length out₀ → 0 < length fragment → (0 < taken) ⊎ ((taken ≡ 0) × (used ≡ 0)) → 0 < taken
       forth h k (inl m) = m
@@ -310,7 +310,7 @@ module _ (whole : List ℕ → List ℕ) (from : ℕ) (fragment out₀ : List �
         where
           go : (t : Bool) → ltb (length out - used) 64 ≡ t → t || eqb (length fragment - taken) 0 ≡ true → ⊥
           go true q e = omega (arith, ltb-true (length out - used) 64 q, m.1, h, u.same)
-          go false q e = omega (arith, eqb_true (length fragment - taken) 0 e, m.0, k)
+          go false q e = omega (arith, eqb-true (length fragment - taken) 0 e, m.0, k)
 
 -- ---- where a piece goes on: there is room for a line, and a byte
 

@@ -22,7 +22,7 @@ const SENT_PER_FIELD: u64 = serving::ANY_LENGTH;
 
 // What stands between two calls: the stage of the log, and whether its listing is over; the offset of the next field,
 // how many bytes of it have come, and those that are kept; the bytes sent so far, and the board.
-#[derive(Drop)]
+#[derive(Clone, Copy)]
 pub struct State {
     pub stage: Stage,
     pub over: bool,
@@ -35,7 +35,7 @@ pub struct State {
 
 // A piece of a listing: the code of a refusal, or DONE; how many bytes of the fragment were taken, and how many were
 // written; and the state to go on from.
-#[derive(Drop)]
+#[derive(Clone, Copy)]
 pub struct Piece {
     pub code: u8,
     pub taken: usize,

@@ -18,7 +18,7 @@ use serving::Step;
 use units::{Bytes, Parts};
 
 // What a field leaves besides the arrays: whether the counting has stopped, and the board's numbers.
-#[derive(Drop)]
+#[derive(Clone, Copy)]
 pub struct Counted {
     pub full: bool,
     pub after: After,

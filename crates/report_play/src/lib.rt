@@ -10,7 +10,7 @@ use log_bytes::{End, Next, Stage};
 // What stands between two calls: the stage of the log, and whether its report is over; the offset of the next field,
 // how many bytes of it have come, and those that are kept; the place from which lines are still to be written, the
 // board, and the counts beside it.
-#[derive(Drop)]
+#[derive(Clone, Copy)]
 pub struct State {
     pub stage: Stage,
     pub over: bool,
@@ -24,7 +24,7 @@ pub struct State {
 
 // A fragment that is played: whether the log is broken or long in it, how it ends then, and whether the counting had
 // stopped there; else the state behind it.
-#[derive(Drop)]
+#[derive(Clone, Copy)]
 pub struct Played {
     pub ends: bool,
     pub end: End,

@@ -20,7 +20,7 @@ use units::{Bytes, Parts};
 
 // A piece of a report: the code of a refusal, or DONE; how many bytes of the fragment were taken, and how many were
 // written; and the state to go on from.
-#[derive(Drop)]
+#[derive(Clone, Copy)]
 pub struct Piece {
     pub code: u8,
     pub taken: usize,

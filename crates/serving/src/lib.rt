@@ -14,7 +14,7 @@ use units::{Bytes, Parts};
 
 // What a send leaves besides the arrays: the numbers after it, and what was left of the slot where the lane emptied,
 // which is lost.
-#[derive(Drop)]
+#[derive(Clone, Copy)]
 pub struct AfterSend {
     pub after: After,
     pub lost: Parts,
@@ -22,7 +22,7 @@ pub struct AfterSend {
 
 // The code of one serve; what it tells: the place and the table entry of the record sent, and the bytes charged for it;
 // the clock at which its slot began, whether the slot began with it, and the parts lost; and the numbers after it.
-#[derive(Drop)]
+#[derive(Clone, Copy)]
 pub struct Step {
     pub code: u8,
     pub place: usize,

@@ -12,14 +12,14 @@ use numbers::{CLASSES, CLOCK_END, NO_LINK, PLACES, codes};
 use units::{Bytes, Parts};
 
 // What is served next: the place and the clock of its slot; or the code of a refusal.
-#[derive(Drop)]
+#[derive(Clone, Copy)]
 pub enum Choice {
     Stop(u8),
     Go(usize, u64),
 }
 
 // What is left of a slot that begins, and the classes that stay pending.
-#[derive(Drop)]
+#[derive(Clone, Copy)]
 pub struct Begun {
     pub left: Parts,
     pub pending: u32,

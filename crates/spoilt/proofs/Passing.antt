@@ -10,7 +10,7 @@ use native.Mathlib.Nat.{div-add-mod'}
 use native.Mathlib.Numerals.{add-one}
 use lib.Dec.{leb, eqb}
 use lib.ListN.{length, get_or, get_or-map}
-use borrow.Author.Tests.{not_true}
+use borrow.Author.Tests.{not-true}
 use Rattle.base.specs.Sums.{one_if, below}
 use Rattle.base.specs.Tests.{alike, all_below}
 use Rattle.base.proofs.Numbers.{eqb_yes, leb_yes}
@@ -149,7 +149,7 @@ module _ (b : struct.Board) (ids lens : List ℕ) (z : Sized b) (s : Sound b ids
   slot_at : (p : ℕ) → b.slot ≡ suc p → (p < 64) × (eqb (get_or b.counts p 0) 0 ≡ false)
   slot_at p e = (
     inside,
-    not_true (eqb (get_or b.counts p 0) 0)
+    not-true (eqb (get_or b.counts p 0) 0)
         (and_left (not (eqb (get_or b.counts p 0) 0)) _
         (sym (serving-is b ids lens p) ∙ ap (λ (x : Place). is_serving x.stand) (sym (inner b ids lens p inside)) ∙ serves)),
   )
@@ -203,7 +203,7 @@ module _ (b : struct.Board) (ids lens : List ℕ) (z : Sized b) (s : Sound b ids
       listed = sym (queued-at b ids lens q inside) ∙ (listed_at k q c).0
 
       waiting : eqb (get_or b.counts q 0) 0 ≡ false
-      waiting = not_true (eqb (get_or b.counts q 0) 0) (and_left (not (eqb (get_or b.counts q 0) 0)) _ listed)
+      waiting = not-true (eqb (get_or b.counts q 0) 0) (and_left (not (eqb (get_or b.counts q 0) 0)) _ listed)
 
       times : get_or b.ready q 0 % 2 ^ k ≡ 0
       times = ap (λ (n : ℕ). n % 2 ^ k) (ready_field q inside) ∙ (ready_at k q c).0

@@ -7,7 +7,7 @@ use native.Mathlib.Omega.{arith}
 use native.Mathlib.Decide.{ℕ_discrete}
 use lib.Dec.{leb, eqb}
 use lib.ListN.{get_or}
-use borrow.Author.Tests.{ne_eqb, not_true}
+use borrow.Author.Tests.{ne_eqb, not-true}
 use Rattle.base.specs.Sums.{one_if, below}
 use Rattle.base.proofs.Numbers.{eqb_yes, eqb_no}
 use Rattle.base.proofs.Tests.{and_left, and_right, and_both}
@@ -71,7 +71,7 @@ unfolding slot_open
 d_serves largest clock left count len =
     d_iff (d_and (d_true (not (eqb count 0)))
     (d_and (d_leb (charge_of len) left) (d_and (d_leb (suc left) (3 * charge_of largest)) (d_leb (suc clock) (2 ^ 62)))))
-    (λ w. record { waits = not_true (eqb count 0) w.0; fits = w.1.0; under = w.1.1.0; early = w.1.1.1 })
+    (λ w. record { waits = not-true (eqb count 0) w.0; fits = w.1.0; under = w.1.1.0; early = w.1.1.1 })
     (λ w. (ap not w.waits, (w.fits, (w.under, w.early))))
 
 -- ---- all rules

@@ -11,7 +11,7 @@ use native.Mathlib.Decide.{ℕ_discrete}
 use lib.Dec.{leb, ltb, eqb}
 use lib.ListN.{length, get_or}
 use lib.Pow.{pow_mono}
-use borrow.Author.Tests.{ne_eqb, eqb-false, le-leb, lt-leb, not_true}
+use borrow.Author.Tests.{ne_eqb, eqb-false, le-leb, lt-leb, not-true}
 use Rattle.base.specs.Sums.{one_if}
 use Rattle.base.proofs.Numbers.{split, eqb_yes, eqb_no, eqb_true}
 use Rattle.base.proofs.Sums.{one_if_true}
@@ -111,7 +111,7 @@ module _ (b : struct.Board) (ids lens : List ℕ) (w : Ordered b ids lens) where
       ap waits (inner b ids lens p h) ∙ waits-is b ids lens p ∙ and_left (not (eqb (get_or b.counts p 0) 0)) _ (sym (queued-at b ids lens p h) ∙ e)
 
   waits_count : (p : ℕ) → p < 64 → waits (at v p) ≡ true → eqb (get_or b.counts p 0) 0 ≡ false
-  waits_count p h e = not_true _ (sym (ap waits (inner b ids lens p h) ∙ waits-is b ids lens p) ∙ e)
+  waits_count p h e = not-true _ (sym (ap waits (inner b ids lens p h) ∙ waits-is b ids lens p) ∙ e)
 
   count_waits : (p : ℕ) → p < 64 → eqb (get_or b.counts p 0) 0 ≡ false → waits (at v p) ≡ true
   count_waits p h e = ap waits (inner b ids lens p h) ∙ waits-is b ids lens p ∙ ap not e

@@ -8,7 +8,7 @@ use native.Mathlib.Omega.{arith}
 use native.Mathlib.Decide.{ℕ_discrete}
 use lib.Dec.{leb, eqb}
 use lib.ListN.{length, get_or}
-use borrow.Author.Tests.{le-leb, not_true}
+use borrow.Author.Tests.{le-leb, not-true}
 use Rattle.base.specs.Sums.{one_if}
 use Rattle.base.proofs.Numbers.{split, eqb_yes, eqb_no, true_le}
 use Rattle.base.proofs.Sums.{below_ext}
@@ -135,7 +135,7 @@ module _ (b : struct.Board) (ids lens : List ℕ) (r : Rules b lens) where
 
   in_order_count : (p : ℕ) → in_order p (get_or b.counts p 0) b.slot ≡ true → eqb (get_or b.counts p 0) 0 ≡ false
   unfolding in_order
-  in_order_count p e = not_true (eqb (get_or b.counts p 0) 0) (and_left (not (eqb (get_or b.counts p 0) 0)) _ e)
+  in_order_count p e = not-true (eqb (get_or b.counts p 0) 0) (and_left (not (eqb (get_or b.counts p 0) 0)) _ e)
 
   class_of_lem : (k : ℕ) → k < 17 → (q : ℕ) → 1 ≤ count q (order_of b k) → in_class k (at v q) ≡ true
   class_of_lem k h q c =

@@ -15,7 +15,7 @@ use numbers::{
 use units::{Bytes, Parts};
 
 // What the board's arrays say of one place.
-#[derive(Drop)]
+#[derive(Clone, Copy)]
 pub struct PlaceNow {
     pub number: u32,
     pub share: u32,

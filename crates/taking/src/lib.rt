@@ -71,7 +71,7 @@ fn take_in(
 
 // What taking a record leaves besides the arrays: the code, and the set of active classes; and what it tells: the place
 // and the table entry of the record, and how many stood before it in its lane, all 0 where it was refused.
-#[derive(Drop)]
+#[derive(Clone, Copy)]
 pub struct AfterTaking {
     pub code: u8,
     pub active: u32,

@@ -9,11 +9,11 @@ use numbers::PARTS_PER_BYTE;
 
 // An amount of credit: one byte is 65,536 parts. It stands in a board, which C lays out too.
 #[repr(C)]
-#[derive(Drop)]
+#[derive(Clone, Copy)]
 pub struct Parts(pub u64);
 
 // An amount of data.
-#[derive(Drop)]
+#[derive(Clone, Copy)]
 pub struct Bytes(pub u64);
 
 // Bytes that the line carries with each record besides its own.

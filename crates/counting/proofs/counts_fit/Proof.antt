@@ -5,7 +5,7 @@ use mathlib.Core.Path.{◌≡◌, sym}
 use Prim.Native.Nat.{◌-◌, ◌≤◌}
 use native.Mathlib.Omega.{arith}
 use borrow.Author.Rules.{rules}
-use borrow.Author.Tests.{not-false, not_true}
+use borrow.Author.Tests.{not-false, not-true}
 use Rattle.base.proofs.Loops.{all_more, all_none, all_stop}
 use Rattle.base.specs.Tests.{all_below}
 use Rattle.counting.specs.Counting.{tallies_of, fits_now, counts_fit_now}
@@ -82,7 +82,7 @@ returns-2 c =
     let at-start = at-if1.before in
     rw at-if1.if1.false
     (sym (all_stop (λ i. fits_now at-start.args.t1 (tallies_of at-start.args.t2) i) 64 at-loop.loop.p (omega arith)
-    (rw (← at-in-hand.in-hand.ensures, ← at-account-fits.account_fits_lem.ensures) (not_true _ c.if2.true))))
+    (rw (← at-in-hand.in-hand.ensures, ← at-account-fits.account_fits_lem.ensures) (not-true _ c.if2.true))))
 
 add-p : tie.Need-overflow-add-p invariant-loop decreases-loop
 add-p c = search rules

@@ -2,7 +2,7 @@
 use mathlib.Core.Path.{refl, sym, ◌∙◌}
 use mathlib.Core.Bool.{true≢false}
 use native.Mathlib.Omega.{arith}
-use borrow.Author.Tests.{lt-ltb, le-ltb, not_true, not-false}
+use borrow.Author.Tests.{lt-ltb, le-ltb, not-true, not-false}
 use Rattle.board.proofs.Tables.{ids_wrong, lens_wrong}
 use Rattle.player.specs.Feeding.{feed_code}
 use Rattle.player.proofs.Codes.{code_over, code-kept, code-before, code-bytes, code-early, can_before, can_past}
@@ -36,7 +36,7 @@ returns-4 c =
     let at-if3 = at-is-fit.before.before.before in
     let at-if2 = at-if3.before in
     let at-if1 = at-if2.before in
-    let e = sym at-is-fit.is-fit.ensures ∙ not_true _ c.if4.true in
+    let e = sym at-is-fit.is-fit.ensures ∙ not-true _ c.if4.true in
     (code-kept _ _ _ at-if1.if1.false at-if2.if2.false at-if3.if3.false e, λ z. absurd (omega arith))
 
 past-l-requires : tie.Need-past-l-requires
@@ -52,7 +52,7 @@ returns-5 c =
     let at-if1 = at-if2.before in
     let r = is-fit-requires c.before.before.before.before at-is-fit.is-fit.lifetimes in
     let e = sym at-is-fit.is-fit.ensures ∙ not-false _ at-if4.if4.false in
-    let p = sym at-past-l.past-l.ensures ∙ not_true _ c.if5.true in
+    let p = sym at-past-l.past-l.ensures ∙ not-true _ c.if5.true in
     (code-before _ _ _ at-if1.if1.false at-if2.if2.false at-if3.if3.false e p, λ z. can_before _ _ _ at-if1.if1.false at-if2.if2.false e r p)
 
 returns-6 : tie.Need-returns-6

@@ -3,7 +3,7 @@
 use mathlib.Core.Path.{sym, ◌∙◌}
 use mathlib.Core.Logic.{inl, inr, ⊎_elim}
 use native.Mathlib.Omega.{arith}
-use borrow.Author.Tests.{eqb_true, eqb-false}
+use borrow.Author.Tests.{eqb-true, eqb-false}
 use lib.ListN.{length}
 use Rattle.reporting.proofs.Feeding.{refused_feed, done_feed, over_feed, none_feed}
 use borrow.Author.Rules.{rules}
@@ -61,7 +61,7 @@ returns-3 c =
     let at-unready = at-if1.before in
     let z = sym at-unready.unready.ensures.0 ∙ at-if1.if1.false in
     rw c.nothing3.ensures
-    (done_feed _ _ _ _ _ _ _ _ _ z (none_feed _ _ _ _ _ z (⊎_elim (λ w. inl w.taken) (λ w. inr (eqb_true _ 0 w.1.taken)) at-if3.if3.branch)))
+    (done_feed _ _ _ _ _ _ _ _ _ z (none_feed _ _ _ _ _ z (⊎_elim (λ w. inl w.taken) (λ w. inr (eqb-true _ 0 w.1.taken)) at-if3.if3.branch)))
 
 past-l-requires : tie.Need-past-l-requires
 past-l-requires c κs = search rules

@@ -1,6 +1,6 @@
 -- `reporting::has_stopped` meets its contract. Assumes nothing.
 use mathlib.Core.Path.{sym, ◌∙◌}
-use borrow.Author.Tests.{not_true, not-false}
+use borrow.Author.Tests.{not-true, not-false}
 use borrow.Author.Rules.{rules}
 use Rattle.reporting.proofs.has_stopped.Statement.{statement}
 use Rattle.reporting.proofs.has_stopped.Tie as tie
@@ -11,7 +11,7 @@ past-l-requires c κs = search rules
 returns : tie.Need-returns
 returns c =
     let at-past-l = c.before in
-    rw (sym at-past-l.past-l.ensures ∙ not_true _ c.if1.true)
+    rw (sym at-past-l.past-l.ensures ∙ not-true _ c.if1.true)
 
 returns-2 : tie.Need-returns-2
 returns-2 c =

@@ -2,7 +2,7 @@
 use mathlib.Core.Path.{refl, sym, ◌∙◌}
 use mathlib.Core.Bool.{true≢false}
 use native.Mathlib.Omega.{arith}
-use borrow.Author.Tests.{not_true, not-false}
+use borrow.Author.Tests.{not-true, not-false}
 use Rattle.board.proofs.Tables.{ids_wrong, lens_wrong}
 use Rattle.spoilt.proofs.Before.{sound_known}
 use Rattle.counting.specs.Counting.{TalliesSized, tallies_of}
@@ -39,7 +39,7 @@ returns-4 c =
     let at-if3 = at-is-fit.before.before.before in
     let at-if2 = at-if3.before in
     let at-if1 = at-if2.before in
-    let e = sym at-is-fit.is-fit.ensures ∙ not_true _ c.if4.true in
+    let e = sym at-is-fit.is-fit.ensures ∙ not-true _ c.if4.true in
     (code-kept _ _ _ at-if1.if1.false at-if2.if2.false at-if3.if3.false e, λ z. absurd (omega arith))
 
 past-l-requires : tie.Need-past-l-requires
@@ -54,7 +54,7 @@ returns-5 c =
     let at-if2 = at-if3.before in
     let at-if1 = at-if2.before in
     let e = sym at-is-fit.is-fit.ensures ∙ not-false _ at-if4.if4.false in
-    let p = sym at-past-l.past-l.ensures ∙ not_true _ c.if5.true in
+    let p = sym at-past-l.past-l.ensures ∙ not-true _ c.if5.true in
     (code-before _ _ _ at-if1.if1.false at-if2.if2.false at-if3.if3.false e p, λ z. can_before _ _ _ at-if1.if1.false at-if2.if2.false e p)
 
 early-requires : tie.Need-early-requires
@@ -95,7 +95,7 @@ returns-7 c =
     let e = sym at-is-fit.is-fit.ensures ∙ not-false _ at-if4.if4.false in
     let p = sym at-past-l.past-l.ensures ∙ not-false _ at-if5.if5.false in
     let known = at-early.early.ensures.1 at-if6.if6.false in
-    let no = sym at-counts-fit.counts-fit.ensures ∙ not_true _ c.if7.true in
+    let no = sym at-counts-fit.counts-fit.ensures ∙ not-true _ c.if7.true in
     (code-counts _ _ _ at-if1.if1.false at-if2.if2.false at-if3.if3.false e p (sound_known _ _ _ known) no, λ z. absurd (omega arith))
 
 -- the arrays of a state's counts have their lengths by type

@@ -6,7 +6,7 @@ use Prim.Native.Nat.{◌-◌, ◌≤◌, ℕ}
 use native.Mathlib.Omega.{arith}
 use lib.ListN.{get_or}
 use borrow.Author.Rules.{rules}
-use borrow.Author.Tests.{not-false, not_true}
+use borrow.Author.Tests.{not-false, not-true}
 use Rattle.base.proofs.Loops.{all_more, all_none, all_stop}
 use Rattle.base.specs.Tests.{all_below}
 use Rattle.lanes.specs.Lanes.{lane_entry}
@@ -50,7 +50,7 @@ returns c =
     let at-start = at-loop.before.before in
     sym (all_stop _ at-start.args.count at-loop.loop.j at-loop-test.loop-test.true
     (ap (λ (i : ℕ). length_in_range at-start.args.largest (get_or at-start.args.lens.now i 0)) (sym at_entry_lem.entry.ensures.0)
-    ∙ sym at-length-in-range.length-in-range.ensures ∙ not_true _ c.if1.true))
+    ∙ sym at-length-in-range.length-in-range.ensures ∙ not-true _ c.if1.true))
 
 add-j : tie.Need-overflow-add-j invariant-loop decreases-loop
 add-j c = search rules

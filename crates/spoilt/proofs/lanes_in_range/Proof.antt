@@ -6,7 +6,7 @@ use Prim.Native.Nat.{◌-◌, ◌≤◌}
 use native.Mathlib.Omega.{arith}
 use lib.ListN.{get_or}
 use borrow.Author.Rules.{rules}
-use borrow.Author.Tests.{not-false, not_true}
+use borrow.Author.Tests.{not-false, not-true}
 use Rattle.base.proofs.Loops.{all_more, all_none, all_stop}
 use Rattle.base.specs.Tests.{all_below}
 use Rattle.rules.specs.Board.{at}
@@ -47,7 +47,7 @@ returns c =
     let at-lane-in-range = c.before in
     let at-loop-test = at-lane-in-range.before.before.before in
     let at-loop = at-loop-test.before in
-    sym (all_stop _ 64 at-loop.loop.p at-loop-test.loop-test.true (sym at-lane-in-range.lane-in-range.ensures ∙ not_true _ c.if1.true))
+    sym (all_stop _ 64 at-loop.loop.p at-loop-test.loop-test.true (sym at-lane-in-range.lane-in-range.ensures ∙ not-true _ c.if1.true))
 
 add-p : tie.Need-overflow-add-p invariant-loop decreases-loop
 add-p c = search rules

@@ -1,7 +1,7 @@
 -- `spoilt::orders_sound` meets its contract: one return for each test of the definition, in its order. Assumes nothing.
 use mathlib.Core.Path.{◌∙◌, sym}
 use borrow.Author.Rules.{rules}
-use borrow.Author.Tests.{not-false, not_true}
+use borrow.Author.Tests.{not-false, not-true}
 use Rattle.base.proofs.Loops.{last_test}
 use Rattle.spoilt.proofs.orders_sound.Statement.{statement}
 use Rattle.spoilt.proofs.orders_sound.Tie as tie
@@ -17,7 +17,7 @@ orders-listed-requires c κs = search rules
 returns : tie.Need-returns
 returns c =
     let at-orders-listed = c.before in
-    rw (sym at-orders-listed.orders-listed.ensures ∙ not_true _ c.if1.true)
+    rw (sym at-orders-listed.orders-listed.ensures ∙ not-true _ c.if1.true)
 
 active-as-ruled-requires : tie.Need-active-as-ruled-requires
 active-as-ruled-requires c κs = search rules
@@ -29,7 +29,7 @@ returns-2 c =
     let at-orders-listed = at-if1.before in
     rw (
       sym at-orders-listed.orders-listed.ensures ∙ not-false _ at-if1.if1.false,
-      sym at-active-as-ruled.active-as-ruled.ensures ∙ not_true _ c.if2.true,
+      sym at-active-as-ruled.active-as-ruled.ensures ∙ not-true _ c.if2.true,
     )
 
 pending-as-ruled-requires : tie.Need-pending-as-ruled-requires

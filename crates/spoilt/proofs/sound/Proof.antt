@@ -4,7 +4,7 @@ use mathlib.Core.Path.{◌∙◌, sym}
 use lib.Dec.{eqb}
 use lib.ListN.{length}
 use borrow.Author.Rules.{rules}
-use borrow.Author.Tests.{not-false, not_true}
+use borrow.Author.Tests.{not-false, not-true}
 use Rattle.base.proofs.Numbers.{eqb_true}
 use Rattle.base.proofs.Tests.{and_right}
 use Rattle.spoilt.specs.Test.{sound_test}
@@ -29,7 +29,7 @@ returns : tie.Need-returns
 unfolding sound_test
 returns c =
     let at-tables-whole = c.before in
-    rw (sym at-tables-whole.tables-whole.ensures ∙ not_true _ c.if1.true)
+    rw (sym at-tables-whole.tables-whole.ensures ∙ not-true _ c.if1.true)
 
 size-in-range-requires : tie.Need-size-in-range-requires
 size-in-range-requires c κs = search rules
@@ -42,7 +42,7 @@ returns-2 c =
     let at-tables-whole = at-if1.before in
     rw (
       sym at-tables-whole.tables-whole.ensures ∙ not-false _ at-if1.if1.false,
-      sym at-size-in-range.size-in-range.ensures ∙ not_true _ c.if2.true,
+      sym at-size-in-range.size-in-range.ensures ∙ not-true _ c.if2.true,
     )
 
 numbers-apart-requires : tie.Need-numbers-apart-requires
@@ -59,7 +59,7 @@ returns-3 c =
     rw (
       sym at-tables-whole.tables-whole.ensures ∙ not-false _ at-if1.if1.false,
       sym at-size-in-range.size-in-range.ensures ∙ not-false _ at-if2.if2.false,
-      sym at-numbers-apart.Numbers-apart.ensures ∙ not_true _ c.if3.true,
+      sym at-numbers-apart.Numbers-apart.ensures ∙ not-true _ c.if3.true,
     )
 
 places-in-range-requires : tie.Need-places-in-range-requires
@@ -79,7 +79,7 @@ returns-4 c =
       sym at-tables-whole.tables-whole.ensures ∙ not-false _ at-if1.if1.false,
       sym at-size-in-range.size-in-range.ensures ∙ not-false _ at-if2.if2.false,
       sym at-numbers-apart.Numbers-apart.ensures ∙ not-false _ at-if3.if3.false,
-      sym at-places-in-range.places-in-range.ensures ∙ not_true _ c.if4.true,
+      sym at-places-in-range.places-in-range.ensures ∙ not-true _ c.if4.true,
     )
 
 lanes-in-range-requires : tie.Need-lanes-in-range-requires
@@ -108,7 +108,7 @@ returns-5 c =
       sym at-size-in-range.size-in-range.ensures ∙ not-false _ at-if2.if2.false,
       sym at-numbers-apart.Numbers-apart.ensures ∙ not-false _ at-if3.if3.false,
       sym at-places-in-range.places-in-range.ensures ∙ not-false _ at-if4.if4.false,
-      sym at-lanes-in-range.lanes-in-range.ensures ∙ not_true _ c.if5.true,
+      sym at-lanes-in-range.lanes-in-range.ensures ∙ not-true _ c.if5.true,
     )
 
 shares-fit-requires : tie.Need-shares-fit-requires
@@ -134,7 +134,7 @@ returns-6 c =
       sym at-numbers-apart.Numbers-apart.ensures ∙ not-false _ at-if3.if3.false,
       sym at-places-in-range.places-in-range.ensures ∙ not-false _ at-if4.if4.false,
       sym at-lanes-in-range.lanes-in-range.ensures ∙ not-false _ at-if5.if5.false,
-      sym at-shares-fit.shares-fit.ensures ∙ not_true _ c.if6.true,
+      sym at-shares-fit.shares-fit.ensures ∙ not-true _ c.if6.true,
     )
 
 held-while-waiting-requires : tie.Need-held-while-waiting-requires
@@ -163,7 +163,7 @@ returns-7 c =
       sym at-places-in-range.places-in-range.ensures ∙ not-false _ at-if4.if4.false,
       sym at-lanes-in-range.lanes-in-range.ensures ∙ not-false _ at-if5.if5.false,
       sym at-shares-fit.shares-fit.ensures ∙ not-false _ at-if6.if6.false,
-      sym at-held-while-waiting.held-while-waiting.ensures ∙ not_true _ c.if7.true,
+      sym at-held-while-waiting.held-while-waiting.ensures ∙ not-true _ c.if7.true,
     )
 
 slot-in-range-requires : tie.Need-slot-in-range-requires
@@ -202,7 +202,7 @@ returns-8 c =
       sym at-lanes-in-range.lanes-in-range.ensures ∙ not-false _ at-if5.if5.false,
       sym at-shares-fit.shares-fit.ensures ∙ not-false _ at-if6.if6.false,
       sym at-held-while-waiting.held-while-waiting.ensures ∙ not-false _ at-if7.if7.false,
-      sym at-slot-in-range.slot-in-range.ensures ∙ not_true _ c.if8.true,
+      sym at-slot-in-range.slot-in-range.ensures ∙ not-true _ c.if8.true,
     )
 
 orders-sound-requires : tie.Need-orders-sound-requires

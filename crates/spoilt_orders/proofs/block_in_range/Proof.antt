@@ -2,7 +2,7 @@
 -- Assumes nothing.
 use mathlib.Core.Path.{◌∙◌, sym}
 use borrow.Author.Rules.{rules}
-use borrow.Author.Tests.{not-false, not_true}
+use borrow.Author.Tests.{not-false, not-true}
 use Rattle.spoilt_orders.specs.Walks.{block_in_range}
 use Rattle.spoilt_orders.proofs.block_in_range.Statement.{statement}
 use Rattle.spoilt_orders.proofs.block_in_range.Tie as tie
@@ -19,7 +19,7 @@ returns : tie.Need-returns
 unfolding block_in_range
 returns c =
     let at-in-order = c.before in
-    rw (sym at-in-order.in_order.ensures ∙ not_true _ c.if1.true)
+    rw (sym at-in-order.in_order.ensures ∙ not-true _ c.if1.true)
 
 of-class-requires : tie.Need-of-class-requires
 of-class-requires c κs = search rules
@@ -30,7 +30,7 @@ returns-2 c =
     let at-of-class = c.before in
     let at-if1 = at-of-class.before in
     let at-in-order = at-if1.before in
-    rw (sym at-in-order.in_order.ensures ∙ not-false _ at-if1.if1.false, sym at-of-class.of-class.ensures ∙ not_true _ c.if2.true)
+    rw (sym at-in-order.in_order.ensures ∙ not-false _ at-if1.if1.false, sym at-of-class.of-class.ensures ∙ not-true _ c.if2.true)
 
 ready-in-range-requires : tie.Need-ready-in-range-requires
 ready-in-range-requires c κs = search rules

@@ -6,7 +6,7 @@ use mathlib.Core.Path.{◌∙◌, ◌≡◌, ap, refl, sym}
 use Prim.Native.Nat.{◌-◌, ◌≤◌}
 use native.Mathlib.Omega.{arith}
 use borrow.Author.Rules.{rules}
-use borrow.Author.Tests.{eq-eqb, ne_eqb, not-false, not_true}
+use borrow.Author.Tests.{eq-eqb, ne_eqb, not-false, not-true}
 use Rattle.spoilt_orders.proofs.Steps.{walk_end, walk-far, walk_long, walk-on, walk_refused}
 use Rattle.spoilt_orders.specs.Walks.{walk}
 use Rattle.spoilt_orders.proofs.order_length.Statement.{statement}
@@ -85,7 +85,7 @@ returns-3 c =
     ∙ walk_refused at-start.args.k at-start.args.start at-start.args.slot at-start.args.tail at-start.args.shares.now
     at-start.args.counts.now at-start.args.ready.now at-start.args.next.now at-loop.loop.met at-loop.loop.h at-loop.loop.least
     at-loop.loop.last at-if1.if1.false at-loop-test.loop-test.true at-if2.if2.false
-    (sym at-block-in-range.block-in-range.ensures ∙ not_true _ c.if3.true))
+    (sym at-block-in-range.block-in-range.ensures ∙ not-true _ c.if3.true))
 
 add-met : tie.Need-overflow-add-met invariant-loop decreases-loop
 add-met c = search rules

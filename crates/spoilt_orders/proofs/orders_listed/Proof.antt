@@ -7,7 +7,7 @@ use Prim.Native.Nat.{◌*◌, ◌-◌, ◌^◌, ◌≤◌, ℕ}
 use native.Mathlib.Omega.{arith}
 use lib.Dec.{eqb, leb}
 use borrow.Author.Rules.{rules}
-use borrow.Author.Tests.{le-leb, lt-leb, not-false, not_true}
+use borrow.Author.Tests.{le-leb, lt-leb, not-false, not-true}
 use Rattle.base.proofs.Loops.{all_more, all_none, all_stop, below_more, below_none}
 use Rattle.base.proofs.Numbers.{true_le}
 use Rattle.base.specs.Sums.{below}
@@ -39,7 +39,7 @@ returns : tie.Need-returns invariant-loop decreases-loop
 unfolding orders_listed
 returns c =
     let at-clock-in-range = c.before in
-    rw (sym at-clock-in-range.clock-in-range.ensures ∙ not_true _ c.if1.true)
+    rw (sym at-clock-in-range.clock-in-range.ensures ∙ not-true _ c.if1.true)
 
 loop-holds : tie.Need-loop-init invariant-loop decreases-loop
 loop-holds c = (omega arith, (omega arith, (all_none _, sym (below_none _))))

@@ -6,7 +6,7 @@ use Prim.Native.Nat.{◌-◌, ◌≤◌}
 use native.Mathlib.Omega.{arith}
 use lib.ListN.{get_or}
 use borrow.Author.Rules.{rules}
-use borrow.Author.Tests.{not-false, not_true}
+use borrow.Author.Tests.{not-false, not-true}
 use Rattle.base.proofs.Loops.{all_more, all_none, all_stop}
 use Rattle.base.specs.Tests.{all_below}
 use Rattle.spoilt_places.specs.Ranges.{number_apart, numbers_apart}
@@ -40,7 +40,7 @@ returns c =
     let at-number-apart = c.before in
     let at-loop-test = at-number-apart.before.before in
     let at-loop = at-loop-test.before in
-    sym (all_stop _ 64 at-loop.loop.p at-loop-test.loop-test.true (sym at-number-apart.number-apart.ensures ∙ not_true _ c.if1.true))
+    sym (all_stop _ 64 at-loop.loop.p at-loop-test.loop-test.true (sym at-number-apart.number-apart.ensures ∙ not-true _ c.if1.true))
 
 add-p : tie.Need-overflow-add-p invariant-loop decreases-loop
 add-p c = search rules

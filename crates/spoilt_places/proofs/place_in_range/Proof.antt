@@ -2,7 +2,7 @@
 -- Assumes nothing.
 use mathlib.Core.Path.{◌∙◌, sym}
 use borrow.Author.Rules.{rules}
-use borrow.Author.Tests.{not-false, not_true}
+use borrow.Author.Tests.{not-false, not-true}
 use Rattle.base.proofs.Loops.{last_test}
 use Rattle.spoilt_places.specs.Ranges.{place_in_range}
 use Rattle.spoilt_places.proofs.place_in_range.Statement.{statement}
@@ -24,7 +24,7 @@ returns : tie.Need-returns
 unfolding place_in_range
 returns c =
     let at-number-in-range = c.before in
-    rw (sym at-number-in-range.number-in-range.ensures ∙ not_true _ c.if1.true)
+    rw (sym at-number-in-range.number-in-range.ensures ∙ not-true _ c.if1.true)
 
 share-in-range-requires : tie.Need-share-in-range-requires
 share-in-range-requires c κs = search rules
@@ -37,7 +37,7 @@ returns-2 c =
     let at-number-in-range = at-if1.before in
     rw (
       sym at-number-in-range.number-in-range.ensures ∙ not-false _ at-if1.if1.false,
-      sym at-share-in-range.share-in-range.ensures ∙ not_true _ c.if2.true,
+      sym at-share-in-range.share-in-range.ensures ∙ not-true _ c.if2.true,
     )
 
 ring-in-range-requires : tie.Need-ring-in-range-requires
@@ -54,7 +54,7 @@ returns-3 c =
     rw (
       sym at-number-in-range.number-in-range.ensures ∙ not-false _ at-if1.if1.false,
       sym at-share-in-range.share-in-range.ensures ∙ not-false _ at-if2.if2.false,
-      sym at-ring-in-range.ring-in-range.ensures ∙ not_true _ c.if3.true,
+      sym at-ring-in-range.ring-in-range.ensures ∙ not-true _ c.if3.true,
     )
 
 in-order-requires : tie.Need-in-order-requires
@@ -79,7 +79,7 @@ returns-4 c =
       sym at-share-in-range.share-in-range.ensures ∙ not-false _ at-if2.if2.false,
       sym at-ring-in-range.ring-in-range.ensures ∙ not-false _ at-if3.if3.false,
       ← at-in-order.in_order.ensures,
-      sym at-deficit-in-range.deficit-in-range.ensures ∙ not_true _ c.if4.true,
+      sym at-deficit-in-range.deficit-in-range.ensures ∙ not-true _ c.if4.true,
     )
 
 free-is-zero-requires : tie.Need-free-is-zero-requires
@@ -104,7 +104,7 @@ returns-5 c =
       sym at-ring-in-range.ring-in-range.ensures ∙ not-false _ at-if3.if3.false,
       ← at-in-order.in_order.ensures,
       sym at-deficit-in-range.deficit-in-range.ensures ∙ not-false _ at-if4.if4.false,
-      sym at-free-is-zero.free-is-zero.ensures ∙ not_true _ c.if5.true,
+      sym at-free-is-zero.free-is-zero.ensures ∙ not-true _ c.if5.true,
     )
 
 unused-is-zero-requires : tie.Need-unused-is-zero-requires

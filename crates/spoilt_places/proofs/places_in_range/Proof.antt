@@ -5,7 +5,7 @@ use mathlib.Core.Path.{◌∙◌, ◌≡◌, sym}
 use Prim.Native.Nat.{◌-◌, ◌≤◌}
 use native.Mathlib.Omega.{arith}
 use borrow.Author.Rules.{rules}
-use borrow.Author.Tests.{not-false, not_true}
+use borrow.Author.Tests.{not-false, not-true}
 use Rattle.base.proofs.Loops.{all_more, all_none, all_stop}
 use Rattle.base.specs.Tests.{all_below}
 use Rattle.spoilt_places.specs.Ranges.{place_in_range, place_now, places_in_range}
@@ -29,7 +29,7 @@ place-in-range-requires c κs = search rules
 
 returns : tie.Need-returns invariant-loop decreases-loop
 unfolding places_in_range
-returns c = sym (all_stop _ 64 _ (search rules) (sym c.before.place-in-range.ensures ∙ not_true _ c.if1.true))
+returns c = sym (all_stop _ 64 _ (search rules) (sym c.before.place-in-range.ensures ∙ not-true _ c.if1.true))
 
 add-p : tie.Need-overflow-add-p invariant-loop decreases-loop
 add-p c = search rules

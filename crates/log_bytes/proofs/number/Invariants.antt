@@ -1,0 +1,13 @@
+use mathlib.Core.Path.{◌≡◌, ap, ◌∙◌}
+use Prim.Native.Nat.{ℕ, ◌+◌, ◌-◌, ◌≤◌}
+use native.Mathlib.Omega.{arith}
+use Rattle.log_bytes.specs.Format.{number_at}
+use Rattle.log_bytes.proofs.Numbers.{number_none, number_more, shift_fits, turn_fits}
+use borrow.Author.Rules.{rules}
+use Rattle.log_bytes.proofs.number.Given as goal
+
+abbrev pub invariant-loop-left : goal.invariant-loop-left
+invariant-loop-left l = (l.left ≤ l.n) × (l.sum ≡ number_at l.bytes l.i (l.n - l.left))
+
+abbrev pub decreases-loop-left : goal.decreases-loop-left
+decreases-loop-left l = l.left
