@@ -1,6 +1,7 @@
 // The board in memory: one value with the sixty-four places and the seventeen class orders, and how it spells a board
 // of the rules.
 #![tactic(auto)]
+
 ghost use Rattle.std.specs.Prelude.{◌≡◌};
 ghost use Rattle.rules.specs.Board.{fresh};
 ghost use Rattle.board.specs.Memory.{numbers_of, board_now};

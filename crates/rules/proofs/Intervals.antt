@@ -138,7 +138,7 @@ slots_once b n lo x after t g w end = go (lane_has b n w.before) (moves b t x)
     go : (p : ℕ) × (find b n ≡ open_at p) → (nb.clock ≡ b.clock) ⊎ (x ≡ serve!) → slots_in lo (lo + 2 ^ class_at b n) n b (x ∷ after) ≡ 1
     go (p, e) (inl q) = absurd (omega (arith, w.early, w.reached))
     go (p, e) (inr q) =
-        rw (share) (rw (stay)
+        subst (λ (m : ℕ). slots_in lo (lo + 2 ^ m) n b (x ∷ after) ≡ 1) (sym share) (rw (stay)
         (ap₂ (λ (u v : ℕ). u + v) (ap one_if (begins_at lo (lo + 2 ^ k) b p n x f.sent)) (ap (λ (m : ℕ). slots_in lo (lo + 2 ^ k) m nb after) same ∙ l.counts)
         ∙ once))
       where
