@@ -2,7 +2,7 @@
 use mathlib.Core.Path.{refl, sym, ◌∙◌}
 use mathlib.Core.Logic.{inl, inr}
 use native.Mathlib.Omega.{arith}
-use Rattle.player.proofs.Ends.{refused_close, done_close, close_none, close-last}
+use Rattle.player.proofs.Ends.{refused_close, done_close, close_none, close_last}
 use Rattle.player.proofs.finish.Goals as goal
 
 pub returns-then-refusal-ne-DONE : goal.returns-then-refusal-ne-DONE
@@ -29,5 +29,5 @@ returns c =
     let shown = c.show_end-last.ensures in
     let goes = c.unready-refusal.ensures.1 c.if-refusal-ne-DONE.false c.if-s.false in
     rw c.last_piece.ensures (done_close _ _ _ _ _ _ z
-    (close-last _ _ _ _ goes _ _ refl c.waiting.ensures _ _ _ c.end_in-end.ensures shown.0
+    (close_last _ _ _ _ goes _ _ refl c.waiting.ensures _ _ _ c.end_in-end.ensures shown.0
     (omega (arith, c.if-out-lt-LINE_ROOM.false, shown.1))))

@@ -6,7 +6,7 @@ use native.Mathlib.Omega.{arith}
 use borrow.Author.Tests.{lt-ltb, le-ltb}
 use Rattle.board.proofs.Tables.{ids_wrong, lens_wrong}
 use Rattle.player.specs.Feeding.{feed_code}
-use Rattle.player.proofs.Codes.{code_over, code-kept, code-before, code-bytes, code-early, can_before, can_past}
+use Rattle.player.proofs.Codes.{code_over, code_kept, code_before, code_bytes, code_early, can_before, can_past}
 use borrow.Author.Rules.{rules}
 use Rattle.player.proofs.unready.Goals as goal
 
@@ -25,26 +25,26 @@ returns-then-s c =
 pub returns-then-not-is_fit : goal.returns-then-not-is_fit
 returns-then-not-is_fit c =
     let e = sym c.is_fit.ensures ∙ c.if-not-is_fit.true in
-    (code-kept _ _ _ c.if-ids-ne-TABLE_ENTRIES.false c.if-lens-ne-TABLE_ENTRIES.false c.if-s.false e, λ z. absurd (omega arith))
+    (code_kept _ _ _ c.if-ids-ne-TABLE_ENTRIES.false c.if-lens-ne-TABLE_ENTRIES.false c.if-s.false e, λ z. absurd (omega arith))
 
 pub returns-then-not-past_l : goal.returns-then-not-past_l
 returns-then-not-past_l c =
     let r : length c.args.s.kept ≡ 13 = search rules in
     let e = sym c.is_fit.ensures ∙ c.if-not-is_fit.false in
     let p = sym c.past_l.ensures ∙ c.if-not-past_l.true in
-    (code-before _ _ _ c.if-ids-ne-TABLE_ENTRIES.false c.if-lens-ne-TABLE_ENTRIES.false c.if-s.false e p, λ z. can_before _ _ _ c.if-ids-ne-TABLE_ENTRIES.false c.if-lens-ne-TABLE_ENTRIES.false e r p)
+    (code_before _ _ _ c.if-ids-ne-TABLE_ENTRIES.false c.if-lens-ne-TABLE_ENTRIES.false c.if-s.false e p, λ z. can_before _ _ _ c.if-ids-ne-TABLE_ENTRIES.false c.if-lens-ne-TABLE_ENTRIES.false e r p)
 
 pub returns-then-s-sent : goal.returns-then-s-sent
 returns-then-s-sent c =
     let r : length c.args.s.kept ≡ 13 = search rules in
     let e = sym c.is_fit.ensures ∙ c.if-not-is_fit.false in
     let p = sym c.past_l.ensures ∙ c.if-not-past_l.false in
-    (code-bytes _ _ _ c.if-ids-ne-TABLE_ENTRIES.false c.if-lens-ne-TABLE_ENTRIES.false c.if-s.false e p (lt-ltb _ _ c.if-s-sent.true), λ z. absurd (omega arith))
+    (code_bytes _ _ _ c.if-ids-ne-TABLE_ENTRIES.false c.if-lens-ne-TABLE_ENTRIES.false c.if-s.false e p (lt-ltb _ _ c.if-s-sent.true), λ z. absurd (omega arith))
 
 pub returns : goal.returns
 returns c =
     let r : length c.args.s.kept ≡ 13 = search rules in
     let e = sym c.is_fit.ensures ∙ c.if-not-is_fit.false in
     let p = sym c.past_l.ensures ∙ c.if-not-past_l.false in
-    let code = code-early _ _ _ c.if-ids-ne-TABLE_ENTRIES.false c.if-lens-ne-TABLE_ENTRIES.false c.if-s.false e p (le-ltb _ _ c.if-s-sent.false) in
+    let code = code_early _ _ _ c.if-ids-ne-TABLE_ENTRIES.false c.if-lens-ne-TABLE_ENTRIES.false c.if-s.false e p (le-ltb _ _ c.if-s-sent.false) in
     (c.early.ensures.0 ∙ code, λ z. can_past _ _ _ c.if-ids-ne-TABLE_ENTRIES.false c.if-lens-ne-TABLE_ENTRIES.false e r c.if-s-sent.false (c.early.ensures.1 z))
