@@ -27,10 +27,10 @@ module _ (e : Event) (closing credit : ℕ) (s : Step) (full : Bool) (t : Tallie
   stopped_takes f = rw f
 
   module _ (f : full ≡ false) where
-    pub refused-field : s.code ≢ 0 → tallied false t ≡ field_in e closing credit s full t
+    pub refused_field : s.code ≢ 0 → tallied false t ≡ field_in e closing credit s full t
     unfolding field_in
-    refused-field z = rw (f, ne_eqb s.code 0 z)
+    refused_field z = rw (f, ne_eqb s.code 0 z)
 
-    pub done-field : s.code ≡ 0 → (v : Event) → e ≡ v → (x : Tallied) → x ≡ done_in v closing credit s t → x ≡ field_in e closing credit s full t
+    pub done_field : s.code ≡ 0 → (v : Event) → e ≡ v → (x : Tallied) → x ≡ done_in v closing credit s t → x ≡ field_in e closing credit s full t
     unfolding field_in
-    done-field z v e-is x x-is = rw (f, eq-eqb s.code 0 z, e-is) x-is
+    done_field z v e-is x x-is = rw (f, eq-eqb s.code 0 z, e-is) x-is

@@ -3,7 +3,7 @@
 use mathlib.Core.Path.{◌≡◌, sym, ◌∙◌}
 use native.Mathlib.Omega.{arith}
 use lib.ListN.{length}
-use Rattle.report_play.proofs.Playing.{played_first, played-late, goes-within, played-goes, played-keeps, played-stops, played_all}
+use Rattle.report_play.proofs.Playing.{played_first, played_late, goes_within, played_goes, played_keeps, played_stops, played_all}
 use Rattle.report_play.proofs.Playing.{played_ends}
 use borrow.Author.Rules.{rules}
 use Rattle.report_play.proofs.play_on.Goals.{Start}
@@ -34,7 +34,7 @@ shape_of-lens-in-Ends c =
 pub returns-in-Ends : goal.returns-in-Ends
 returns-in-Ends c =
     played_ends _ _ _ _ _ _ _ _ _
-    (played-stops _ _ _ _ _ _ _ _ _ _ c.loop-taken.invariant _ _ c.read_on-here.ensures _ c.in-Ends.is)
+    (played_stops _ _ _ _ _ _ _ _ _ _ c.loop-taken.invariant _ _ c.read_on-here.ensures _ c.in-Ends.is)
 
 pub overflow_sub-taken : goal.overflow_sub-taken
 overflow_sub-taken c =
@@ -43,7 +43,7 @@ overflow_sub-taken c =
 pub overflow_add-taken : goal.overflow_add-taken
 overflow_add-taken c =
     let k =
-    played-keeps _ _ _ _ _ _ _ _ _ _ c.loop-taken.invariant _ _
+    played_keeps _ _ _ _ _ _ _ _ _ _ c.loop-taken.invariant _ _
     c.read_on-here.ensures _ c.in-Unfinished.is in omega (arith, k.within)
 
 pub loop-taken-smaller-in-Unfinished : goal.loop-taken-smaller-in-Unfinished
@@ -52,7 +52,7 @@ loop-taken-smaller-in-Unfinished c =
 
 pub loop-taken-preserved-in-Unfinished : goal.loop-taken-preserved-in-Unfinished
 loop-taken-preserved-in-Unfinished c =
-    played-keeps _ _ _ _ _ _ _ _ _ _ c.loop-taken.invariant _ _ c.read_on-here.ensures _ c.in-Unfinished.is
+    played_keeps _ _ _ _ _ _ _ _ _ _ c.loop-taken.invariant _ _ c.read_on-here.ensures _ c.in-Unfinished.is
 
 pub overflow_sub-taken-in-GoesOn : goal.overflow_sub-taken-in-GoesOn
 overflow_sub-taken-in-GoesOn c =
@@ -61,7 +61,7 @@ overflow_sub-taken-in-GoesOn c =
 pub overflow_add-taken-in-GoesOn : goal.overflow_add-taken-in-GoesOn
 overflow_add-taken-in-GoesOn c =
     let l =
-    goes-within _ _ _ _ _ _ _ _ _ _ c.loop-taken.invariant _ _
+    goes_within _ _ _ _ _ _ _ _ _ _ c.loop-taken.invariant _ _
     c.read_on-here.ensures _ _ c.in-GoesOn.is in omega (arith, l)
 
 pub overflow_add-at : goal.overflow_add-at
@@ -70,7 +70,7 @@ overflow_add-at c =
 
 pub play_counted-moved-requires : goal.play_counted-moved-requires
 play_counted-moved-requires c =
-    (c.loop-taken.invariant.good, played-late _ _ _ _ _ _ _ _ _ _ c.loop-taken.invariant _ _ c.read_on-here.ensures _ _ c.in-GoesOn.is)
+    (c.loop-taken.invariant.good, played_late _ _ _ _ _ _ _ _ _ _ c.loop-taken.invariant _ _ c.read_on-here.ensures _ _ c.in-GoesOn.is)
 
 pub loop-taken-smaller : goal.loop-taken-smaller
 loop-taken-smaller c =
@@ -78,7 +78,7 @@ loop-taken-smaller c =
 
 pub loop-taken-preserved : goal.loop-taken-preserved
 loop-taken-preserved c =
-    played-goes _ _ _ _ _ _ _ _ _ _ c.loop-taken.invariant _ _ c.read_on-here.ensures _ _ c.in-GoesOn.is _
+    played_goes _ _ _ _ _ _ _ _ _ _ c.loop-taken.invariant _ _ c.read_on-here.ensures _ _ c.in-GoesOn.is _
     c.play_counted-moved.ensures _ c.stage_after-stage.ensures
 
 pub shape_of-ids : goal.shape_of-ids

@@ -4,7 +4,7 @@ use mathlib.Core.Path.{◌≡◌, sym, ◌∙◌}
 use mathlib.Core.Logic.{inl, inr, ⊎_elim}
 use native.Mathlib.Omega.{arith}
 use lib.ListN.{length}
-use Rattle.reporting.proofs.Closing.{close_none, close-alone, close-small, close-places, refused_close, done_close}
+use Rattle.reporting.proofs.Closing.{close_none, close_alone, close_small, close_places, refused_close, done_close}
 use borrow.Author.Rules.{rules}
 use Rattle.reporting.proofs.finish.Goals.{Start}
 use Rattle.reporting.proofs.finish.Goals as goal
@@ -28,14 +28,14 @@ returns-then-is_alone c =
     let can = c.unready-refusal.ensures.1 c.if-refusal-ne-DONE.false c.if-s.false in
     rw c.last_piece.ensures
     (done_close _ _ _ _ _ _ (sym c.unready-refusal.ensures.0 ∙ c.if-refusal-ne-DONE.false)
-    (close-alone _ _ _ _ can (sized (goal.at.returns-then-is_alone c).Start) _ c.end_in-end.ensures _ c.has_stopped-full.ensures
+    (close_alone _ _ _ _ can (sized (goal.at.returns-then-is_alone c).Start) _ c.end_in-end.ensures _ c.has_stopped-full.ensures
     (sym c.is_alone.ensures ∙ c.if-is_alone.true) _ _
     c.put_end.ensures.0 (omega (arith, c.put_end.ensures.1, c.if-out-lt-REPORT_ROOM.false))))
 
 pub show_places-requires : goal.show_places-requires
 show_places-requires c =
     let can = c.unready-refusal.ensures.1 c.if-refusal-ne-DONE.false c.if-s.false in (
-      close-small _ _ _ c.args.out.now can (sized (goal.at.show_places-requires c).Start) _ c.end_in-end.ensures _ c.has_stopped-full.ensures
+      close_small _ _ _ c.args.out.now can (sized (goal.at.show_places-requires c).Start) _ c.end_in-end.ensures _ c.has_stopped-full.ensures
           (sym c.is_alone.ensures ∙ c.if-is_alone.false),
       c.if-out-lt-REPORT_ROOM.false,
     )
@@ -44,5 +44,5 @@ pub returns : goal.returns
 returns c =
     let can = c.unready-refusal.ensures.1 c.if-refusal-ne-DONE.false c.if-s.false in
     done_close _ _ _ _ _ _ (sym c.unready-refusal.ensures.0 ∙ c.if-refusal-ne-DONE.false)
-    (close-places _ _ _ _ can (sized (goal.at.returns c).Start) _ c.end_in-end.ensures _ c.has_stopped-full.ensures
+    (close_places _ _ _ _ can (sized (goal.at.returns c).Start) _ c.end_in-end.ensures _ c.has_stopped-full.ensures
     (sym c.is_alone.ensures ∙ c.if-is_alone.false) _ _ c.show_places.ensures)

@@ -1,6 +1,6 @@
 -- `reporting::next_piece` meets its contract. All of the fragment is played, or the report is one line. Assumes nothing.
 use native.Mathlib.Omega.{arith}
-use Rattle.reporting.proofs.Feeding.{can_play, next-done, next_last}
+use Rattle.reporting.proofs.Feeding.{can_play, next_done, next_last}
 use borrow.Author.Rules.{rules}
 use Rattle.reporting.proofs.next_piece.Goals as goal
 
@@ -17,4 +17,4 @@ returns-then-played c =
 pub returns : goal.returns
 returns c =
     rw c.nothing.ensures
-    (next-done _ _ _ _ _ c.requires.0 c.requires.1.0 _ _ _ c.play_on-played.ensures c.if-played.false)
+    (next_done _ _ _ _ _ c.requires.0 c.requires.1.0 _ _ _ c.play_on-played.ensures c.if-played.false)

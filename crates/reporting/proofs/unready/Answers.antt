@@ -7,7 +7,7 @@ use Rattle.spoilt.proofs.Before.{sound_known}
 use Rattle.counting.specs.Counting.{TalliesSized, tallies_of}
 use Rattle.counting.proofs.Fitting.{hands_small, counts_fit_decides}
 use Rattle.reporting.specs.Feeding.{feed_code}
-use Rattle.reporting.proofs.Codes.{code_over, code-kept, code-before, code-early, code-counts, code-ready, can_before, can_past}
+use Rattle.reporting.proofs.Codes.{code_over, code_kept, code_before, code_early, code_counts, code_ready, can_before, can_past}
 use borrow.Author.Rules.{rules}
 use Rattle.reporting.proofs.unready.Goals.{Start}
 use Rattle.reporting.proofs.unready.Goals as goal
@@ -31,20 +31,20 @@ returns-then-s c =
 pub returns-then-not-is_fit : goal.returns-then-not-is_fit
 returns-then-not-is_fit c =
     let e = sym c.is_fit.ensures ∙ c.if-not-is_fit.true in
-    (code-kept _ _ _ c.if-ids-ne-TABLE_ENTRIES.false c.if-lens-ne-TABLE_ENTRIES.false c.if-s.false e, λ z. absurd (omega arith))
+    (code_kept _ _ _ c.if-ids-ne-TABLE_ENTRIES.false c.if-lens-ne-TABLE_ENTRIES.false c.if-s.false e, λ z. absurd (omega arith))
 
 pub returns-then-not-past_l : goal.returns-then-not-past_l
 returns-then-not-past_l c =
     let e = sym c.is_fit.ensures ∙ c.if-not-is_fit.false in
     let p = sym c.past_l.ensures ∙ c.if-not-past_l.true in
-    (code-before _ _ _ c.if-ids-ne-TABLE_ENTRIES.false c.if-lens-ne-TABLE_ENTRIES.false c.if-s.false e p, λ z. can_before _ _ _ c.if-ids-ne-TABLE_ENTRIES.false c.if-lens-ne-TABLE_ENTRIES.false e p)
+    (code_before _ _ _ c.if-ids-ne-TABLE_ENTRIES.false c.if-lens-ne-TABLE_ENTRIES.false c.if-s.false e p, λ z. can_before _ _ _ c.if-ids-ne-TABLE_ENTRIES.false c.if-lens-ne-TABLE_ENTRIES.false e p)
 
 pub returns-then-early-ne-DONE : goal.returns-then-early-ne-DONE
 returns-then-early-ne-DONE c =
     let e = sym c.is_fit.ensures ∙ c.if-not-is_fit.false in
     let p = sym c.past_l.ensures ∙ c.if-not-past_l.false in
     let is = c.early-early.ensures.0 in
-    (is ∙ code-early _ _ _ c.if-ids-ne-TABLE_ENTRIES.false c.if-lens-ne-TABLE_ENTRIES.false c.if-s.false e p (λ z. c.if-early-ne-DONE.true (is ∙ z)), λ z. absurd (c.if-early-ne-DONE.true z))
+    (is ∙ code_early _ _ _ c.if-ids-ne-TABLE_ENTRIES.false c.if-lens-ne-TABLE_ENTRIES.false c.if-s.false e p (λ z. c.if-early-ne-DONE.true (is ∙ z)), λ z. absurd (c.if-early-ne-DONE.true z))
 
 pub counts_fit-requires : goal.counts_fit-requires
 counts_fit-requires c =
@@ -56,7 +56,7 @@ returns-then-not-counts_fit c =
     let p = sym c.past_l.ensures ∙ c.if-not-past_l.false in
     let known = c.early-early.ensures.1 c.if-early-ne-DONE.false in
     let no = sym c.counts_fit.ensures ∙ c.if-not-counts_fit.true in
-    (code-counts _ _ _ c.if-ids-ne-TABLE_ENTRIES.false c.if-lens-ne-TABLE_ENTRIES.false c.if-s.false e p (sound_known _ _ _ known) no, λ z. absurd (omega arith))
+    (code_counts _ _ _ c.if-ids-ne-TABLE_ENTRIES.false c.if-lens-ne-TABLE_ENTRIES.false c.if-s.false e p (sound_known _ _ _ known) no, λ z. absurd (omega arith))
 
 pub returns : goal.returns
 returns c =
@@ -65,7 +65,7 @@ returns c =
     let known = c.early-early.ensures.1 c.if-early-ne-DONE.false in
     let fit = sym c.counts_fit.ensures ∙ c.if-not-counts_fit.false in
     let lengths = sized (goal.at.returns c).Start in (
-      code-ready _ _ _ c.if-ids-ne-TABLE_ENTRIES.false c.if-lens-ne-TABLE_ENTRIES.false c.if-s.false e p (sound_known _ _ _ known) fit,
+      code_ready _ _ _ c.if-ids-ne-TABLE_ENTRIES.false c.if-lens-ne-TABLE_ENTRIES.false c.if-s.false e p (sound_known _ _ _ known) fit,
       λ z. can_past _ _ _ c.if-ids-ne-TABLE_ENTRIES.false c.if-lens-ne-TABLE_ENTRIES.false e
           (record { good = known; fits = (counts_fit_decides _ _ _ _ known lengths).yes fit; sized = lengths }),
     )
