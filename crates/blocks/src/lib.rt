@@ -1,6 +1,7 @@
 // Blocks: a board made with both tables cleared, and a block that is renamed, opened or closed. Arrays are lent one by
 // one, so that no board is copied.
 #![tactic(auto)]
+
 ghost use Rattle.std.specs.Prelude.{◌≡◌, ℕ, ◌+◌, ◌-◌, ◌<◌, ◌≤◌, List, get_or};
 ghost use Rattle.board.specs.Memory.{blocks_now};
 ghost use Rattle.board.specs.Leaving.{returned};

@@ -98,6 +98,8 @@ module _ (b : struct.Board) (ids lens : List ℕ) (known : Known b ids lens) whe
       go : (o : Out) → (serve m).out ≡ o → ByAnswer m ids lens o (serve m).next
           → Known (good_serve b ids lens).board ids lens × (view (good_serve b ids lens).board ids lens ≡ (serve m).next)
       go (refused code) e w = rw e (known, sym w.stays)
+      go done e w = elim w [ ]
+      go (taken _) e w = elim w [ ]
       go (sent s) e w = rw e (known_next b ids lens known w.holds, view_encode (serve m).next ids lens (fit_serve m (fit b ids lens known)) w.holds)
 
 -- ---- A burst under way: count records are sent, and total bytes; the rest is a burst of the rules
@@ -245,6 +247,8 @@ burst_kept (suc room) bytes m ids lens f h =
     go : (o : Out) → ByAnswer m ids lens o (serve m).next → (Holds (serve m).next ids lens → Fit rest.next × Holds rest.next ids lens)
         → Fit (with_room m bytes o rest).next × Holds (with_room m bytes o rest).next ids lens
     go (refused code) w k = (f, h)
+    go done w k = elim w [ ]
+    go (taken _) w k = elim w [ ]
     go (sent s) w k = either (ltb bytes (bytes_charged s.front)) s.front (k w.holds)
 
 -- AFTER A BURST the board is not spoilt, and reads as the rules' next board

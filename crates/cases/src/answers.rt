@@ -5,65 +5,74 @@ use crate::{input, output, show};
 use board::Board;
 use case_steps::answers::{Answer, NUMBERS};
 use case_steps::{answers, steps, tables};
+use std::io;
+use std::io::{Read, Write};
 
-fn numbers(count: usize, told: &[u64; NUMBERS]) {
+fn numbers<W: Write>(lines: &mut W, count: usize, told: &[u64; NUMBERS]) {
     let mut i: usize = 0;
     while i < NUMBERS {
         if i < count {
-            output::number(told[i]);
+            output::number(lines, told[i]);
         }
         i += 1;
     }
 }
 
 // The rest of the line, behind its word; the board goes on.
-fn answered(a: Answer) -> Board {
-    numbers(a.count, &a.numbers);
-    output::text(b" #");
-    output::decimal(a.digest);
-    output::text(b"\n");
+fn answered<W: Write>(lines: &mut W, a: Answer) -> Board {
+    numbers(lines, a.count, &a.numbers);
+    output::text(lines, b" #");
+    output::decimal(lines, a.digest);
+    output::text(lines, b"\n");
     a.board
 }
 
-fn word(step: u8) {
+fn word<W: Write>(lines: &mut W, step: u8) {
     match step {
-        steps::MAKE => output::text(b"make"),
-        steps::OPEN => output::text(b"open"),
-        steps::RENAME => output::text(b"rename"),
-        steps::CLOSE => output::text(b"close"),
-        _ => output::text(b"record"),
+        steps::MAKE => output::text(lines, b"make"),
+        steps::OPEN => output::text(lines, b"open"),
+        steps::RENAME => output::text(lines, b"rename"),
+        steps::CLOSE => output::text(lines, b"close"),
+        _ => output::text(lines, b"record"),
     }
 }
 
-fn second_word(step: u8, whole: &mut bool) -> u32 {
+fn second_word<R: Read>(case: &mut R, step: u8) -> io::Result<u32> {
     if step == steps::MAKE || step == steps::CLOSE {
-        return 0;
+        return Ok(0);
     }
-    input::word(whole)
+    input::word(case)
 }
 
-fn third_short(step: u8, whole: &mut bool) -> u16 {
+fn third_short<R: Read>(case: &mut R, step: u8) -> io::Result<u16> {
     if step == steps::RECORD {
-        return input::short(whole);
+        return input::short(case);
     }
-    0
+    Ok(0)
 }
 
 // The calls that answer with a code alone.
-pub fn coded(step: u8, ids: &mut [u32], lens: &mut [u16], whole: &mut bool, b: Board) -> Board {
-    let first = input::word(&mut *whole);
-    let second = second_word(step, &mut *whole);
-    let third = third_short(step, &mut *whole);
-    if !*whole {
-        return b;
-    }
-    word(step);
-    answered(answers::coded(step, ids, lens, first, second, third, b))
+pub fn coded<R: Read, W: Write>(
+    case: &mut R,
+    lines: &mut W,
+    step: u8,
+    ids: &mut [u32],
+    lens: &mut [u16],
+    b: Board,
+) -> io::Result<Board> {
+    let first = input::word(case)?;
+    let second = second_word(case, step)?;
+    let third = third_short(case, step)?;
+    word(lines, step);
+    Ok(answered(
+        lines,
+        answers::coded(step, ids, lens, first, second, third, b),
+    ))
 }
 
-pub fn serve(ids: &[u32], lens: &[u16], b: Board) -> Board {
-    output::text(b"serve");
-    answered(answers::serve(ids, lens, b))
+pub fn serve<W: Write>(lines: &mut W, ids: &[u32], lens: &[u16], b: Board) -> Board {
+    output::text(lines, b"serve");
+    answered(lines, answers::serve(ids, lens, b))
 }
 
 // The list of a burst before the call.
@@ -73,24 +82,30 @@ fn unwritten() -> [u32; tables::MOST]
     [4294967295; tables::MOST]
 }
 
-pub fn burst(ids: &[u32], lens: &[u16], whole: &mut bool, b: Board) -> Board {
-    let bytes = input::number(u64::MAX, &mut *whole);
-    let room = input::index(tables::MOST, &mut *whole);
-    if !*whole {
-        return b;
-    }
+pub fn burst<R: Read, W: Write>(
+    case: &mut R,
+    lines: &mut W,
+    ids: &[u32],
+    lens: &[u16],
+    b: Board,
+) -> io::Result<Board> {
+    let bytes = input::number(case, u64::MAX)?;
+    let room = input::index(case, tables::MOST)?;
     let mut list = unwritten();
-    output::text(b"burst");
-    answered(answers::burst(ids, lens, bytes, &mut list[..room], b))
+    output::text(lines, b"burst");
+    Ok(answered(
+        lines,
+        answers::burst(ids, lens, bytes, &mut list[..room], b),
+    ))
 }
 
-pub fn spoilt(ids: &[u32], lens: &[u16], b: Board) -> Board {
-    output::text(b"spoilt");
-    answered(answers::spoilt(ids, lens, b))
+pub fn spoilt<W: Write>(lines: &mut W, ids: &[u32], lens: &[u16], b: Board) -> Board {
+    output::text(lines, b"spoilt");
+    answered(lines, answers::spoilt(ids, lens, b))
 }
 
-pub fn show(ids: &[u32], lens: &[u16], b: Board) -> Board {
-    show::all(ids, lens, b);
-    output::text(b"show");
-    answered(answers::show(ids, lens, b))
+pub fn show<W: Write>(lines: &mut W, ids: &[u32], lens: &[u16], b: Board) -> Board {
+    show::all(lines, ids, lens, b);
+    output::text(lines, b"show");
+    answered(lines, answers::show(ids, lens, b))
 }

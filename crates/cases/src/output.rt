@@ -1,16 +1,16 @@
 // The pieces of an answer line. A write that fails is not tried again: whoever reads the answers finds them short.
-use libc::STDOUT_FILENO;
+use std::io::Write;
 
-pub fn text(t: &[u8]) {
-    io::write_all(STDOUT_FILENO, t);
+pub fn text<W: Write>(lines: &mut W, t: &[u8]) {
+    let _ = lines.write_all(t);
 }
 
-pub fn decimal(n: u64) {
-    io::print_decimal(STDOUT_FILENO, n);
+pub fn decimal<W: Write>(lines: &mut W, n: u64) {
+    let _ = write!(lines, "{n}");
 }
 
 // A number with the space before it.
-pub fn number(n: u64) {
-    text(b" ");
-    decimal(n);
+pub fn number<W: Write>(lines: &mut W, n: u64) {
+    text(lines, b" ");
+    decimal(lines, n);
 }

@@ -2,30 +2,32 @@
 use crate::input;
 use board::Board;
 use case_steps::{fields, tables};
+use std::io;
+use std::io::Read;
 
 // Which place or class; a field that stands once has no operand for it.
-fn which(count: usize, whole: &mut bool) -> usize {
+fn which<R: Read>(case: &mut R, count: usize) -> io::Result<usize> {
     if count <= 1 {
-        return 0;
+        return Ok(0);
     }
-    input::index(count - 1, whole)
+    input::index(case, count - 1)
 }
 
 // A byte that names no field names no step here.
-pub fn field(step: u8, whole: &mut bool, b: Board) -> Board {
+pub fn field<R: Read>(case: &mut R, step: u8, b: Board) -> io::Result<Board> {
     let count = fields::entries(step);
     if count == 0 {
-        *whole = false;
-        return b;
+        return Err(input::not_whole());
     }
-    let i = which(count, &mut *whole);
-    let v = input::number(fields::most(step), whole);
-    fields::with(step, i, v, b)
+    let i = which(case, count)?;
+    let v = input::number(case, fields::most(step))?;
+    Ok(fields::with(step, i, v, b))
 }
 
-pub fn entry(ids: &mut [u32], lens: &mut [u16], whole: &mut bool) {
-    let i = input::index(tables::MOST - 1, &mut *whole);
-    let number = input::word(&mut *whole);
-    let length = input::short(whole);
+pub fn entry<R: Read>(case: &mut R, ids: &mut [u32], lens: &mut [u16]) -> io::Result<()> {
+    let i = input::index(case, tables::MOST - 1)?;
+    let number = input::word(case)?;
+    let length = input::short(case)?;
     tables::set_entry(ids, lens, i, number, length);
+    Ok(())
 }

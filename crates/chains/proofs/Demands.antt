@@ -471,7 +471,7 @@ life_last L given st last e l =
     before : LastSend l.first (reads w.before)
     before =
         last_same (ap (last_slot none) (sym a.answers) ∙ w.latest) (sym a.board)
-        (last_play none (reads w.start) w.xs (at_tidy L w.start m) (last_same refl (sym (made_fresh L w.start w.made)) (last_fresh L)))
+        (last_play none (reads w.start) w.xs (at_tidy L w.start m) (last_same {u = none} refl (sym (made_fresh L w.start w.made)) (last_fresh L)))
 
     opening : LastSend l.first (reads l.opening)
     opening =

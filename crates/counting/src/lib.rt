@@ -1,6 +1,7 @@
 // The counts of document 02, Item 1, in memory: what a send adds to them, that they vanish at a close, and whether
 // counts that were handed in can be those of a run. Arrays are lent one by one, so that no counts are copied.
 #![tactic(auto)]
+
 ghost use Rattle.std.specs.Prelude.{◌≡◌, ◌^◌, ◌<◌, ltb, false, cond};
 ghost use Rattle.accounts.specs.Accounts.{no_counts, fits_with};
 ghost use Rattle.counting.specs.Counting.{tallies_now, account_with, read_counts, zero_counts, hand_now, counts_fit_now};

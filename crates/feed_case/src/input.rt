@@ -1,7 +1,9 @@
-// The numbers and fragments of a feed case, from standard input.
+// The numbers and fragments of a feed case. Where the input ends in one, the case is not whole, and the error says so.
+ghost use Rattle.std.specs.Prelude.{IfOk, IfSome};
 ghost use Rattle.io.specs.Counts.{IsPrefixLen};
 
-use libc::STDIN_FILENO;
+use std::io;
+use std::io::{ErrorKind, Read};
 
 // The most bytes of a fragment, and of the buffer that is lent to each call.
 pub const MOST: usize = 4096;
@@ -9,14 +11,23 @@ pub const MOST: usize = 4096;
 // The length that says that the log has ended.
 const END: usize = 65535;
 
-// The next number of eight bytes. Where the input ends in it the case is not whole.
-pub fn number(whole: &mut bool) -> u64 {
+// The error of a case whose bytes are there, but have other values than docs/CASES.md says.
+pub fn not_whole() -> io::Error {
+    io::Error::from(ErrorKind::InvalidData)
+}
+
+// The kind of the next case; there is none where the input ends, or cannot be read.
+pub fn kind<R: Read>(cases: &mut R) -> Option<u8> {
+    let mut byte = [0u8; 1];
+    cases.read_exact(&mut byte).ok()?;
+    Some(byte[0])
+}
+
+// The next number of eight bytes.
+pub fn number<R: Read>(cases: &mut R) -> io::Result<u64> {
     let mut bytes = [0u8; 8];
-    let n = io::read_full(STDIN_FILENO, &mut bytes);
-    if n < 8 {
-        *whole = false;
-    }
-    case_steps::spelling::number(&bytes)
+    cases.read_exact(&mut bytes)?;
+    Ok(case_steps::spelling::number(&bytes))
 }
 
 // High byte first.
@@ -25,31 +36,23 @@ fn pair(high: u8, low: u8) -> usize {
 }
 
 // The next number of two bytes.
-pub fn short(whole: &mut bool) -> usize {
+pub fn short<R: Read>(cases: &mut R) -> io::Result<usize> {
     let mut bytes = [0u8; 2];
-    let n = io::read_full(STDIN_FILENO, &mut bytes);
-    if n < 2 {
-        *whole = false;
-    }
-    pair(bytes[0], bytes[1])
+    cases.read_exact(&mut bytes)?;
+    Ok(pair(bytes[0], bytes[1]))
 }
 
 // The next fragment, and how many bytes it has. Where the log has ended there is none.
-pub fn fragment(bytes: &mut [u8], whole: &mut bool, more: &mut bool) -> usize
-    ensures { IsPrefixLen result bytes.new }
+pub fn fragment<R: Read>(cases: &mut R, bytes: &mut [u8]) -> io::Result<Option<usize>>
+    ensures { IfOk result (λ next. IfSome next (λ n. IsPrefixLen n bytes.new)) }
 {
-    let n = short(&mut *whole);
+    let n = short(cases)?;
     if n == END {
-        *more = false;
-        return 0;
+        return Ok(None);
     }
     if bytes.len() < n {
-        *whole = false;
-        return 0;
+        return Err(not_whole());
     }
-    let came = io::read_full(STDIN_FILENO, &mut bytes[..n]);
-    if came < n {
-        *whole = false;
-    }
-    n
+    cases.read_exact(&mut bytes[..n])?;
+    Ok(Some(n))
 }

@@ -2,10 +2,12 @@
 // given: the bytes of a feed case file (docs/CASES.md) on standard input, what the box says of each log on standard
 // output. What fails is said on standard error.
 #![tactic(auto)]
-use libc::{STDERR_FILENO, STDOUT_FILENO};
+
 use lines::LINE_ROOM;
 use numbers::LOG_END;
 use report_lines::REPORT_ROOM;
+use std::io;
+use std::io::{Read, Write};
 
 mod input;
 mod listing;
@@ -24,48 +26,40 @@ fn least_room(kind: u8) -> usize {
     LINE_ROOM
 }
 
-// Plays the next case, and answers whether there was one and it was whole.
-fn next_case(whole: &mut bool) -> bool {
-    let mut kind = [0u8; 1];
-    let n = io::read_full(libc::STDIN_FILENO, &mut kind);
-    if n == 0 {
-        return false;
-    }
-    let first = input::number(&mut *whole);
-    let room = input::short(&mut *whole);
-    if LOG_END < first || room < least_room(kind[0]) {
-        *whole = false;
-    }
-    if !*whole {
-        return false;
+// Plays the next case, and answers whether there was one. One that is not whole is an error.
+fn next_case<R: Read, W: Write>(cases: &mut R, answers: &mut W) -> io::Result<bool> {
+    let Some(kind) = input::kind(cases) else {
+        return Ok(false);
+    };
+    let first = input::number(cases)?;
+    let room = input::short(cases)?;
+    if LOG_END < first || room < least_room(kind) {
+        return Err(input::not_whole());
     }
     if input::MOST < room {
-        *whole = false;
-        return false;
+        return Err(input::not_whole());
     }
     let mut out = [0u8; input::MOST];
-    match kind[0] {
-        LISTING => listing::play(&mut out[..room], first, &mut *whole),
-        REPORT => report::play(&mut out[..room], first, &mut *whole),
-        _ => *whole = false,
+    match kind {
+        LISTING => listing::play(cases, answers, &mut out[..room], first)?,
+        REPORT => report::play(cases, answers, &mut out[..room], first)?,
+        _ => return Err(input::not_whole()),
     }
-    if *whole {
-        io::write_all(STDOUT_FILENO, b"--\n");
-    }
-    *whole
+    let _ = answers.write_all(b"--\n");
+    Ok(true)
 }
 
-// A proved loop has to end, and nothing says that the input does: the turns are counted down from a number that no run
-// uses up.
-fn main() {
-    let mut whole = true;
-    let mut more = true;
-    let mut turns = u64::MAX;
-    while turns > 0 && more {
-        more = next_case(&mut whole);
-        turns -= 1;
-    }
-    if !whole {
-        io::write_all(STDERR_FILENO, b"feed_case: a case is not whole\n");
+// A proved loop has to end, and nothing says that the input does: it has more turns than any run uses up.
+fn main(rt: HostRuntime) {
+    let (mut cases, mut answers) = (rt.stdin(), rt.stdout());
+    for _ in 0..u64::MAX {
+        match next_case(&mut cases, &mut answers) {
+            Ok(true) => {}
+            Ok(false) => return,
+            Err(_) => {
+                let _ = rt.eprintln("feed_case: a case is not whole");
+                return;
+            }
+        }
     }
 }

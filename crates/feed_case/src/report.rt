@@ -1,8 +1,9 @@
 // The report of a log that comes in fragments.
 use crate::input;
-use libc::STDOUT_FILENO;
 use numbers::TABLE_ENTRIES;
 use report_play::State;
+use std::io;
+use std::io::{Read, Write};
 
 // Where a report begins whose log's first byte has an offset of its own.
 fn begin_at(first: u64) -> State {
@@ -23,14 +24,22 @@ fn begin_at(first: u64) -> State {
     }
 }
 
-// Feeds a fragment, an empty one too, until it is taken. A call that takes nothing ends it.
-fn feed_all(fragment: &[u8], ids: &mut [u32], lens: &mut [u16], out: &mut [u8], s: State) -> State {
+// Feeds a fragment, an empty one too, until it is taken. A call that takes nothing ends it. A write that fails is not
+// tried again: whoever reads the answers finds them short.
+fn feed_all<W: Write>(
+    answers: &mut W,
+    fragment: &[u8],
+    ids: &mut [u32],
+    lens: &mut [u16],
+    out: &mut [u8],
+    s: State,
+) -> State {
     let mut state = s;
     let mut taken: usize = 0;
     loop {
         let piece = reporting::feed(&fragment[taken..], &mut *ids, &mut *lens, &mut *out, state);
         let used = piece.used;
-        io::write_all(STDOUT_FILENO, &out[..used]);
+        let _ = answers.write_all(&out[..used]);
         let next = piece.state;
         if piece.taken == 0 {
             return next;
@@ -44,40 +53,44 @@ fn feed_all(fragment: &[u8], ids: &mut [u32], lens: &mut [u16], out: &mut [u8], 
 }
 
 // Writes what is left at the log's end, until the report is over. A call that is refused ends it.
-fn finish_all(ids: &[u32], lens: &[u16], out: &mut [u8], s: State) {
+fn finish_all<W: Write>(answers: &mut W, ids: &[u32], lens: &[u16], out: &mut [u8], s: State) {
     let mut state = s;
-    let mut turns = u64::MAX;
-    while turns > 0 && !state.over {
+    for _ in 0..u64::MAX {
+        if state.over {
+            return;
+        }
         let piece = reporting::finish(ids, lens, &mut *out, state);
         let used = piece.used;
-        io::write_all(STDOUT_FILENO, &out[..used]);
+        let _ = answers.write_all(&out[..used]);
         if piece.code != 0 {
             return;
         }
         let next = piece.state;
         state = next;
-        turns -= 1;
     }
 }
 
 // Plays a case, up to the end of its log, through a lent buffer. Of a case that is not whole nothing more is written.
-pub fn play(out: &mut [u8], first: u64, whole: &mut bool) {
+pub fn play<R: Read, W: Write>(
+    cases: &mut R,
+    answers: &mut W,
+    out: &mut [u8],
+    first: u64,
+) -> io::Result<()> {
     let mut ids = [0u32; TABLE_ENTRIES];
     let mut lens = [0u16; TABLE_ENTRIES];
     let mut bytes = [0u8; input::MOST];
-    let mut more = true;
     let mut state = begin_at(first);
-    let mut turns = u64::MAX;
-    while turns > 0 {
-        let n = input::fragment(&mut bytes, &mut *whole, &mut more);
-        if !*whole {
-            return;
+    for _ in 0..u64::MAX {
+        match input::fragment(cases, &mut bytes)? {
+            Some(n) => {
+                state = feed_all(answers, &bytes[..n], &mut ids, &mut lens, &mut *out, state);
+            }
+            None => {
+                finish_all(answers, &ids, &lens, out, state);
+                return Ok(());
+            }
         }
-        if !more {
-            finish_all(&ids, &lens, out, state);
-            return;
-        }
-        state = feed_all(&bytes[..n], &mut ids, &mut lens, &mut *out, state);
-        turns -= 1;
     }
+    Ok(())
 }

@@ -1,6 +1,7 @@
 // Finding: what is known of a number, the lowest free place, and the range of a number with an amount. What is done
 // with a block begins here.
 #![tactic(auto)]
+
 ghost use Rattle.std.specs.Prelude.{◌≡◌, ◌||◌, ◌+◌, ◌-◌, ◌<◌, eqb, ltb};
 ghost use Rattle.finding.specs.Finding.{place_with, found_in, lowest_free};
 

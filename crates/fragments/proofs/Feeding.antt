@@ -1,11 +1,10 @@
 -- What is written from fragment to fragment, joined, is what there is to tell of the joined log. Assumes nothing.
-use mathlib.Core.Path.{◌≡◌, refl, sym, ap, ◌∙◌}
-use mathlib.Core.Bool.{Bool, true}
+use mathlib.Core.Path.{refl, sym, ap, ◌∙◌}
 use mathlib.Core.List.{List, [], ◌++◌}
 use Prim.Native.Nat.{ℕ}
 use native.Mathlib.Omega.{arith}
 use lib.ListN.{take}
-use Rattle.fragments.specs.Feeding.{Told, Telling, fed, closed, ended, TellsAll}
+use Rattle.fragments.specs.Feeding.{Told, fed, closed, ended, TellsAll}
 
 pub tells_all : TellsAll
 tells_all S rest is_over none s log written (fed fragment later out taken used after out' t more) =

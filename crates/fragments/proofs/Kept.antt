@@ -1,23 +1,23 @@
 -- Laws of what is kept of a field: its bytes one by one, and how many they are. Assumes nothing.
 use mathlib.Core.Path.{◌≡◌, refl, sym, ap, ◌∙◌}
-use mathlib.Core.Bool.{Bool, true, false, cond, ◌&&◌}
+use mathlib.Core.Bool.{true, cond}
 use mathlib.Core.Logic.{◌⊎◌, inl, inr}
 use mathlib.Core.List.{List, ◌++◌}
 use Prim.Native.Nat.{ℕ, ◌+◌, ◌-◌, ◌^◌, ◌≤◌, ◌<◌}
 use native.Mathlib.Omega.{arith}
 use borrow.Author.Tests.{lt-ltb, le-ltb, le-leb, leb-true}
 use lib.Dec.{ltb, leb}
-use lib.ListN.{length, take, drop, get_or, set, replicate, length-append, length-replicate, length-set}
+use lib.ListN.{length, drop, get_or, set, replicate, length-append, length-replicate, length-set}
 use lib.Seq.{length-take-le, get_or-take, take-append_seam, drop-append_seam, drop-append-le, drop-append-add, get_or-append-add, get_or-set_same, get_or-set_other}
 use Rattle.base.proofs.Numbers.{split}
 use Rattle.base.proofs.Tests.{and_left, and_right, and_both}
 use Rattle.log_bytes.specs.declared.Stage.{Stage}
 use Rattle.log_bytes.specs.declared.Next.{Next}
 use Rattle.log_bytes.specs.declared.Next.TheVariants.{GoesOn, Ends, Unfinished}
-use Rattle.log_bytes.specs.Format.{tag_in, length_in, length_of, right_length, next_in}
+use Rattle.log_bytes.specs.Format.{tag_in, length_in, length_of, next_in}
 use Rattle.log_bytes.specs.Laws.{LooksAt}
 use Rattle.log_bytes.proofs.Fields.{differ, read_is, length_most, right_room}
-use Rattle.log_bytes.proofs.Wholes.{PartIs, part_is, sound}
+use Rattle.log_bytes.proofs.Wholes.{part_is, sound}
 use Rattle.fragments.specs.Kept.{kept_bytes, kept_of, wanted_of, not_finished, is_fit, Behind}
 use Rattle.fragments.specs.Reading.{joined}
 

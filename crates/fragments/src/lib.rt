@@ -1,6 +1,7 @@
 // The reader of a log that comes in fragments: it keeps at most one unfinished field, and of a value that is passed
 // over nothing.
 #![tactic(auto)]
+
 ghost use Rattle.std.specs.Prelude.{◌≡◌, ◌⊎◌, ◌+◌, ◌≤◌, ◌<◌, length, drop};
 ghost use Rattle.log_bytes.specs.declared.Next.TheVariants.{Unfinished as unfinished};
 ghost use Rattle.log_bytes.specs.Format.{length_in, next_in};

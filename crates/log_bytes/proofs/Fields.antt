@@ -2,7 +2,7 @@
 -- Assumes nothing.
 use mathlib.Core.Path.{◌≡◌, refl, sym, ap, ap₂, ◌∙◌}
 use mathlib.Core.Bool.{Bool, true, false, cond, not, ◌&&◌, ◌||◌}
-use mathlib.Core.Logic.{◌⊎◌, inl, inr, ⊎_elim}
+use mathlib.Core.Logic.{◌⊎◌, inl, inr}
 use mathlib.Core.List.{List}
 use Prim.Native.Nat.{ℕ, zero, suc, ◌+◌, ◌-◌, ◌*◌, ◌^◌, ◌≤◌, ◌<◌}
 use native.Mathlib.Omega.{arith}
@@ -15,12 +15,12 @@ use Rattle.base.proofs.Tests.{and_left, and_right, and_both}
 use Rattle.log_bytes.specs.declared.Stage.{Stage}
 use Rattle.log_bytes.specs.declared.Event.{Event}
 use Rattle.log_bytes.specs.declared.Event.TheVariants.{Largest, Open, Close, Rename, Arrive, Serve, Passed}
-use Rattle.log_bytes.specs.declared.End.TheVariants.{Whole as whole, Broken as broken, Long as long}
+use Rattle.log_bytes.specs.declared.End.TheVariants.{Broken as broken, Long as long}
 use Rattle.log_bytes.specs.declared.Next.{Next}
 use Rattle.log_bytes.specs.declared.Next.TheVariants.{GoesOn, Ends, Unfinished}
 use Rattle.log_bytes.specs.Format.{number_at, tag_in, length_in, length_of, last_tag, right_length, event_of, event_in, past_l, right_tag, in_turn}
 use Rattle.log_bytes.specs.Format.{is_read, is_broken, is_whole, is_past, next_in}
-use Rattle.log_bytes.specs.Laws.{TagSeen, LengthSeen, CutUnknown, StaysKnown, LooksAt, KnownByLooks, BrokenAt, LongOnly}
+use Rattle.log_bytes.specs.Laws.{TagSeen, LengthSeen, CutUnknown, StaysKnown, KnownByLooks}
 
 pub differ : {A : Type 0} → true ≡ false → A
 differ e = absurd (let z : ◌≡◌ {A = ℕ} 0 1 = cc in omega arith)

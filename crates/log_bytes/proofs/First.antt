@@ -2,8 +2,6 @@
 use mathlib.Core.Path.{◌≡◌, sym, ap, ◌∙◌}
 use mathlib.Core.Bool.{true, ◌&&◌, true≢false}
 use Prim.Native.Nat.{ℕ}
-use types.Run.{OneOf}
-use denote.Enum.Declared.{tag_of}
 use lib.Dec.{leb}
 use Rattle.log_bytes.specs.declared.Stage.TheVariants.{BeforeL}
 use Rattle.log_bytes.specs.declared.Event.{Event}
@@ -11,8 +9,7 @@ use Rattle.log_bytes.specs.declared.Event.TheVariants.{Largest}
 use Rattle.log_bytes.specs.declared.Next.{Next}
 use Rattle.log_bytes.specs.declared.Next.TheVariants.{GoesOn}
 use Rattle.log_bytes.specs.Format.{is_l, in_turn}
-use Rattle.log_bytes.specs.contracts.Event.{the_type}
-use Rattle.log_bytes.proofs.Stages.{later, no_l_by_place, turn_first}
+use Rattle.log_bytes.proofs.Stages.{no_l, turn_first}
 
 -- L is in its range
 pub largest_range : (l : ℕ) → in_turn (Largest l) BeforeL ≡ true → (leb 64 l && leb l 2048) ≡ true
@@ -24,5 +21,5 @@ pub is_largest : (x : Next) (e : Event) (size l : ℕ) → x ≡ GoesOn e size �
 is_largest x e size l f q = f ∙ ap (λ (y : Event). GoesOn y size) q
 
 -- nothing but L is in turn before L
-pub not_largest : (e : Event) → in_turn e BeforeL ≡ true → OneOf later (tag_of the_type e) → ⊥
-not_largest e h k = true≢false (sym (ap is_l (turn_first e h).1.0) ∙ no_l_by_place e k)
+pub not_largest : (e : Event) → in_turn e BeforeL ≡ true → ((l : ℕ) → e ≡ Largest l → ⊥) → ⊥
+not_largest e h k = true≢false (sym (ap is_l (turn_first e h).1.0) ∙ no_l e k)

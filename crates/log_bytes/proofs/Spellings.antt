@@ -47,7 +47,7 @@ number_back (suc w) x pre rest h =
     rw (← append_assoc) (get_or_at (pre ++ bytes_of w (x / 256)) (x % 256) rest 0 (length pre + w) long) in
     let all : (bytes_of w (x / 256) ++ (x % 256 ∷ [])) ++ rest ≡ bytes_of w (x / 256) ++ (x % 256 ∷ rest) =
     append_assoc (bytes_of w (x / 256)) (x % 256 ∷ []) rest in
-    rw (all, again, last) (omega arith)
+    ap (λ (d : List ℕ). number_at (pre ++ d) (length pre) (suc w)) all ∙ (ap₂ (λ (a b : ℕ). a * 256 + b) again last ∙ omega arith)
 
 -- ---- the numbers of a value
 
@@ -66,7 +66,8 @@ value_back (o ∷ os) pre rest f =
     let all : (bytes_of w x ++ value_of os) ++ rest ≡ bytes_of w x ++ (value_of os ++ rest) = append_assoc (bytes_of w x) (value_of os) rest in
     let split : pre ++ (bytes_of w x ++ (value_of os ++ rest)) ≡ (pre ++ bytes_of w x) ++ (value_of os ++ rest) =
     sym (append_assoc pre (bytes_of w x) (value_of os ++ rest)) in
-    rw all (number_back w x pre (value_of os ++ rest) f.0, rw (split, ← on) later)
+    subst (λ (d : List ℕ). (number_at d (length pre) w ≡ x) × StandsAt d (length pre + w) os) (ap (λ (d : List ℕ). pre ++ d) (sym all))
+    (number_back w x pre (value_of os ++ rest) f.0, rw (split, ← on) later)
 
 value_held : (value pre rest : List ℕ) (os : List Operand) → value ≡ value_of os → InWidth os → StandsAt (pre ++ (value ++ rest)) (length pre) os
 value_held value pre rest os e f = rw e (value_back os pre rest f)

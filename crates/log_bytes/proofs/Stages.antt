@@ -3,12 +3,10 @@
 use mathlib.Core.Path.{◌≡◌, refl, sym, ap, subst, ◌∙◌}
 use mathlib.Core.Bool.{true, false, not, ◌&&◌, ◌||◌}
 use mathlib.Core.Logic.{◌⊎◌, inl, inr, ⊎_elim}
-use mathlib.Core.List.{List, [], ◌∷◌}
+use mathlib.Core.List.{List}
 use Prim.Native.Nat.{ℕ, ◌≤◌}
 use native.Mathlib.Omega.{arith}
 use borrow.Author.Tests.{leb-true, le-leb, ne_eqb}
-use types.Run.{OneOf, miss}
-use denote.Enum.Declared.{tag_of}
 use lib.Dec.{leb, eqb}
 use Rattle.base.proofs.Tests.{and_left, and_right}
 use Rattle.log_bytes.specs.declared.Stage.{Stage}
@@ -18,7 +16,6 @@ use Rattle.log_bytes.specs.declared.Event.TheVariants.{Largest, Open, Close, Ren
 use Rattle.log_bytes.specs.Format.{last_tag, is_l, past_l, stage_after, right_tag, in_turn}
 use Rattle.log_bytes.specs.Spelling.{Says}
 use Rattle.log_bytes.specs.Laws.{PastAfter}
-use Rattle.log_bytes.specs.contracts.Event.{the_type}
 use Rattle.log_bytes.proofs.Fields.{differ}
 
 -- An event is L, or it is in turn once L has been read. The laws here go by this, so that an event more is one line.
@@ -35,14 +32,8 @@ l_or_later (Arrive a b n) = inr (refl, λ stage. refl)
 l_or_later Serve = inr (refl, λ stage. refl)
 l_or_later Passed = inr (refl, λ stage. refl)
 
--- the positions of the variants that are not L
-abbrev pub later : List ℕ
-later = 1 ∷ 2 ∷ 3 ∷ 4 ∷ 5 ∷ 6 ∷ []
-
-pub no_l_by_place : (e : Event) → OneOf later (tag_of the_type e) → is_l e ≡ false
-no_l_by_place e k =
-    ⊎_elim (λ w. absurd (miss later 0 tt (subst (λ (x : Event). OneOf later (tag_of the_type x)) w.1 k)))
-    (λ w. w.0) (l_or_later e)
+pub no_l : (e : Event) → ((l : ℕ) → e ≡ Largest l → ⊥) → is_l e ≡ false
+no_l e k = ⊎_elim (λ w. absurd (k w.0 w.1)) (λ w. w.0) (l_or_later e)
 
 -- a field that is not L is in turn once L has been read
 pub turn_other : (e : Event) (stage : Stage) → is_l e ≡ false → past_l stage ≡ in_turn e stage

@@ -1,5 +1,6 @@
 // The reader of a log: what is known of a field by the bytes of it that have come.
 #![tactic(auto)]
+
 ghost use Rattle.std.specs.Prelude.{◌≡◌, ◌⊎◌, cond, ◌+◌, ◌-◌, ◌^◌, ◌<◌, ◌≤◌, length};
 ghost use Rattle.log_bytes.specs.declared.Next.TheVariants.{Ends, Unfinished as unfinished};
 ghost use Rattle.log_bytes.specs.declared.End.TheVariants.{Long as long};

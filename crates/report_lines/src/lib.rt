@@ -1,6 +1,7 @@
 // The writer of a report's lines: each straight into a lent buffer, from an offset with room for any line on. With it
 // the difference of got and due as a whole number, and its text.
 #![tactic(auto)]
+
 ghost use Rattle.std.specs.Prelude.{◌≡◌, ◌+◌, ◌^◌, ◌≤◌, length, pos, ◌-ℤ◌, nat_abs};
 ghost use Rattle.lines.specs.Text.{Written};
 ghost use Rattle.lines.specs.Listing.{broken_line, long_line};

@@ -1,27 +1,25 @@
-// A report on standard output, for the programs that report on a log.
+// A report as it is written, for the programs that report on a log.
 #![tactic(auto)]
-ghost use Rattle.std.specs.Prelude.{◌≡◌, true, false, ◌+◌, ◌^◌, ◌≤◌, ◌<◌, length};
+
+ghost use Rattle.std.specs.Prelude.{◌≡◌, true, false, ◌+◌, ◌^◌, ◌≤◌, ◌<◌, length, IfOk};
 ghost use Rattle.report_play.specs.Playing.{offset_of};
 
-use libc::STDOUT_FILENO;
 use numbers::codes;
 use report_play::State;
+use std::io;
+use std::io::Write;
 
-// What became of a fragment: whether the log is read on behind it, whether all was written, and the state there.
+// What became of a fragment whose report is written: whether the log is read on behind it, and the state there.
 #[derive(Drop)]
 pub struct Fed {
     pub goes: bool,
-    pub written: bool,
     pub state: State,
 }
 
-// Whether another piece follows: all was written, nothing refused, and the report is not over.
-fn goes_on(written: bool, code: u8, over: bool) -> bool
+// Whether another piece follows: nothing is refused, and the report is not over.
+fn goes_on(code: u8, over: bool) -> bool
     ensures { result ≡ true → (code ≡ 0) × (over ≡ false) }
 {
-    if !written {
-        return false;
-    }
     if code != codes::DONE {
         return false;
     }
@@ -30,16 +28,17 @@ fn goes_on(written: bool, code: u8, over: bool) -> bool
 
 // Feeds a fragment to a report, and writes what there is to write of it. A write that fails ends it, so that what was
 // written is always the report's beginning.
-pub fn write_fragment(
+pub fn write_fragment<W: Write>(
+    report: &mut W,
     fragment: &[u8],
     ids: &mut [u32],
     lens: &mut [u16],
     out: &mut [u8],
     s: State,
-) -> Fed
+) -> io::Result<Fed>
     requires { 128 ≤ length out.old }
-    ensures { result.goes ≡ true → 0 < length fragment.now
-        → (offset_of result.state ≡ offset_of s + length fragment.now) × (offset_of result.state ≤ 2 ^ 48) }
+    ensures { IfOk result (λ fed. fed.goes ≡ true → 0 < length fragment.now
+        → (offset_of fed.state ≡ offset_of s + length fragment.now) × (offset_of fed.state ≤ 2 ^ 48)) }
 {
     let mut state = s;
     let mut taken: usize = 0;
@@ -47,26 +46,30 @@ pub fn write_fragment(
         let piece = reporting::feed(&fragment[taken..], &mut *ids, &mut *lens, &mut *out, state);
         let used = piece.used;
         let next = piece.state;
-        let written = io::write_all(STDOUT_FILENO, &out[..used]);
-        if !goes_on(written, piece.code, next.over) {
-            return Fed {
+        report.write_all(&out[..used])?;
+        if !goes_on(piece.code, next.over) {
+            return Ok(Fed {
                 goes: false,
-                written: written,
                 state: next,
-            };
+            });
         }
         state = next;
         taken += piece.taken;
     }
-    Fed {
+    Ok(Fed {
         goes: true,
-        written: true,
         state: state,
-    }
+    })
 }
 
-// Writes what is left of a report where its log has ended, a piece at a time, and answers whether all was written.
-pub fn write_end(ids: &[u32], lens: &[u16], out: &mut [u8], s: State) -> bool
+// Writes what is left of a report where its log has ended, a piece at a time.
+pub fn write_end<W: Write>(
+    report: &mut W,
+    ids: &[u32],
+    lens: &[u16],
+    out: &mut [u8],
+    s: State,
+) -> io::Result<()>
     requires { 128 ≤ length out.old }
 {
     let mut state = s;
@@ -74,9 +77,9 @@ pub fn write_end(ids: &[u32], lens: &[u16], out: &mut [u8], s: State) -> bool
         let piece = reporting::finish(ids, lens, &mut *out, state);
         let used = piece.used;
         let next = piece.state;
-        let written = io::write_all(STDOUT_FILENO, &out[..used]);
-        if !goes_on(written, piece.code, next.over) {
-            return written;
+        report.write_all(&out[..used])?;
+        if !goes_on(piece.code, next.over) {
+            return Ok(());
         }
         state = next;
     }

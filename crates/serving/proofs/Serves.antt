@@ -553,6 +553,8 @@ module _ (m : Board.Board) (fit : Fit m) (ids lens : List ℕ) (holds : Holds m 
       go : (o : Out) → ByAnswer m ids lens o (serve m).next → (place time : ℕ) → choice_of (engine_of (encode m)) ≡ Go place time
           → CanEnact (encode m).shares lens (encode m).largest place time (engine_of (encode m))
       go (refused code) w place time e = absurd (stop_go code place time (sym w.stops ∙ e))
+      go done w place time e = elim w [ ]
+      go (taken _) w place time e = elim w [ ]
       go (sent s) w place time e =
           let f = sym w.chooses ∙ e in
           rw (← go_place s.place s.clock place time f, ← go_time s.place s.clock place time f) (w.can h)

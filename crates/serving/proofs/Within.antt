@@ -15,7 +15,7 @@ use Rattle.lanes.specs.Lanes.{lane_entry}
 use Rattle.lanes.proofs.Lanes.{lane_inside}
 use Rattle.rules.specs.Board
 use Rattle.rules.specs.Board.{Record, at, bytes_charged}
-use Rattle.rules.specs.Choice.{Out, refused, Sending, sent, serve}
+use Rattle.rules.specs.Choice.{Out, refused, done, taken, Sending, sent, serve}
 use Rattle.rules.specs.Burst.{stopped, sent_first, burst}
 use Rattle.rules.specs.Calls.{serve!, step}
 use Rattle.rules.proofs.TidyCalls.{tidy_serve}
@@ -186,4 +186,6 @@ module _ (m : Board.Board) (fit : Fit m) (ids lens : List ℕ) (holds : Holds m 
       go : (o : Out) → (serve m).out ≡ o → ByAnswer m ids lens o (serve m).next
           → Stops m bytes room (made (choice_of (engine_of (encode m)))) ⊎ SendsOne m ids lens bytes room (made (choice_of (engine_of (encode m))))
       go (refused code) e w = rw w.stops (inl (record { code = w.refusal; same = refl; burst_is = burst_refused m bytes room code e; why = inl e }))
+      go done e w = elim w [ ]
+      go (taken _) e w = elim w [ ]
       go (sent s) e w = rw w.chooses (go_on s e w)

@@ -1,5 +1,6 @@
 // Serving: the slot that serves sends its front record. Arrays are lent one by one, so that no board is copied.
 #![tactic(auto)]
+
 ghost use Rattle.std.specs.Prelude.{◌≡◌, ◌+◌, ◌-◌, ◌<◌, get_or};
 ghost use Rattle.units.specs.Classes.{class_of};
 ghost use Rattle.board.specs.Memory.{queues_now, engine_now, numbers_now};

@@ -29,7 +29,7 @@ use Rattle.rules.proofs.Tidy.{Tidy}
 use Rattle.board.specs.Reading.{first_link, behind, slot_link, slot_left, encode}
 use Rattle.board.proofs.Lists.{tab_ext}
 use Rattle.board.proofs.Reading.{Fit}
-use Rattle.board.proofs.Moves.{heads, tails, after_first, nexts_leave, heads_leave, tails_leave, due_away, active_set}
+use Rattle.board.proofs.Moves.{after_first, nexts_leave, heads_leave, tails_leave, due_away, active_set}
 use Rattle.board.proofs.Same.{same, kept}
 use Rattle.board.specs.Memory.{Engine, engine_now, numbers_now, engine_of, with_engine}
 use Rattle.slots.specs.Slots.{Turned, turned_now, turned, left_links, still_pending, began_at, opened_slot, opened}

@@ -1,6 +1,7 @@
 // Slots (rules 2 to 5): the clock goes on, the next class is chosen, a slot begins and ends. Arrays are lent one by
 // one, so that no board is copied.
 #![tactic(auto)]
+
 ghost use Rattle.std.specs.Prelude.{◌≡◌, ◌+◌, ◌-◌, ◌*◌, ◌^◌, ◌<◌, ◌≤◌, get_or, set, replicate};
 ghost use Rattle.board.specs.Memory.{queues_now};
 ghost use Rattle.slots.specs.Slots.{turned_now, turned, chosen_class, slot_clock, choice, CanChoose};

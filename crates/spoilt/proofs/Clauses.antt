@@ -32,7 +32,7 @@ use Rattle.board.specs.declared.Board as struct
 use Rattle.board.specs.Reading.{tab, bare_of, place_of, slot_by, view, Sized}
 use Rattle.board.proofs.Rings.{lane_at}
 use Rattle.board.proofs.ClassSets.{and_never}
-use Rattle.spoilt_places.specs.Ranges.{size_in_range, numbers_apart, number_in_range, in_order, shares_fit, held_while_waiting, none_held}
+use Rattle.spoilt_places.specs.Ranges.{size_in_range, number_in_range, in_order, shares_fit, held_while_waiting, none_held}
 use Rattle.spoilt_orders.specs.Walks.{clock_in_range}
 use Rattle.spoilt.proofs.Apart.{d_apart}
 use Rattle.spoilt.proofs.Places.{stand_is, inner, waits-is, queued_is, serving-is, number_is, share_is, ring-is, deficit_is, free_is, lengths-from}

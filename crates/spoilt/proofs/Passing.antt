@@ -25,7 +25,6 @@ use Rattle.lanes.specs.Lanes.{lane_entry}
 use Rattle.rules.specs.Board
 use Rattle.rules.specs.Board.{out, queued, serving, Place, free_place, at, front, bytes_charged, block_class, is_open, waits, used_share, active, pending}
 use Rattle.rules.specs.Spoilt.{is_queued, is_serving, is_at, count, ready_num, slot_of}
-use Rattle.rules.proofs.Orders.{ready}
 use Rattle.rules.proofs.Shape.{listed_in}
 use Rattle.rules.proofs.Slot.{serving_in}
 use Rattle.rules.proofs.Spoilt.{PlacePasses, place_passes, d_ready, d_held, d_rising, unspoilt_tidy}

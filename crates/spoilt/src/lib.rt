@@ -1,5 +1,6 @@
 // The spoilt test: lanes, the open slot and the whole test, which is passed exactly by the boards that are not spoilt.
 #![tactic(auto)]
+
 ghost use Rattle.std.specs.Prelude.{◌≡◌, ◌<◌, length};
 ghost use Rattle.spoilt.specs.Test.{tables_whole, length_in_range, lane_in_range, lanes_in_range, slot_open};
 ghost use Rattle.spoilt.specs.Test.{slot_in_range, order_rules, sound_test};

@@ -1,5 +1,6 @@
 // The class orders and sets, for the spoilt test: each order is followed once, from its head.
 #![tactic(auto)]
+
 ghost use Rattle.std.specs.Prelude.{◌≡◌, cond, ◌<◌, ◌≤◌};
 ghost use Rattle.bits.specs.Sets.{with_bit};
 ghost use Rattle.spoilt_orders.specs.Walks.{clock_in_range, of_class, ready_in_range, block_in_range, walk};

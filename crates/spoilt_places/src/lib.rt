@@ -1,6 +1,7 @@
 // The rules of the places, for the spoilt test: numbers, shares, rings, deficits and zeros. Each clause is
 // decided by one function, and none asks anything of its caller.
 #![tactic(auto)]
+
 ghost use Rattle.std.specs.Prelude.{◌≡◌};
 ghost use Rattle.base.specs.Sums.{one_if};
 ghost use Rattle.spoilt_places.specs.Ranges.{size_in_range, times_found, number_apart, numbers_apart};

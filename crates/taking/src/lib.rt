@@ -1,5 +1,6 @@
 // Taking a record (rule 1): its place has one more, and where its lane was empty its block joins its class's order.
 #![tactic(auto)]
+
 ghost use Rattle.std.specs.Prelude.{◌≡◌, ◌+◌, ◌-◌, ◌<◌, ◌≤◌, length, get_or, set};
 ghost use Rattle.board.specs.Memory.{orders_now, taking, seen};
 ghost use Rattle.taking.specs.Taking.{joined_orders, taken_at, TakeNeeds, RecordNeeds, not_taken, took_tells};

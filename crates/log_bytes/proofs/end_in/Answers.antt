@@ -1,7 +1,6 @@
 -- `log_bytes::end_in` meets its contract. The two tests of the definition in turn. Assumes nothing.
 use borrow.Author.Tests.{eq-eqb, ne_eqb}
 use Rattle.log_bytes.specs.Rows.{end_in}
-use borrow.Author.Rules.{rules}
 use Rattle.log_bytes.proofs.end_in.Goals as goal
 
 pub returns-then-came-eq0 : goal.returns-then-came-eq0

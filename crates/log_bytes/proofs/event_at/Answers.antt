@@ -3,7 +3,6 @@
 use native.Mathlib.Omega.{arith}
 use borrow.Author.Tests.{ne_eqb}
 use Rattle.log_bytes.specs.Format.{length_of, event_of}
-use borrow.Author.Rules.{rules}
 use Rattle.log_bytes.proofs.event_at.Goals as goal
 
 pub number-requires : goal.number-requires
@@ -84,10 +83,10 @@ pub returns-in_default : goal.returns-in_default
 unfolding event_of
 returns-in_default c =
     rw (
-      ne_eqb _ _ c.in_default.rest.0.0.0.0.0.1,
-      ne_eqb _ _ c.in_default.rest.0.0.0.0.1,
-      ne_eqb _ _ c.in_default.rest.0.0.0.1,
-      ne_eqb _ _ c.in_default.rest.0.0.1,
-      ne_eqb _ _ c.in_default.rest.0.1,
-      ne_eqb _ _ c.in_default.rest.1,
+      ne_eqb c.args.tag 6 (λ e. omega arith),
+      ne_eqb c.args.tag 1 (λ e. omega arith),
+      ne_eqb c.args.tag 2 (λ e. omega arith),
+      ne_eqb c.args.tag 3 (λ e. omega arith),
+      ne_eqb c.args.tag 4 (λ e. omega arith),
+      ne_eqb c.args.tag 5 (λ e. omega arith),
     )

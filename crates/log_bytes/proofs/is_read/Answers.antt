@@ -1,7 +1,6 @@
 -- `log_bytes::is_read` meets its contract. The two tests of the definition in turn. Assumes nothing.
 use borrow.Author.Tests.{le-ltb, lt-ltb}
 use Rattle.log_bytes.specs.Format.{is_read}
-use borrow.Author.Rules.{rules}
 use Rattle.log_bytes.proofs.is_read.Goals as goal
 
 pub returns-then-came-i : goal.returns-then-came-i

@@ -1,4 +1,5 @@
 -- `log_bytes::length_of` meets its contract. One arm for each tag. Assumes nothing.
+use native.Mathlib.Omega.{arith}
 use borrow.Author.Tests.{ne_eqb}
 use Rattle.log_bytes.specs.Format.{length_of}
 use Rattle.log_bytes.proofs.length_of.Goals as goal
@@ -27,9 +28,9 @@ pub returns-in_default : goal.returns-in_default
 unfolding length_of
 returns-in_default c =
     rw (
-      ne_eqb _ _ c.in_default.rest.0.0.0.0.1,
-      ne_eqb _ _ c.in_default.rest.0.0.0.1,
-      ne_eqb _ _ c.in_default.rest.0.0.1,
-      ne_eqb _ _ c.in_default.rest.0.1,
-      ne_eqb _ _ c.in_default.rest.1,
+      ne_eqb c.args.tag 6 (λ e. omega arith),
+      ne_eqb c.args.tag 1 (λ e. omega arith),
+      ne_eqb c.args.tag 2 (λ e. omega arith),
+      ne_eqb c.args.tag 3 (λ e. omega arith),
+      ne_eqb c.args.tag 4 (λ e. omega arith),
     )

@@ -1,7 +1,6 @@
 -- `log_bytes::not_known` meets its contract. The test is the definition's. Assumes nothing.
 use borrow.Author.Tests.{le-ltb, lt-ltb}
 use Rattle.log_bytes.specs.Format.{is_past}
-use borrow.Author.Rules.{rules}
 use Rattle.log_bytes.proofs.not_known.Goals as goal
 
 pub returns-then-room_from-came : goal.returns-then-room_from-came

@@ -1,10 +1,9 @@
 -- `log_bytes::number` meets its contract. The bytes passed spell what is summed. Assumes nothing.
 use mathlib.Core.Path.{◌≡◌, ap, ◌∙◌}
-use Prim.Native.Nat.{ℕ, ◌+◌, ◌-◌, ◌≤◌}
+use Prim.Native.Nat.{ℕ, ◌+◌, ◌-◌}
 use native.Mathlib.Omega.{arith}
 use Rattle.log_bytes.specs.Format.{number_at}
 use Rattle.log_bytes.proofs.Numbers.{number_none, number_more, shift_fits, turn_fits}
-use borrow.Author.Rules.{rules}
 use Rattle.log_bytes.proofs.number.Goals as goal
 
 pub loop-left-init : goal.loop-left-init
@@ -13,13 +12,13 @@ loop-left-init c = let q : c.args.n - c.args.n ≡ 0 = omega arith in (omega ari
 pub overflow_mul-sum : goal.overflow_mul-sum
 overflow_mul-sum c =
     shift_fits c.args.bytes.now c.args.i (c.args.n - c.loop-left.left) c.loop-left.sum
-    (λ (j : ℕ). (c.shared_slice_known-1.given j).fits)
+    (λ (j : ℕ). (c.type_inv.bytes j).fits)
     (omega (arith, c.loop-left-test.true, c.loop-left.invariant.0, c.requires)) c.loop-left.invariant.1
 
 pub overflow_add-sum : goal.overflow_add-sum
 overflow_add-sum c =
     turn_fits c.args.bytes.now c.args.i (c.args.n - c.loop-left.left) c.loop-left.sum
-    c.wide-byte.result (λ (j : ℕ). (c.shared_slice_known-1.given j).fits)
+    c.wide-byte.result (λ (j : ℕ). (c.type_inv.bytes j).fits)
     (omega (arith, c.loop-left-test.true, c.loop-left.invariant.0, c.requires)) c.loop-left.invariant.1 c.wide-byte.ensures.1
 
 pub loop-left-preserved : goal.loop-left-preserved

@@ -1,9 +1,6 @@
-use mathlib.Core.Path.{◌≡◌, ap, ◌∙◌}
-use Prim.Native.Nat.{ℕ, ◌+◌, ◌-◌, ◌≤◌}
-use native.Mathlib.Omega.{arith}
+use mathlib.Core.Path.{◌≡◌}
+use Prim.Native.Nat.{◌-◌, ◌≤◌}
 use Rattle.log_bytes.specs.Format.{number_at}
-use Rattle.log_bytes.proofs.Numbers.{number_none, number_more, shift_fits, turn_fits}
-use borrow.Author.Rules.{rules}
 use Rattle.log_bytes.proofs.number.Given as goal
 
 abbrev pub invariant-loop-left : goal.invariant-loop-left

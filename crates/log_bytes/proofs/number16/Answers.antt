@@ -2,9 +2,8 @@
 use native.Mathlib.Omega.{arith}
 use Prim.Native.Nat.{ℕ}
 use Rattle.log_bytes.proofs.Numbers.{number_lt}
-use borrow.Author.Rules.{rules}
 use Rattle.log_bytes.proofs.number16.Goals as goal
 
 pub overflow_cast-result : goal.overflow_cast-result
 overflow_cast-result c =
-    omega (arith, c.number.ensures, number_lt c.args.bytes.now c.args.i 2 (λ (j : ℕ). (c.shared_slice_known-1.given j).fits))
+    omega (arith, c.number.ensures, number_lt c.args.bytes.now c.args.i 2 (λ (j : ℕ). (c.type_inv.bytes j).fits))
