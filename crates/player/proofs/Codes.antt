@@ -6,7 +6,6 @@ use Prim.Native.Nat.{ℕ, ◌/◌, ◌≤◌}
 use borrow.Author.Tests.{le-ltb}
 use lib.Dec.{ltb}
 use lib.ListN.{length}
-use Rattle.rules.specs.Calls.{wrong_tables}
 use Rattle.board.specs.Reading.{is_sound}
 use Rattle.log_bytes.specs.Format.{past_l}
 use Rattle.fragments.specs.Kept.{is_fit}

@@ -1,7 +1,7 @@
 -- The first field of a listing, its end, and the promise of each call; and however the log is cut, the listing is that
 -- of the joined log. Assumes nothing.
 use mathlib.Core.Path.{◌≡◌, refl, sym, ap, ap₂, subst, ◌∙◌}
-use mathlib.Core.Bool.{Bool, true, false, cond, ◌&&◌, ◌||◌, true≢false}
+use mathlib.Core.Bool.{Bool, true, false, ◌&&◌, ◌||◌, true≢false}
 use mathlib.Core.Logic.{◌⊎◌, inl, inr, ◌≢◌}
 use mathlib.Core.List.{List, [], ◌++◌, append-nil}
 use Prim.Native.Nat.{ℕ, ◌+◌, ◌-◌, ◌^◌, ◌≤◌, ◌<◌}
@@ -20,8 +20,8 @@ use Rattle.log_bytes.specs.declared.Event.{Event}
 use Rattle.log_bytes.specs.declared.Event.TheVariants.{Largest}
 use Rattle.log_bytes.specs.declared.End.{End}
 use Rattle.log_bytes.specs.declared.End.TheVariants.{Whole as ends-whole, Broken as ends-broken, Long as ends-long}
-use Rattle.log_bytes.specs.declared.Next.TheVariants.{GoesOn, Ends, Unfinished}
-use Rattle.log_bytes.specs.Format.{past_l, stage_after, in_turn, next_in}
+use Rattle.log_bytes.specs.declared.Next.TheVariants.{Ends, Unfinished}
+use Rattle.log_bytes.specs.Format.{past_l, stage_after, in_turn}
 use Rattle.log_bytes.specs.Rows.{end_in, next_of}
 use Rattle.log_bytes.proofs.Stages.{past_after}
 use Rattle.log_bytes.proofs.Wholes.{none_come, never_whole, part_is}
@@ -44,7 +44,7 @@ use Rattle.listing_rules.proofs.Listing.{listing_whole, listing_ends, listing_cu
 use Rattle.fields.specs.Fields.{memory, reads}
 use Rattle.player.specs.declared.State.{State}
 use Rattle.player.specs.declared.Piece.{Piece}
-use Rattle.player.specs.Feeding.{before_first, Held, held, rest_of, is_over, offset_of, feed_code, CanGoOn, stayed, ended_state, ended_piece}
+use Rattle.player.specs.Feeding.{before_first, Held, held, rest_of, is_over, offset_of, feed_code, CanGoOn, stayed, ended_piece}
 use Rattle.player.specs.Feeding.{FeedDone, FeedOf, CloseDone, CloseOf, FeedsListing}
 use Rattle.player.proofs.Codes.{code-kept, code-before, can_code, over_code}
 use Rattle.player.proofs.Feeding.{over_rest, ended_rest, past_rest, before_rest, listing_read, ended_done, last_line_lem}
