@@ -262,7 +262,8 @@ fn reply_of(piece: Piece, f: Feeder) -> FeedReply
         taken: piece.taken,
         used: piece.used,
     };
-    if piece.code != codes::DONE {
+    let done = piece.code == codes::DONE;
+    if !done {
         return FeedReply {
             code: piece.code,
             fed: fed,

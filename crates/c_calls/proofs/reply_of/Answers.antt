@@ -4,10 +4,10 @@ use borrow.Author.Tests.{ne_eqb}
 use Rattle.c_calls.specs.Feeding.{reply_of}
 use Rattle.c_calls.proofs.reply_of.Goals as goal
 
-pub returns-then-piece-ne-DONE : goal.returns-then-piece-ne-DONE
+pub returns-then-not-done : goal.returns-then-not-done
 unfolding reply_of
-returns-then-piece-ne-DONE c = rw (ne_eqb _ _ c.if-piece-ne-DONE.true) refl
+returns-then-not-done c = rw (ne_eqb _ _ c.if-not-done.true) refl
 
 pub returns : goal.returns
 unfolding reply_of
-returns c = rw (c.feeder_of.ensures, c.if-piece-ne-DONE.false) refl
+returns c = rw (c.feeder_of.ensures, c.if-not-done.false) refl
