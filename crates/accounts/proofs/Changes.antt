@@ -76,8 +76,8 @@ module _ (b : Board) (g : Tidy b) (p : ℕ) where
       q : ℕ
       q = free_at b
 
-      inQ : q < length b.places
-      inQ = in_places b g.shape q can.inside
+      in_q : q < length b.places
+      in_q = in_places b g.shape q can.inside
 
       else : is_open (at b p) ≡ true → get_or (set b.places q (opened o)) p free_place ≡ at b p
       else w =
@@ -85,48 +85,48 @@ module _ (b : Board) (g : Tidy b) (p : ℕ) where
           (λ e. omega (arith, true_le 1 (at b p).share w, can.free, ap (λ (z : ℕ). (at b z).share) e))
 
       hand : in_hand (get_or (set b.places q (opened o)) p free_place) ≡ in_hand (at b p)
-      hand = set_field in_hand b.places q (opened o) inQ (sym (free_hand b g q (leb_no 1 (at b q).share (omega (arith, can.free))))) p
+      hand = set_field in_hand b.places q (opened o) in_q (sym (free_hand b g q (leb_no 1 (at b q).share (omega (arith, can.free))))) p
 
   rests_rename : (q old new : ℕ) → CanRename b q old new → RestsBy b p (rename! old new) (record { out = done; next = go_on b q (renamed new (at b q)) })
   rests_rename q old new can _ =
       let z = renamed new (at b q) in
-      let inQ = in_places b g.shape q can.has.inside in
+      let in_q = in_places b g.shape q can.has.inside in
       record {
         gone = λ e. absurd (false≢true e);
-        share = λ _ _. set_field (λ x. x.share) b.places q z inQ refl p;
-        hand = set_field in_hand b.places q z inQ refl p;
+        share = λ _ _. set_field (λ x. x.share) b.places q z in_q refl p;
+        hand = set_field in_hand b.places q z in_q refl p;
       }
 
   rests_close : (q n : ℕ) → CanClose b q n → RestsBy b p (close! n) (record { out = done; next = closed b q })
   unfolding closed
   rests_close q n can _ = record {
-    gone = λ e. ap is_open (ap (at (closed b q)) (at-q e) ∙ get_or-set_same b.places q free_place free_place inQ);
+    gone = λ e. ap is_open (ap (at (closed b q)) (at_q e) ∙ get_or-set_same b.places q free_place free_place in_q);
     share =
         λ e _. ap (λ (x : Place). x.share)
         (get_or-set_other b.places q p free_place free_place (λ f. true≢false (sym (eqb_yes p (where_is b n) (f ∙ sym is)) ∙ e)));
-    hand = set_field in_hand b.places q free_place inQ (sym (empty_hand b g q can.empty)) p;
+    hand = set_field in_hand b.places q free_place in_q (sym (empty_hand b g q can.empty)) p;
   }
     where
-      inQ : q < length b.places
-      inQ = in_places b g.shape q can.has.inside
+      in_q : q < length b.places
+      in_q = in_places b g.shape q can.has.inside
 
       is : where_is b n ≡ q
       is = has_where b q n g can.has
 
-      at-q : eqb p (where_is b n) ≡ true → p ≡ q
-      at-q e = eqb_true p (where_is b n) e ∙ is
+      at_q : eqb p (where_is b n) ≡ true → p ≡ q
+      at_q e = eqb_true p (where_is b n) e ∙ is
 
   rests_take : (q n : ℕ) (r : Record) → CanTake b q n r → RestsBy b p (record! n r) (took_at b q r)
   unfolding taken_in
   rests_take q n r can _ =
       record { gone = λ e. absurd (false≢true e); share = λ _ _. (go (leb (length (at b q).lane) 0) refl).0; hand = (go (leb (length (at b q).lane) 0) refl).1 }
     where
-      inQ : q < length b.places
-      inQ = in_places b g.shape q can.has.inside
+      in_q : q < length b.places
+      in_q = in_places b g.shape q can.has.inside
 
       kept : (z : Place) → z.share ≡ (at b q).share → in_hand z ≡ in_hand (at b q)
           → ((get_or (set b.places q z) p free_place).share ≡ (at b p).share) × (in_hand (get_or (set b.places q z) p free_place) ≡ in_hand (at b p))
-      kept z e f = (set_field (λ x. x.share) b.places q z inQ e p, set_field in_hand b.places q z inQ f p)
+      kept z e f = (set_field (λ x. x.share) b.places q z in_q e p, set_field in_hand b.places q z in_q f p)
 
       go : (t : Bool) → leb (length (at b q).lane) 0 ≡ t
           → let nb = cond t (joining b q (joins b.clock (at b q) r)) (go_on b q (more (at b q) r)) in

@@ -340,13 +340,13 @@ module _ (b : Board) (g : Tidy b) (x : Single) (c : Counts) (h : CountsFit b c) 
       q : ℕ
       q = s.place
 
-      isO : is_open (at b q) ≡ true
-      isO = leb_yes 1 (at b q).share o.bought
+      is_o : is_open (at b q) ≡ true
+      is_o = leb_yes 1 (at b q).share o.bought
 
       here : account_fits next q (added (credit_at b q) s (c.accounts q)) ≡ true
       here =
-          even_fits next q (added (credit_at b q) s (c.accounts q)) (open_same b next q (o.share q) ∙ isO)
-          (even_added b next s (c.accounts q) (credit_some b g q o.bought) n (tells b g x s e) (fits_even b q (c.accounts q) isO (h f q)))
+          even_fits next q (added (credit_at b q) s (c.accounts q)) (open_same b next q (o.share q) ∙ is_o)
+          (even_added b next s (c.accounts q) (credit_some b g q o.bought) n (tells b g x s e) (fits_even b q (c.accounts q) is_o (h f q)))
 
       go : Dec (p ≡ s.place) → account_fits next p (cond (eqb p s.place) (added (credit_at b s.place) s (c.accounts p)) (c.accounts p)) ≡ true
       go (yes k) = rw (k, eqb_yes s.place s.place refl) here

@@ -59,10 +59,10 @@ unfolding with_bit
 with_own x k = bit_or_lem x (2 ^ k) k ∙ omega (arith, bit_power_own k, bit_lt x k)
 
 power_other : (k j : ℕ) → (j ≡ k → ⊥) → bit_at (2 ^ k) j ≡ 0
-power_other k j ne = go (lt-or-le j k)
+power_other k j ne = go (lt_or_le j k)
   where
-    lt-or-le : (a b : ℕ) → (a < b) ⊎ (b ≤ a)
-    lt-or-le a b = by_le (dec_lt a b)
+    lt_or_le : (a b : ℕ) → (a < b) ⊎ (b ≤ a)
+    lt_or_le a b = by_le (dec_lt a b)
       where
         by_le : Dec (a < b) → (a < b) ⊎ (b ≤ a)
         by_le (yes h) = inl h

@@ -74,16 +74,16 @@ first_zeros zero set told e = refl
 first_zeros (suc w) set told e =
     go (two_cases (set % 2) (mod-lt set (lit< tt))) (first_zeros w (set / 2) (λ k. told (suc k)) above)
   where
-    lowest-bit : told 0 ≡ eqb (set % 2) 1
-    lowest-bit = e 0 ∙ ap (λ b. eqb b 1) (bit_zero set)
+    lowest_bit : told 0 ≡ eqb (set % 2) 1
+    lowest_bit = e 0 ∙ ap (λ b. eqb b 1) (bit_zero set)
 
     above : (k : ℕ) → told (suc k) ≡ in_set (set / 2) k
     above k = e (suc k) ∙ ap (λ b. eqb b 1) (bit_suc set k)
 
     go : (set % 2 ≡ 0) ⊎ (set % 2 ≡ 1) → least (λ k. told (suc k)) w ≡ count_trailing_zeros w (set / 2)
         → cond (told 0) 0 (suc (least (λ k. told (suc k)) w)) ≡ under (set % 2) (count_trailing_zeros w (set / 2))
-    go (inl even) later = rw (lowest-bit, even, later)
-    go (inr odd) later = rw (lowest-bit, odd)
+    go (inl even) later = rw (lowest_bit, even, later)
+    go (inr odd) later = rw (lowest_bit, odd)
 
 -- the first of w classes that is in the set is as many as the zero bits that stand below it, and w where none is
 pub lowest_zeros : (w set : ℕ) → least (in_set set) w ≡ count_trailing_zeros w set

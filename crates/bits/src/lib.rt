@@ -1,5 +1,6 @@
 // Sets of classes, each as the bits of one u32: put in, take out, and the lowest.
 #![tactic(auto)]
+
 ghost use Rattle.std.specs.Prelude.{◌≡◌, ◌<◌};
 ghost use Rattle.bits.specs.Sets.{with_bit, without_bit, lowest_bit};
 

@@ -35,7 +35,7 @@ use Rattle.board.proofs.Agrees.{turned, agrees, by_spelling}
 use Rattle.finding.proofs.Finding.{free_is, none_is, free_le, known_by, unknown_by}
 use Rattle.blocks.specs.Blocks.{Renaming, renaming, renamed_at, renamed_in, with_renaming}
 use Rattle.blocks.specs.Blocks.{Answered, answered, open_at, opened_in, close_at, closed_at, closed_in, CloseNeeds}
-use Rattle.blocks.proofs.Blocks.{rename_is, open_is, close-is, quiet_active}
+use Rattle.blocks.proofs.Blocks.{rename_is, open_is, close_is, quiet_active}
 
 module _ (m : Board.Board) (f : Fit m) where
   used_is : total_of (encode m).shares + total_of (encode m).held ≡ used_share m
@@ -130,7 +130,7 @@ module _ (m : Board.Board) (f : Fit m) (ids lens : List ℕ) (n : ℕ) where
       → with_blocks b (close_at b.active (at m (where_is m n)).share (where_is m n) (blocks_of b)) ≡ encode (closed m (where_is m n))
   closed_at_lem can =
       let owed = (f.tidy.shape.place_ok p).clear (ap (λ s. is_queued s) was) in
-      close-is m f.tidy p (in_places m f.tidy.shape p can.has.inside) was can.empty owed (quiet_active m f.tidy)
+      close_is m f.tidy p (in_places m f.tidy.shape p can.has.inside) was can.empty owed (quiet_active m f.tidy)
     where
       p : ℕ
       p = where_is m n

@@ -81,12 +81,12 @@ module _ (m : Board.Board) (g : Tidy m) (p : ℕ) (in_l : p < length m.places) w
     gone : (j : ℕ) → count p (m.orders j) ≡ 0
     gone j = listed_out m.places m.orders g.shape.listed j p (ap is_queued was)
 
-    idle-is : (n s st : ℕ) (H : ℕ → ℕ) (held' : List ℕ) → held' ≡ tab 17 H
+    idle_is : (n s st : ℕ) (H : ℕ → ℕ) (held' : List ℕ) → held' ≡ tab 17 H
         → with_blocks (encode m) (blocks_now (set (encode m).numbers p n) (set (encode m).shares p s) (set (encode m).starts p st) held')
         ≡ encode (lit m.largest m.clock (set m.places p (record { number = n; share = s; start = st; lane = []; deficit = 0; stand = out }))
         m.orders m.slot H)
     unfolding encode
-    idle-is n s st H held' e = same (record {
+    idle_is n s st H held' e = same (record {
       numbers = sym (map_set (λ (w : Place). w.number) l p y);
       shares = sym (map_set (λ (w : Place). w.share) l p y);
       deficits = kept (λ w. w.deficit) l p y (sym owed);
@@ -115,30 +115,30 @@ module _ (m : Board.Board) (g : Tidy m) (p : ℕ) (in_l : p < length m.places) w
         link j (no q) = ap (λ (w : Place). behind j (m.orders (block_class w))) (sym (get_or-set_other l p j y free_place q))
 
     -- a field that is 0 already, set to 0
-    zero-kept : (f : Place → ℕ) → f free_place ≡ 0 → f (at m p) ≡ 0 → set (map f l) p 0 ≡ map f l
-    zero-kept f e z = ap (set (map f l) p) (sym (ap (get_or (map f l) p) (sym e) ∙ get_or-map f l p free_place ∙ z)) ∙ set-get_or (map f l) p 0
+    zero_kept : (f : Place → ℕ) → f free_place ≡ 0 → f (at m p) ≡ 0 → set (map f l) p 0 ≡ map f l
+    zero_kept f e z = ap (set (map f l) p) (sym (ap (get_or (map f l) p) (sym e) ∙ get_or-map f l p free_place ∙ z)) ∙ set-get_or (map f l) p 0
 
-    start-kept : (at m p).start ≡ 0 → set (encode m).starts p 0 ≡ (encode m).starts
+    start_kept : (at m p).start ≡ 0 → set (encode m).starts p 0 ≡ (encode m).starts
     unfolding encode
-    start-kept = zero-kept (λ w. w.start) refl
+    start_kept = zero_kept (λ w. w.start) refl
 
     -- OPEN
     pub open_is : (o : Opening) → (at m p).start ≡ 0
         → with_blocks (encode m) (open_at p o (blocks_of (encode m))) ≡ encode (go_on m p (opened (meant o)))
     open_is o z =
         ap (λ (st : List ℕ). let x = open_at p o (blocks_of (encode m)) in with_blocks (encode m) (blocks_now x.numbers x.shares st x.held))
-        (sym (start-kept z))
-        ∙ idle-is o.number o.share 0 m.held (encode m).held (held_of m)
+        (sym (start_kept z))
+        ∙ idle_is o.number o.share 0 m.held (encode m).held (held_of m)
 
     -- CLOSE: the share is held, unless nobody waits
     abbrev H : Bool → ℕ → ℕ
     H t = cond t m.held (upd m.held (block_class (at m p)) (m.held (block_class (at m p)) + (at m p).share))
 
-    held-close : (t : Bool)
+    held_close : (t : Bool)
         → cond t (encode m).held (set (encode m).held (block_class (at m p)) (get_or (encode m).held (block_class (at m p)) 0 + (at m p).share)) ≡ tab 17 (H t)
     unfolding encode
-    held-close true = refl
-    held-close false =
+    held_close true = refl
+    held_close false =
         ap (λ (h : ℕ). set (tab 17 m.held) (block_class (at m p)) (h + (at m p).share)) (get_d_tab 17 m.held (block_class (at m p)) 0 k17)
         ∙ tab_set 17 m.held (upd m.held (block_class (at m p)) (m.held (block_class (at m p)) + (at m p).share)) (block_class (at m p))
         (m.held (block_class (at m p)) + (at m p).share) k17 (upd_same m.held (block_class (at m p)) (m.held (block_class (at m p)) + (at m p).share))
@@ -147,10 +147,10 @@ module _ (m : Board.Board) (g : Tidy m) (p : ℕ) (in_l : p < length m.places) w
         k17 : block_class (at m p) < 17
         k17 = omega (arith, class_le (at m p).share)
 
-    pub close-is : eqb (encode m).active 0 ≡ quiet m
+    pub close_is : eqb (encode m).active 0 ≡ quiet m
         → with_blocks (encode m) (close_at (encode m).active (at m p).share p (blocks_of (encode m))) ≡ encode (closed m p)
     unfolding closed
-    close-is q = idle-is 0 0 0 (H (quiet m)) _ (held_eq (encode m).active (at m p).share (encode m).held (quiet m) q ∙ held-close (quiet m))
+    close_is q = idle_is 0 0 0 (H (quiet m)) _ (held_eq (encode m).active (at m p).share (encode m).held (quiet m) q ∙ held_close (quiet m))
 
 -- ---- No class is active exactly when no block waits
 
@@ -185,10 +185,10 @@ quiet_active m g = go (quiet m) (some_quiet m g)
     go true e =
         eq-eqb (set_below 17 on) 0
         (sym (set_is on 17 0 (omega arith) (λ k h. bit_high 0 0 k (omega arith) (omega arith) ∙ ap one_if (sym (none_active k m.places e)))))
-    go false e = let w = some_at m.places e in is-on w.0 w.1 w.2
+    go false e = let w = some_at m.places e in is_on w.0 w.1 w.2
       where
-        is-on : (p : ℕ) → p < length m.places → waits (at m p) ≡ true → eqb (set_below 17 on) 0 ≡ false
-        is-on p h w = ne_eqb (set_below 17 on) 0 (λ z. omega (arith, bit z))
+        is_on : (p : ℕ) → p < length m.places → waits (at m p) ≡ true → eqb (set_below 17 on) 0 ≡ false
+        is_on p h w = ne_eqb (set_below 17 on) 0 (λ z. omega (arith, bit z))
           where
             k : ℕ
             k = block_class (at m p)

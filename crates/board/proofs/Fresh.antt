@@ -16,10 +16,10 @@ use Rattle.board.proofs.Sound.{sound_encode}
 
 holds_fresh : (L : ℕ) (ids lens : List ℕ) → Holds (fresh L) ids lens
 unfolding fresh
-holds_fresh L ids lens i = at-free (at (fresh L) i) (all_free 64 i)
+holds_fresh L ids lens i = at_free (at (fresh L) i) (all_free 64 i)
   where
-    at-free : (x : Place) → x ≡ free_place → x.lane ≡ lane_of ids lens i x (length x.lane)
-    at-free x e = rw e (sym (empty_lane ids lens i free_place))
+    at_free : (x : Place) → x ≡ free_place → x.lane ≡ lane_of ids lens i x (length x.lane)
+    at_free x e = rw e (sym (empty_lane ids lens i free_place))
 
 pub record Starts (b : struct.Board) (ids lens : List ℕ) (L : ℕ) : Type 0 where
   pub reads : view b ids lens ≡ fresh L

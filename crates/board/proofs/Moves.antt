@@ -91,7 +91,7 @@ module _ (o : ℕ → List ℕ) (kj : ℕ → ℕ) (p k : ℕ) (p64 : p < 64) (k
       go (suc z) f =
           ap (λ (i : ℕ). set (set (nexts o kj) i (suc p)) p 0) less
           ∙ ap (λ (r : List ℕ). set r p 0)
-          (tab_set 64 (λ j. behind j (o (kj j))) mid z (suc p) z64 mid-z (λ j l ne. ap (λ (b : Bool). cond b (suc p) (behind j (o (kj j)))) (eqb_no j z ne)))
+          (tab_set 64 (λ j. behind j (o (kj j))) mid z (suc p) z64 mid_z (λ j l ne. ap (λ (b : Bool). cond b (suc p) (behind j (o (kj j)))) (eqb_no j z ne)))
           ∙ tab_set 64 mid (λ j. behind j (o_join (kj j))) p 0 p64 here (λ j l ne. there j ne (ℕ_discrete (kj j) k) (ℕ_discrete j z))
         where
           less : suc z - 1 ≡ z
@@ -109,15 +109,15 @@ module _ (o : ℕ → List ℕ) (kj : ℕ → ℕ) (p k : ℕ) (p64 : p < 64) (k
           mid : ℕ → ℕ
           mid j = cond (eqb j z) (suc p) (behind j (o (kj j)))
 
-          mid-z : mid z ≡ suc p
-          mid-z = ap (λ (b : Bool). cond b (suc p) (behind z (o (kj z)))) (eqb_yes z z refl)
+          mid_z : mid z ≡ suc p
+          mid_z = ap (λ (b : Bool). cond b (suc p) (behind z (o (kj z)))) (eqb_yes z z refl)
 
           here : behind p (o_join (kj p)) ≡ 0
           here = rw (own, at_k) (behind_own p (o k) away)
 
           there : (j : ℕ) → j ≢ p → Dec (kj j ≡ k) → Dec (j ≡ z) → behind j (o_join (kj j)) ≡ mid j
           there j ne (yes q) (yes w) =
-              ap₂ (λ (i n : ℕ). behind i (o_join n)) w q ∙ ap (behind z) at_k ∙ behind_last z (o k) p f (once z) ∙ sym (ap mid w ∙ mid-z)
+              ap₂ (λ (i n : ℕ). behind i (o_join n)) w q ∙ ap (behind z) at_k ∙ behind_last z (o k) p f (once z) ∙ sym (ap mid w ∙ mid_z)
           there j ne (yes q) (no w) =
               rw (q, at_k) (behind_snoc j (o k) p ne (λ h. w (suc_inj (sym (sym f ∙ h))))
               ∙ sym (ap (λ (b : Bool). cond b (suc p) (behind j (o k))) (eqb_no j z w)))
@@ -191,11 +191,11 @@ pub active_here : (k p : ℕ) (l : List Place) → p < length l → is_active k 
 unfolding any_waits
 active_here k p [] h e = absurd (omega arith)
 active_here k zero (x ∷ xs) h e = rw e
-active_here k (suc p) (x ∷ xs) h e = ap (λ (b : Bool). is_active k x || b) (active_here k p xs (omega arith) e) ∙ or-true (is_active k x)
+active_here k (suc p) (x ∷ xs) h e = ap (λ (b : Bool). is_active k x || b) (active_here k p xs (omega arith) e) ∙ or_true (is_active k x)
   where
-    or-true : (a : Bool) → a || true ≡ true
-    or-true true = refl
-    or-true false = refl
+    or_true : (a : Bool) → a || true ≡ true
+    or_true true = refl
+    or_true false = refl
 
 pub active_none : (k : ℕ) (l : List Place) → ((p : ℕ) → is_active k (pl l p) ≡ false) → any_waits k l ≡ false
 unfolding any_waits

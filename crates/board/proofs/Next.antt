@@ -81,9 +81,9 @@ module _ (m : Board.Board) (ids lens : List ℕ) (f : Fit m) (holds : Holds m id
     empty [] h = refl
     empty (y ∷ ys) h = absurd (omega arith)
 
-    holds-taken : Holds (taken_in m p x) ids' lens'
+    holds_taken : Holds (taken_in m p x) ids' lens'
     unfolding taken_in
-    holds-taken = go (leb (length (at m p).lane) 0) refl
+    holds_taken = go (leb (length (at m p).lane) 0) refl
       where
         go : (t : Bool) → leb (length (at m p).lane) 0 ≡ t → Holds (cond t (joining m p (joins m.clock (at m p) x)) (go_on m p (more (at m p) x))) ids' lens'
         go true q = holds_set m.places p (joins m.clock (at m p) x) ids lens ids' lens' inside holds single away
@@ -95,13 +95,13 @@ module _ (m : Board.Board) (ids lens : List ℕ) (f : Fit m) (holds : Holds m id
             single =
                 ap (λ (r : List Record). r ++ (x ∷ [])) (sym none!) ∙ put_is ∙ ap (λ (n : ℕ). lane_of ids' lens' p (at m p) (suc n)) (ap length none!)
                 ∙ lane_by ids' lens' p (at m p) (joins m.clock (at m p) x) 1 refl
-        go false q = holds_set m.places p (more (at m p) x) ids lens ids' lens' inside holds longer-is away
+        go false q = holds_set m.places p (more (at m p) x) ids lens ids' lens' inside holds longer_is away
           where
             longer : suc (length (at m p).lane) ≡ length ((at m p).lane ++ (x ∷ []))
             longer = omega (arith, length-append (at m p).lane (x ∷ []))
 
-            longer-is : (at m p).lane ++ (x ∷ []) ≡ lane_of ids' lens' p (more (at m p) x) (length ((at m p).lane ++ (x ∷ [])))
-            longer-is =
+            longer_is : (at m p).lane ++ (x ∷ []) ≡ lane_of ids' lens' p (more (at m p) x) (length ((at m p).lane ++ (x ∷ [])))
+            longer_is =
                 put_is ∙ ap (lane_of ids' lens' p (at m p)) longer ∙ lane_by ids' lens' p (at m p) (more (at m p) x) (length ((at m p).lane ++ (x ∷ []))) refl
 
 -- ---- THE NEXT BOARD
@@ -154,7 +154,7 @@ module _ (b : struct.Board) (ids lens : List ℕ) (k : Known b ids lens) where
     renames = λ p old new can fit e. next_good _ ids lens refl fit (holds_renamed m ids lens f holds p can.has.inside new) k.ids_all k.lens_all;
     closes = λ p n can fit e. next_good _ ids lens refl fit (holds_idle m ids lens f holds p can.has.inside free_place refl) k.ids_all k.lens_all;
     takes =
-        λ p n r can fit e. next_good _ _ _ refl fit (holds-taken m ids lens f holds p can.has.inside r can.room k.ids_all k.lens_all)
+        λ p n r can fit e. next_good _ _ _ refl fit (holds_taken m ids lens f holds p can.has.inside r can.room k.ids_all k.lens_all)
         (length-set ids _ r.number ∙ k.ids_all) (length-set lens _ r.bytes ∙ k.lens_all);
     goes_on = λ p on fit e. absurd (true≢false e);
     begins = λ r t p on q fit e. absurd (true≢false e);

@@ -1,6 +1,7 @@
 // What the functions for C do, but for the pointers: the calls on tables of their one length, and the player's on a
 // feeder, with what C is told as one value. Each asks nothing and promises what the call below it promises.
 #![tactic(auto)]
+
 ghost use Rattle.std.specs.Prelude.{◌≡◌};
 ghost use Rattle.rules.specs.Blocks.{opening};
 ghost use Rattle.rules.specs.Calls.{open!, rename!, close!, record! };
@@ -261,7 +262,8 @@ fn reply_of(piece: Piece, f: Feeder) -> FeedReply
         taken: piece.taken,
         used: piece.used,
     };
-    if piece.code != codes::DONE {
+    let done = piece.code == codes::DONE;
+    if !done {
         return FeedReply {
             code: piece.code,
             fed: fed,

@@ -4,6 +4,7 @@
 // structs whole and returns the code. Its proof is a walk of these steps (tools/walks), so whatever is more stands in
 // the function of `c_calls` below it.
 #![tactic(auto)]
+
 ghost use Rattle.std.specs.Prelude.{◌≡◌, ◌≤◌, length, drop};
 ghost use Rattle.rules.specs.Blocks.{opening};
 ghost use Rattle.rules.specs.Calls.{open!, rename!, close!, record! };
@@ -22,8 +23,7 @@ use numbers::TABLE_ENTRIES;
 use player::{Piece, State};
 
 // A board is made, and both tables are cleared; a refusal leaves the board of all zeros.
-#[unsafe(no_mangle)]
-pub extern "C" fn box_make(
+pub fn box_make(
     b: &mut Board,
     ids: &mut [u32; TABLE_ENTRIES],
     lens: &mut [u16; TABLE_ENTRIES],
@@ -38,8 +38,7 @@ pub extern "C" fn box_make(
 }
 
 // A block opens, with this number and this share.
-#[unsafe(no_mangle)]
-pub extern "C" fn box_open(
+pub fn box_open(
     b: &mut Board,
     ids: &[u32; TABLE_ENTRIES],
     lens: &[u16; TABLE_ENTRIES],
@@ -55,8 +54,7 @@ pub extern "C" fn box_open(
 }
 
 // The block with the old number takes the new one.
-#[unsafe(no_mangle)]
-pub extern "C" fn box_rename(
+pub fn box_rename(
     b: &mut Board,
     ids: &[u32; TABLE_ENTRIES],
     lens: &[u16; TABLE_ENTRIES],
@@ -72,8 +70,7 @@ pub extern "C" fn box_rename(
 }
 
 // The block with this number closes.
-#[unsafe(no_mangle)]
-pub extern "C" fn box_close(
+pub fn box_close(
     b: &mut Board,
     ids: &[u32; TABLE_ENTRIES],
     lens: &[u16; TABLE_ENTRIES],
@@ -88,8 +85,7 @@ pub extern "C" fn box_close(
 }
 
 // A record comes for the block with this number.
-#[unsafe(no_mangle)]
-pub extern "C" fn box_record(
+pub fn box_record(
     b: &mut Board,
     ids: &mut [u32; TABLE_ENTRIES],
     lens: &mut [u16; TABLE_ENTRIES],
@@ -107,8 +103,7 @@ pub extern "C" fn box_record(
 }
 
 // The next record is sent, and C is told of it; after a refusal all that it is told is 0.
-#[unsafe(no_mangle)]
-pub extern "C" fn box_serve(
+pub fn box_serve(
     b: &mut Board,
     ids: &[u32; TABLE_ENTRIES],
     lens: &[u16; TABLE_ENTRIES],
@@ -124,8 +119,7 @@ pub extern "C" fn box_serve(
 }
 
 // Records are sent as long as the next one is no longer than what remains of the bytes and the list has room.
-#[unsafe(no_mangle)]
-pub extern "C" fn box_burst(
+pub fn box_burst(
     b: &mut Board,
     ids: &[u32; TABLE_ENTRIES],
     lens: &[u16; TABLE_ENTRIES],
@@ -145,8 +139,7 @@ pub extern "C" fn box_burst(
 
 // The next fragment of a log: what there is to list of it goes to the front of a lent buffer, and C is told how much of
 // the fragment was taken and how much was written.
-#[unsafe(no_mangle)]
-pub extern "C" fn box_feed(
+pub fn box_feed(
     feeder: &mut Feeder,
     ids: &mut [u32; TABLE_ENTRIES],
     lens: &mut [u16; TABLE_ENTRIES],
@@ -165,8 +158,7 @@ pub extern "C" fn box_feed(
 }
 
 // The end of a log: its last line goes to the front of a lent buffer, unless it is written.
-#[unsafe(no_mangle)]
-pub extern "C" fn box_finish(
+pub fn box_finish(
     feeder: &mut Feeder,
     ids: &[u32; TABLE_ENTRIES],
     lens: &[u16; TABLE_ENTRIES],
@@ -202,8 +194,7 @@ fn next_piece(
 }
 
 // The listing of a log, by pieces that each go through a lent buffer; the answer is how many bytes of it were written.
-#[unsafe(no_mangle)]
-pub extern "C" fn box_listing(log: &[u8], piece: &mut [u8], out: &mut [u8]) -> usize
+pub fn box_listing(log: &[u8], piece: &mut [u8], out: &mut [u8]) -> usize
     ensures { Listed log.now piece.old out.old result out.new }
 {
     let mut ids = [0u32; TABLE_ENTRIES];

@@ -43,10 +43,10 @@ module _ (b : struct.Board) (ids lens : List ℕ) (c : Call) where
 module _ (b : struct.Board) (ids lens : List ℕ) (code : ℕ) (e : code ≡ early_code b ids lens) where
   pub early_reply : (x : Single) → (code ≡ 0 → ⊥) → returned (replied code b) ids lens ≡ called b ids lens x
   unfolding called
-  early_reply x n = rw (e, call_early b ids lens (one x) (λ z. n (e ∙ z))) (refused-reply (early_code b ids lens) (λ z. n (e ∙ z)))
+  early_reply x n = rw (e, call_early b ids lens (one x) (λ z. n (e ∙ z))) (refused_reply (early_code b ids lens) (λ z. n (e ∙ z)))
     where
-      refused-reply : (k : ℕ) → (k ≡ 0 → ⊥) → returned (replied k b) ids lens ≡ written b ids lens (refused_by (lent b ids lens) (one x) k)
-      refused-reply k m = rw (eqb_no k 0 m)
+      refused_reply : (k : ℕ) → (k ≡ 0 → ⊥) → returned (replied k b) ids lens ≡ written b ids lens (refused_by (lent b ids lens) (one x) k)
+      refused_reply k m = rw (eqb_no k 0 m)
 
   pub early_serve : (code ≡ 0 → ⊥) → returned (not_served b code) ids lens ≡ called_serve b ids lens
   unfolding called_serve

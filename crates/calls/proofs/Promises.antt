@@ -34,9 +34,9 @@ module _ (b : struct.Board) (ids lens : List ℕ) (known : Known b ids lens) whe
   -- ---- A serve is one with room for a record and bytes for any
 
   module _ (bytes : ℕ) (enough : 65536 ≤ bytes) (w : Within) (w-is : w ≡ within b lens bytes 1) where
-    pub serve-stops : w.step.code ≢ 0 → not_served b w.step.code ≡ good_serve b ids lens
+    pub serve_stops : w.step.code ≢ 0 → not_served b w.step.code ≡ good_serve b ids lens
     unfolding good_serve
-    serve-stops ne = go (by_cases b ids lens known bytes 1 w w-is)
+    serve_stops ne = go (by_cases b ids lens known bytes 1 w w-is)
       where
         go : Stops m bytes 1 w ⊎ SendsOne m ids lens bytes 1 w → not_served b w.step.code ≡ good_serve b ids lens
         go (inr g) = absurd (ne g.code)
@@ -49,7 +49,7 @@ module _ (b : struct.Board) (ids lens : List ℕ) (known : Known b ids lens) whe
             why (inr (inr x)) = absurd (omega (arith, x.1, x.2))
 
     -- n is the board made again
-    pub serve-goes : w.step.code ≡ 0 → (n : struct.Board) → n ≡ with_engine b (engine_after w)
+    pub serve_goes : w.step.code ≡ 0 → (n : struct.Board) → n ≡ with_engine b (engine_after w)
         → record {
           code = 0;
           block = get_or b.numbers w.step.place 0;
@@ -60,7 +60,7 @@ module _ (b : struct.Board) (ids lens : List ℕ) (known : Known b ids lens) whe
           board = n;
         } ≡ good_serve b ids lens
     unfolding good_serve
-    serve-goes z n n-is = go (by_cases b ids lens known bytes 1 w w-is)
+    serve_goes z n n-is = go (by_cases b ids lens known bytes 1 w w-is)
       where
         go : Stops m bytes 1 w ⊎ SendsOne m ids lens bytes 1 w
             → ◌≡◌ {A = Served} (record {
@@ -208,19 +208,19 @@ module _ (b : struct.Board) (ids lens : List ℕ) (known : Known b ids lens) (by
     pub on_fits : w.step.bytes.0 ≤ bytes - total
     on_fits = rw goes.charge_is goes.fits
 
-    pub on-known : Known (with_engine b (engine_after w)) ids lens
-    on-known = subst (λ (c : struct.Board). Known c ids lens) (sym next_is) (known_next b ids lens known goes.holds)
+    pub on_known : Known (with_engine b (engine_after w)) ids lens
+    on_known = subst (λ (c : struct.Board). Known c ids lens) (sym next_is) (known_next b ids lens known goes.holds)
 
-    view-is : view (with_engine b (engine_after w)) ids lens ≡ (serve mb).next
-    view-is = ap (λ (c : struct.Board). view c ids lens) next_is ∙ view_encode (serve mb).next ids lens (fit_serve mb (fit b ids lens known)) goes.holds
+    view_is : view (with_engine b (engine_after w)) ids lens ≡ (serve mb).next
+    view_is = ap (λ (c : struct.Board). view c ids lens) next_is ∙ view_encode (serve mb).next ids lens (fit_serve mb (fit b ids lens known)) goes.holds
 
-    pub burst-on : burst_from b ids lens bytes count total list
+    pub burst_on : burst_from b ids lens bytes count total list
         ≡ burst_from (with_engine b (engine_after w)) ids lens bytes (count + 1) (total + w.step.bytes.0) (set list count (get_or ids w.step.entry 0))
     unfolding burst_from
-    burst-on =
+    burst_on =
         ap (then count total list) goes.burst_is
         ∙ sent_first_lem bytes count total list goes.sends.front on_room (serve mb).next (view (with_engine b (engine_after w)) ids lens) w.step.bytes.0
-        (get_or ids w.step.entry 0) view-is goes.charge_is goes.number_is
+        (get_or ids w.step.entry 0) view_is goes.charge_is goes.number_is
 
 -- so many serves leave a board whose lanes the tables hold
 burst_kept : (room bytes : ℕ) (m : Board.Board) (ids lens : List ℕ) → Fit m → Holds m ids lens

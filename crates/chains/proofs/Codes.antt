@@ -254,39 +254,39 @@ module _ (b : struct.Board) (ids lens : List ℕ) where
     abbrev Goal : Outcome → Type 0
     Goal o = Falls (code o) (lent_lines b ids lens (own o))
 
-    lent-falls : ((k : ℕ) → code (refused_by (lent b ids lens) c k) ≡ k) → (Known b ids lens → Falls (code (done! m c)) (own (done! m c)))
+    lent_falls : ((k : ℕ) → code (refused_by (lent b ids lens) c k) ≡ k) → (Known b ids lens → Falls (code (done! m c)) (own (done! m c)))
         → Goal (call (lent b ids lens) c)
     unfolding Falls call
-    lent-falls alone f = byT (wrong_tables (length ids) (length lens)) refl
+    lent_falls alone f = by_t (wrong_tables (length ids) (length lens)) refl
       where
-        byS : wrong_tables (length ids) (length lens) ≡ false → is_spelt b ids lens ≡ true → (t : Bool) → unspoilt m ≡ t
+        by_s : wrong_tables (length ids) (length lens) ≡ false → is_spelt b ids lens ≡ true → (t : Bool) → unspoilt m ≡ t
             → Goal (unless_spoilt (lent b ids lens) c (not t) m)
-        byS e s false u = inr (not_by (wrong_tables_lem ids lens) e, inl (λ z. false≢true (sym u ∙ z.keeps), alone 2))
-        byS e s true u = inr (not_by (wrong_tables_lem ids lens) e, inr (λ n. n known.sound, f known))
+        by_s e s false u = inr (not_by (wrong_tables_lem ids lens) e, inl (λ z. false≢true (sym u ∙ z.keeps), alone 2))
+        by_s e s true u = inr (not_by (wrong_tables_lem ids lens) e, inr (λ n. n known.sound, f known))
           where
             known : Known b ids lens
             known =
                 let sizes = right_tables (length ids) (length lens) e in
                 record { sound = record { spells = (spelt_decides b ids lens).yes s; keeps = u }; ids_all = sizes.0; lens_all = sizes.1 }
 
-        byB : wrong_tables (length ids) (length lens) ≡ false → (t : Bool) → is_spelt b ids lens ≡ t → Goal (by_board (lent b ids lens) c (cond t (some m) none))
-        byB e false s = inr (not_by (wrong_tables_lem ids lens) e, inl (λ z. not_by (spelt_decides b ids lens) s z.spells, alone 2))
-        byB e true s = byS e s (unspoilt m) refl
+        by_b : wrong_tables (length ids) (length lens) ≡ false → (t : Bool) → is_spelt b ids lens ≡ t → Goal (by_board (lent b ids lens) c (cond t (some m) none))
+        by_b e false s = inr (not_by (wrong_tables_lem ids lens) e, inl (λ z. not_by (spelt_decides b ids lens) s z.spells, alone 2))
+        by_b e true s = by_s e s (unspoilt m) refl
 
-        byT : (t : Bool) → wrong_tables (length ids) (length lens) ≡ t → Goal (by_tables (lent b ids lens) c t)
-        byT true e = inl ((wrong_tables_lem ids lens).yes e, alone 3)
-        byT false e = byB e (is_spelt b ids lens) refl
+        by_t : (t : Bool) → wrong_tables (length ids) (length lens) ≡ t → Goal (by_tables (lent b ids lens) c t)
+        by_t true e = inl ((wrong_tables_lem ids lens).yes e, alone 3)
+        by_t false e = by_b e (is_spelt b ids lens) refl
 
   known_tidy : Known b ids lens → Tidy (view b ids lens)
   known_tidy k = (fit_view b ids lens k.sound).tidy
 
   single_falls : (x : Single) (own : Lines) → (Tidy m → Falls (code_by m (step m x)) own) → Falls (called b ids lens x).reply.code (lent_lines b ids lens own)
   unfolding called
-  single_falls x own f = lent-falls (one x) (λ o. code_of o.answer) (λ o. own) (λ k. refl) (λ k. f (known_tidy k))
+  single_falls x own f = lent_falls (one x) (λ o. code_of o.answer) (λ o. own) (λ k. refl) (λ k. f (known_tidy k))
 
   called_serve_lem : Falls (called_serve b ids lens).reply.code (lent_lines b ids lens (serve_lines m))
   unfolding called_serve step
-  called_serve_lem = lent-falls (one serve!) (λ o. (served_by b o.answer (board_or m o.board)).code) (λ o. serve_lines m) (λ k. refl)
+  called_serve_lem = lent_falls (one serve!) (λ o. (served_by b o.answer (board_or m o.board)).code) (λ o. serve_lines m) (λ k. refl)
       (λ k. subst (λ (n : ℕ). Falls n (serve_lines m)) (code_is (serve m).out (serve_codes m)) (serve_falls m (known_tidy k)))
     where
       code_is : (o : Out) → ServeOut o → code_of (told m o) ≡ (served_by b (told m o) (serve m).next).code
@@ -300,7 +300,7 @@ module _ (b : struct.Board) (ids lens : List ℕ) where
       let r = w.reply.answer in
       Falls r.code (lent_lines b ids lens (burst_lines (view r.board w.ids w.lens) bytes list r.count r.bytes.0))
   unfolding called_burst good_burst
-  called_burst_lem bytes list = lent-falls (burst! bytes list)
+  called_burst_lem bytes list = lent_falls (burst! bytes list)
       (λ o. (bursted_by b o.answer o.board o.list).answer.code)
       (λ o. let r = (bursted_by b o.answer o.board o.list).answer in
       burst_lines (view r.board (ids_after o.entries ids) (lens_after o.entries lens)) bytes list r.count r.bytes.0)

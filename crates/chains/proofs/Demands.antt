@@ -368,11 +368,11 @@ some_wait_lem : (l : List Place) (p : ℕ) → 1 ≤ length (get_or l p free_pla
 unfolding some_wait
 some_wait_lem [] p w = absurd (omega arith)
 some_wait_lem (x ∷ xs) zero w = rw (leb_yes 1 (length x.lane) w)
-some_wait_lem (x ∷ xs) (suc p) w = rw (some_wait_lem xs p w) (or-true (waits x))
+some_wait_lem (x ∷ xs) (suc p) w = rw (some_wait_lem xs p w) (or_true (waits x))
   where
-    or-true : (t : Bool) → t || true ≡ true
-    or-true true = refl
-    or-true false = refl
+    or_true : (t : Bool) → t || true ≡ true
+    or_true true = refl
+    or_true false = refl
 
 -- a block of which not all was sent makes every serve send, or give 11
 serve_waiting : (L : ℕ) (given : Opening) (st : Story) (last : Option ℕ) (f : Holding) → Life L given st last f → st.closed ≡ false → st.taken ≢ st.sent
@@ -423,13 +423,13 @@ burst_sends L given st last s f g cs told bytes list r made! chain d l c ne = go
     code : r.code ≡ B.code
     code = ap code_of w.told!
 
-    stops-by : (answer (reads g) serve! ≡ gives 11) ⊎ ((z : Sent) × (answer (reads g) serve! ≡ sends z)) → answer (reads g) serve! ≡ gives B.code
+    stops_by : (answer (reads g) serve! ≡ gives 11) ⊎ ((z : Sent) × (answer (reads g) serve! ≡ sends z)) → answer (reads g) serve! ≡ gives B.code
         → r.code ≡ 11
-    stops-by (inl e) q = code ∙ ap code_of (sym q ∙ e)
-    stops-by (inr (z, e)) q = absurd (false≢true (ap is_send (sym q ∙ e)))
+    stops_by (inl e) q = code ∙ ap code_of (sym q ∙ e)
+    stops_by (inr (z, e)) q = absurd (false≢true (ap is_send (sym q ∙ e)))
 
     go : Promised.Stopped bytes (length list) B → (r.code ≡ 11) ⊎ (((r.code ≡ 14) × (r.count ≡ length list)) ⊎ (r.code ≡ 13))
-    go (Promised.by_call q) = inl (stops-by (serve_waiting L given st last g l c ne) (ap (λ (b : Board.Board). answer b serve!) w.after ∙ q))
+    go (Promised.by_call q) = inl (stops_by (serve_waiting L given st last g l c ne) (ap (λ (b : Board.Board). answer b serve!) w.after ∙ q))
     go (Promised.by_list z q n e) = inr (inl (code ∙ e, ap count_by w.told! ∙ n))
     go (Promised.by_bytes z q n m e) = inr (inr (code ∙ e))
 
@@ -444,7 +444,7 @@ last_same {v = v} {b = b} e f s = subst (LastSend v) f (subst (λ (o : Option �
 
 pub life_last : (L : ℕ) (given : Opening) (st : Story) (last : Option ℕ) (e : Holding) → Life L given st last e → LastSend last (reads e)
 life_last L given st last e l =
-    last_same (ap (last_slot l.first) (sym at-end.answers) ∙ l.latest) (sym at-end.board)
+    last_same (ap (last_slot l.first) (sym at_end.answers) ∙ l.latest) (sym at_end.board)
     (last_play l.first (reads l.opening) l.xs (at_tidy L l.opening o) opening)
   where
     w : Opened L given l.first l.opening
@@ -459,8 +459,8 @@ life_last L given st last e l =
     o : At L l.opening
     o = at_did L h w.opens
 
-    at-end : Along (reads l.opening) l.xs l.said e
-    at-end = along l.xs o.good l.row.singles
+    at_end : Along (reads l.opening) l.xs l.said e
+    at_end = along l.xs o.good l.row.singles
 
     a : Along (reads w.start) w.xs w.said w.before
     a = along w.xs m.good w.row.singles
@@ -471,7 +471,7 @@ life_last L given st last e l =
     before : LastSend l.first (reads w.before)
     before =
         last_same (ap (last_slot none) (sym a.answers) ∙ w.latest) (sym a.board)
-        (last_play none (reads w.start) w.xs (at_tidy L w.start m) (last_same refl (sym (made_fresh L w.start w.made)) (last_fresh L)))
+        (last_play none (reads w.start) w.xs (at_tidy L w.start m) (last_same {u = none} refl (sym (made_fresh L w.start w.made)) (last_fresh L)))
 
     opening : LastSend l.first (reads l.opening)
     opening =

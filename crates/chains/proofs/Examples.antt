@@ -196,9 +196,9 @@ heard_ruled L c w p = λ j. record {
   at = at! j;
   during = during! j;
   rest = rest! j;
-  was = clock-of p.f f j;
-  now = clock-of p.g g j;
-  then = clock-of p.h h j;
+  was = clock_of p.f f j;
+  now = clock_of p.g g j;
+  then = clock_of p.h h j;
 }
   where
     before : At L p.before
@@ -250,14 +250,14 @@ heard_ruled L c w p = λ j. record {
     h : reads p.h ≡ end_by L w
     h = l.board ∙ ap (λ (b : Board.Board). play b w.during) g
 
-    at-h : At L p.h
-    at-h = at_on L (at_did L at_f p.did) p.lasting
+    at_h : At L p.h
+    at_h = at_on L (at_did L at_f p.did) p.lasting
 
     rest! : p.rest_said ≡ said_of (end_by L w) w.rest
-    rest! = (along w.rest at-h.good p.to_finish).answers ∙ ap (λ (b : Board.Board). said_of b w.rest) h
+    rest! = (along w.rest at_h.good p.to_finish).answers ∙ ap (λ (b : Board.Board). said_of b w.rest) h
 
-    clock-of : (e : Holding) {b : Board.Board} → reads e ≡ b → clock e ≡ b.clock
-    clock-of e q = sym (clock_reads e) ∙ ap (λ (b : Board.Board). b.clock) q
+    clock_of : (e : Holding) {b : Board.Board} → reads e ≡ b → clock e ≡ b.clock
+    clock_of e q = sym (clock_reads e) ∙ ap (λ (b : Board.Board). b.clock) q
 
 -- a passage of a chain of these calls
 pub record Passing (L : ℕ) (cs : List Call) (w : Parting) : Type 0 where
@@ -349,7 +349,7 @@ computed = record {
   bursts_told = refl;
   second_parts = record { calls = refl; opens = refl };
   second_passed = record {
-    front = record { still = refl; comes = next_up (out 12 5 100 5) refl (λ e. three-one (ap length e)); unsent = (refl, (refl, (refl, (refl, tt)))) };
+    front = record { still = refl; comes = next_up (out 12 5 100 5) refl (λ e. three_one (ap length e)); unsent = (refl, (refl, (refl, (refl, tt)))) };
     not_spent = (not11, (not11, (not11, (not11, tt))));
     others = refl;
     calls = refl;
@@ -363,8 +363,8 @@ computed = record {
       start = (1, refl);
       early = omega arith;
       reached = omega arith;
-      before = λ e. three-none (ap length e);
-      after = inl (λ e. three-none (ap length e));
+      before = λ e. three_none (ap length e);
+      after = inl (λ e. three_none (ap length e));
     };
     ends = omega arith;
   };
@@ -376,7 +376,7 @@ computed = record {
       start = (4, refl);
       early = omega arith;
       reached = omega arith;
-      before = λ e. four-three (ap length e);
+      before = λ e. four_three (ap length e);
       after = inr (refl, omega arith);
     };
     ends = omega arith;
@@ -398,14 +398,14 @@ computed = record {
   burst_each_row = refl;
 }
   where
-    three-one : ◌≢◌ {A = ℕ} 3 1
-    three-one e = omega arith
+    three_one : ◌≢◌ {A = ℕ} 3 1
+    three_one e = omega arith
 
-    three-none : ◌≢◌ {A = ℕ} 3 0
-    three-none e = omega arith
+    three_none : ◌≢◌ {A = ℕ} 3 0
+    three_none e = omega arith
 
-    four-three : ◌≢◌ {A = ℕ} 4 3
-    four-three e = omega arith
+    four_three : ◌≢◌ {A = ℕ} 4 3
+    four_three e = omega arith
 
 -- ---- so every chain of these calls answers this
 

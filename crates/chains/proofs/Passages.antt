@@ -69,7 +69,7 @@ has_passage L c w e q = record {
   during_said = l.said₁;
   rest_said = l.said₂;
   calls = e;
-  answers = from-opening ∙ ap₂ (λ (a : Answer) (r : List Answer). p.said₁ ++ (a ∷ r)) zero! from-call;
+  answers = from_opening ∙ ap₂ (λ (a : Answer) (r : List Answer). p.said₁ ++ (a ∷ r)) zero! from_call;
   before = p.middle;
   opened = o.middle;
   f = s.middle;
@@ -101,16 +101,16 @@ has_passage L c w e q = record {
     l : Parted d.middle w.during w.rest d.then c.finish
     l = parted w.during w.rest d.on
 
-    from-opening : c.said ≡ p.said₁ ++ (o.a ∷ o.then)
-    from-opening = p.is ∙ ap (λ (r : List Answer). p.said₁ ++ r) o.is
+    from_opening : c.said ≡ p.said₁ ++ (o.a ∷ o.then)
+    from_opening = p.is ∙ ap (λ (r : List Answer). p.said₁ ++ r) o.is
 
-    from-call : o.then ≡ s.said₁ ++ (d.a ∷ (l.said₁ ++ l.said₂))
-    from-call = s.is ∙ ap (λ (r : List Answer). s.said₁ ++ r) (d.is ∙ ap (λ (r : List Answer). d.a ∷ r) l.is)
+    from_call : o.then ≡ s.said₁ ++ (d.a ∷ (l.said₁ ++ l.said₂))
+    from_call = s.is ∙ ap (λ (r : List Answer). s.said₁ ++ r) (d.is ∙ ap (λ (r : List Answer). d.a ∷ r) l.is)
 
     zero! : o.a ≡ gives 0
     zero! =
         sym (get_or-append_seam p.said₁ o.a o.then (gives 1))
-        ∙ ap₂ (λ (said : List Answer) (i : ℕ). get_or said i (gives 1)) (sym from-opening) p.as_long
+        ∙ ap₂ (λ (said : List Answer) (i : ℕ). get_or said i (gives 1)) (sym from_opening) p.as_long
         ∙ q
 
 -- ---- its moments have their lives

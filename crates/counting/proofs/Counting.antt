@@ -139,15 +139,15 @@ pub closed_reads : (q : ℕ) (t : Tallies) → TalliesSized t → q < 64 → (p 
 unfolding vanished_in
 closed_reads q t z h p = go (ℕ_discrete p q)
   where
-    zero-here : (l : List ℕ) → length l ≡ 64 → get_or (set l q 0) q 0 ≡ 0
-    zero-here l e = get_or-set_same l q 0 0 (omega (arith, e))
+    zero_here : (l : List ℕ) → length l ≡ 64 → get_or (set l q 0) q 0 ≡ 0
+    zero_here l e = get_or-set_same l q 0 0 (omega (arith, e))
 
     after : ℕ → Account
     after i = account_with (get_or (set t.slots q 0) i 0) (get_or (set t.credits q 0) i 0) (get_or (set t.bytes q 0) i 0) (get_or (set t.lost q 0) i 0)
 
     here : after q ≡ no_account
     here =
-        same_account (zero-here t.slots z.slots) (zero-here t.credits z.credits) (zero-here t.bytes z.bytes) (zero-here t.lost z.lost)
+        same_account (zero_here t.slots z.slots) (zero_here t.credits z.credits) (zero_here t.bytes z.bytes) (zero_here t.lost z.lost)
 
     other : p ≢ q → after p ≡ account_now t p
     other n =

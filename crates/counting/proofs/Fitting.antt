@@ -122,11 +122,11 @@ module _ (b : struct.Board) (ids lens : List ℕ) (k : Known b ids lens) where
       free : at m p ≡ free_place
       free = get_or-eq_default m.places free_place (omega (arith, f.tidy.shape.all64))
 
-      none-at : (l : List ℕ) → length l ≡ 64 → get_or l p 0 ≡ 0
-      none-at l e = get_or-eq_default l 0 (omega (arith, e))
+      none_at : (l : List ℕ) → length l ≡ 64 → get_or l p 0 ≡ 0
+      none_at l e = get_or-eq_default l 0 (omega (arith, e))
 
       counted : account_now t p ≡ no_account
-      counted = same_account (none-at t.slots z.slots) (none-at t.credits z.credits) (none-at t.bytes z.bytes) (none-at t.lost z.lost)
+      counted = same_account (none_at t.slots z.slots) (none_at t.credits z.credits) (none_at t.bytes z.bytes) (none_at t.lost z.lost)
 
 -- a flag, or a test of the first n numbers, where the later ones pass it
 or_all : (full : Bool) (n : ℕ) (t : ℕ → Bool) → ((p : ℕ) → n ≤ p → t p ≡ true) → Decides (full || all_below n t) (full ≡ false → (p : ℕ) → t p ≡ true)

@@ -92,10 +92,10 @@ ServesTo x t = is_serve x ≡ true → serves_to t.out ≡ true
 
 pub serves_to_lem : (m : Board.Board) → Tidy m → serves_to (step m serve!).out ≡ true
 unfolding send
-serves_to_lem m t = by-case serve! refl
+serves_to_lem m t = by_case serve! refl
   where
-    by-case : (x : Single) → ServesTo x (step m x)
-    by-case = call_cases m t ServesTo (record {
+    by_case : (x : Single) → ServesTo x (step m x)
+    by_case = call_cases m t ServesTo (record {
       refused = λ x code n e. ap not (refusal_not0 code n);
       opens = λ o can e. absurd (false≢true e);
       renames = λ p old new can e. absurd (false≢true e);
@@ -224,16 +224,16 @@ module _ (s : Holding) (k : Known s.board s.ids s.lens) where
 
   -- w is what serving gives, with bytes for any record and room for one
   module _ (w : Within) (w-is : w ≡ within b s.lens 65536 1) where
-    abbrev next-board : struct.Board
-    next-board = with_engine b (engine_after w)
+    abbrev next_board : struct.Board
+    next_board = with_engine b (engine_after w)
 
     abbrev held : Holding
-    held = holding next-board s.ids s.lens
+    held = holding next_board s.ids s.lens
 
     -- what is to be shown of it
     record ServeIs : Type 0 where
-      good : Known next-board s.ids s.lens
-      next : view next-board s.ids s.lens ≡ (serve m).next
+      good : Known next_board s.ids s.lens
+      next : view next_board s.ids s.lens ≡ (serve m).next
       tells : w.step ≡ step_of (code_of (told m (serve m).out)) (told_by (serve m).out) w.step.after
       sends : (x : Sending) → (serve m).out ≡ sent x → SendSeen m x held
 

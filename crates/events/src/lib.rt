@@ -2,9 +2,10 @@
 // written, so that a listing and a report go by the same step. The board is not tested here: whoever goes from field to
 // field tests it once, and each step leaves it good.
 #![tactic(auto)]
+
 ghost use Rattle.std.specs.Prelude.{◌≡◌, false};
 ghost use Rattle.log_bytes.specs.Format.{is_l};
-ghost use Rattle.board.specs.Memory.{numbers_now, board_now, Holding, holding};
+ghost use Rattle.board.specs.Memory.{numbers_now, board_now, holding};
 ghost use Rattle.board.specs.Leaving.{Known};
 ghost use Rattle.events.specs.Events.{Acted};
 
@@ -13,7 +14,7 @@ use numbers::{CLASSES, PLACES, codes};
 use serving::Step;
 use units::{Bytes, Parts};
 
-// One field after L: what it says is done. The contract names what is held at entry once, as `before`.
+// One field after L: what it says is done.
 pub fn act(
     event: Event,
     largest: u32,
@@ -35,15 +36,20 @@ pub fn act(
     ids: &mut [u32],
     lens: &mut [u16],
 ) -> Step
-    ghost before: { Holding }
-    requires lens_value { holding
+    requires { let before = holding
         (board_now numbers.old shares.old starts.old counts.old
         deficits.old ready.old next.old
         heads.old tails.old held.old
         largest (numbers_now clock active pending slot left.0))
-        ids.old lens.old ≡ before }
-    requires known { Known before.board before.ids before.lens × (is_l event ≡ false) }
-    ensures { let after = holding
+        ids.old lens.old in
+        Known before.board before.ids before.lens × (is_l event ≡ false) }
+    ensures { let before = holding
+        (board_now numbers.old shares.old starts.old counts.old
+        deficits.old ready.old next.old
+        heads.old tails.old held.old
+        largest (numbers_now clock active pending slot left.0))
+        ids.old lens.old in
+        let after = holding
         (board_now numbers.new shares.new starts.new counts.new
         deficits.new ready.new next.new
         heads.new tails.new held.new

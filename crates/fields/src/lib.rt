@@ -1,12 +1,13 @@
 // One field of a log played: what it says is done (crate events), and its line is put behind what is written. The board
 // is not tested here: whoever goes from field to field tests it once, and each step leaves it good.
 #![tactic(auto)]
+
 ghost use Rattle.std.specs.Prelude.{◌≡◌, false, ◌+◌, ◌^◌, ◌<◌, ◌≤◌, length};
 ghost use Rattle.log_bytes.specs.Format.{is_l};
 ghost use Rattle.lines.specs.Text.{Written};
 ghost use Rattle.listing_rules.specs.Listing.{last_of};
 ghost use Rattle.board.specs.Memory.{numbers_now, board_now};
-ghost use Rattle.fields.specs.Fields.{Memory, memory, KnownMemory, FieldPlayed, shown_line, event_line};
+ghost use Rattle.fields.specs.Fields.{memory, KnownMemory, FieldPlayed, shown_line, event_line};
 
 use board::After;
 use log_bytes::{End, Event};
@@ -78,8 +79,7 @@ fn show_field(
     }
 }
 
-// One field after L: what it says is done, and its line is put behind what is written. The contract names what stands
-// in memory at entry once, as `before`.
+// One field after L: what it says is done, and its line is put behind what is written.
 pub fn play_field(
     event: Event,
     sent: Bytes,
@@ -104,16 +104,21 @@ pub fn play_field(
     out: &mut [u8],
     used: usize,
 ) -> Moved
-    ghost before: { Memory }
-    requires sent_value { memory
+    requires known_memory { let before = memory
         (board_now numbers.old shares.old starts.old counts.old
         deficits.old ready.old next.old
         heads.old tails.old held.old
         largest (numbers_now clock active pending slot left.0))
-        ids.old lens.old sent.0 ≡ before }
-    requires known_memory { KnownMemory before × ((sent.0 < 2 ^ 63) × (is_l event ≡ false)) }
+        ids.old lens.old sent.0 in
+        KnownMemory before × ((sent.0 < 2 ^ 63) × (is_l event ≡ false)) }
     requires used_in_bounds { used + 64 ≤ length out.old }
-    ensures { let after = memory
+    ensures { let before = memory
+        (board_now numbers.old shares.old starts.old counts.old
+        deficits.old ready.old next.old
+        heads.old tails.old held.old
+        largest (numbers_now clock active pending slot left.0))
+        ids.old lens.old sent.0 in
+        let after = memory
         (board_now numbers.new shares.new starts.new counts.new
         deficits.new ready.new next.new
         heads.new tails.new held.new

@@ -72,8 +72,8 @@ module _ (at : ℕ) (stage : Stage) (kept : List ℕ) (came : ℕ) (part : List 
 
   -- where it is known by a list that is looked at alike
   module _ (bytes : List ℕ) (looks : (later : List ℕ) → LooksAt now bytes (joined kept came part later)) where
-    pub known-goes : (e : Event) (size : ℕ) → next_in at bytes now stage ≡ GoesOn e size → came < size → GoesOnWith at stage kept came part e size
-    known-goes e size q l =
+    pub known_goes : (e : Event) (size : ℕ) → next_in at bytes now stage ≡ GoesOn e size → came < size → GoesOnWith at stage kept came part e size
+    known_goes e size q l =
         let w = whole_is at bytes now stage e size q in
         record {
           begins = l;
@@ -86,15 +86,15 @@ module _ (at : ℕ) (stage : Stage) (kept : List ℕ) (came : ℕ) (part : List 
               (omega (arith, joined_length later, fits)) q whole_part;
         }
 
-    pub known-ends : (e : End) → next_in at bytes now stage ≡ Ends e → (later : List ℕ) → next_of at (joined kept came part later) stage ≡ Ends e
-    known-ends e q later =
+    pub known_ends : (e : End) → next_in at bytes now stage ≡ Ends e → (later : List ℕ) → next_of at (joined kept came part later) stage ≡ Ends e
+    known_ends e q later =
         known_of at bytes (joined kept came part later) now stage (Ends e) (looks later) (omega (arith, joined_length later, fits)) q ends_part
 
   -- and where it is not finished
   module _ (after : List ℕ) (few : tag < 128 → now ≤ 13) (tagged : tag_in after ≡ tag) (b : Behind kept came part (kept_of tag now) after)
       (q : next_in at after now stage ≡ Unfinished now) where
-    pub known-part : KeptOn at stage kept came part now after
-    known-part = record { moves = onward; ends = fits; fit = q; same = b.same; is = read }
+    pub known_part : KeptOn at stage kept came part now after
+    known_part = record { moves = onward; ends = fits; fit = q; same = b.same; is = read }
       where
         here : (later : List ℕ) → List ℕ
         here later = joined after now (drop (now - came) part) later
@@ -150,8 +150,8 @@ known_on : (at : ℕ) (stage : Stage) (kept : List ℕ) (came : ℕ) (part bytes
     → ((n : ℕ) → next ≡ Unfinished n → KeptOn at stage kept came part n after) → length after ≡ length kept
     → ReadOn at stage kept came part next after
 known_on at stage kept came part bytes now next after room! fits onward looks is begins more! same = record {
-  goes = λ e size q. known-goes at stage kept came part now 0 room! fits onward bytes looks e size (sym is ∙ q) (begins e size (sym is ∙ q));
-  ends = λ e q. known-ends at stage kept came part now 0 room! fits onward bytes looks e (sym is ∙ q);
+  goes = λ e size q. known_goes at stage kept came part now 0 room! fits onward bytes looks e size (sym is ∙ q) (begins e size (sym is ∙ q));
+  ends = λ e q. known_ends at stage kept came part now 0 room! fits onward bytes looks e (sym is ∙ q);
   more = more!;
   room = same;
 }
@@ -175,7 +175,7 @@ module _ (at : ℕ) (stage : Stage) (kept part : List ℕ) (next : Next) (room :
   pub first_read : (after : List ℕ) → FirstKept kept part after → ReadOn at stage kept 0 part next after
   first_read after k =
       known_on at stage kept 0 part part (length part) next after room (omega arith) some looks_first is begins_first
-      (λ m h. known-part at stage kept 0 part m (tag_in part) room (fits m h) (onward m h) after (λ t. (first_few at stage part next is m h).1 t) (tagged m h)
+      (λ m h. known_part at stage kept 0 part m (tag_in part) room (fits m h) (onward m h) after (λ t. (first_few at stage part next is m h).1 t) (tagged m h)
       (behind m h) (unfinished m h)) k.same
     where
       fits : (m : ℕ) → next ≡ Unfinished m → m ≤ 0 + length part
@@ -262,7 +262,7 @@ module _ (at : ℕ) (stage : Stage) (kept : List ℕ) (came : ℕ) (part : List 
           let q : next_in at after now stage ≡ Unfinished n = sym is ∙ h in
           let e : n ≡ now = (part_is at after now stage n q).same in
           subst (λ (k : ℕ). KeptOn at stage kept came part k after) (sym e)
-          (known-part at stage kept came part now (tag_in kept) room fits onward after few tagged b (q ∙ ap Unfinished e))
+          (known_part at stage kept came part now (tag_in kept) room fits onward after few tagged b (q ∙ ap Unfinished e))
 
 -- ---- at the log's end what is kept is all that has come
 

@@ -1,5 +1,6 @@
 // Lanes: the run of entries that each place has in the two tables, used as a ring. No other crate knows its depth.
 #![tactic(auto)]
+
 ghost use Rattle.std.specs.Prelude.{◌≡◌, ◌<◌, ◌≤◌};
 ghost use Rattle.lanes.specs.Lanes.{ring_entry, ring_on, lane_depth, lane_first, lane_entry, lane_on};
 

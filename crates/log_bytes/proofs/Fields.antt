@@ -95,9 +95,9 @@ module _ (at : ℕ) (bytes : List ℕ) (came : ℕ) (stage : Stage) where
       rw (h, two, last)
 
   module _ (a : is_read at came 0 ≡ true) where
-    pub found-tag : right_tag (tag_in bytes) stage ≡ false → Ends (broken at) ≡ next_in at bytes came stage
+    pub found_tag : right_tag (tag_in bytes) stage ≡ false → Ends (broken at) ≡ next_in at bytes came stage
     unfolding next_in is_broken
-    found-tag t = rw (a, t)
+    found_tag t = rw (a, t)
 
     module _ (t : right_tag (tag_in bytes) stage ≡ true) where
       pub found_part : is_read at came 2 ≡ false → not_known at came ≡ next_in at bytes came stage
@@ -107,23 +107,23 @@ module _ (at : ℕ) (bytes : List ℕ) (came : ℕ) (stage : Stage) where
           rw (a, t, h, last)
 
       module _ (b : is_read at came 2 ≡ true) (n : ℕ) (q : n ≡ length_in bytes) where
-        pub found-length : right_length (tag_in bytes) n ≡ false → Ends (broken at) ≡ next_in at bytes came stage
+        pub found_length : right_length (tag_in bytes) n ≡ false → Ends (broken at) ≡ next_in at bytes came stage
         unfolding next_in is_broken
-        found-length r = rw (a, t, b, ← q, r)
+        found_length r = rw (a, t, b, ← q, r)
 
         module _ (r : right_length (tag_in bytes) n ≡ true) where
-          pub found-cut : is_read at came (2 + n) ≡ false → not_known at came ≡ next_in at bytes came stage
+          pub found_cut : is_read at came (2 + n) ≡ false → not_known at came ≡ next_in at bytes came stage
           unfolding next_in is_broken is_whole
-          found-cut h = rw (a, t, b, ← q, r, h)
+          found_cut h = rw (a, t, b, ← q, r, h)
 
           module _ (c : is_read at came (2 + n) ≡ true) (e : Event) (x : e ≡ event_in bytes) where
             pub found_turn : in_turn e stage ≡ false → Ends (broken at) ≡ next_in at bytes came stage
             unfolding next_in is_broken
             found_turn u = rw (a, t, b, ← q, r, c, ← x, u)
 
-            pub found-whole : in_turn e stage ≡ true → GoesOn e (3 + n) ≡ next_in at bytes came stage
+            pub found_whole : in_turn e stage ≡ true → GoesOn e (3 + n) ≡ next_in at bytes came stage
             unfolding next_in is_broken is_whole
-            found-whole u = rw (a, t, b, ← q, r, c, ← x, u)
+            found_whole u = rw (a, t, b, ← q, r, c, ← x, u)
 
 -- ---- the tag
 
@@ -203,7 +203,7 @@ event_fits tag n came room r l (inr h) = omega (arith, length_most tag, h)
 -- ---- as bytes come
 
 pub tag_seen : TagSeen
-tag_seen at bytes stage l t = sym (found-tag at bytes 1 stage (read_is at 1 0 (omega arith) (omega (arith, l))) t)
+tag_seen at bytes stage l t = sym (found_tag at bytes 1 stage (read_is at 1 0 (omega arith) (omega (arith, l))) t)
 
 pub length_seen : LengthSeen
 length_seen at bytes stage l r = go (right_tag (tag_in bytes) stage) refl
@@ -215,8 +215,8 @@ length_seen at bytes stage l r = go (right_tag (tag_in bytes) stage) refl
     third = read_is at 3 2 (omega arith) (omega (arith, l))
 
     go : (t : Bool) → right_tag (tag_in bytes) stage ≡ t → next_in at bytes 3 stage ≡ Ends (broken at)
-    go true t = sym (found-length at bytes 3 stage first t third (length_in bytes) refl r)
-    go false t = sym (found-tag at bytes 3 stage first t)
+    go true t = sym (found_length at bytes 3 stage first t third (length_in bytes) refl r)
+    go false t = sym (found_tag at bytes 3 stage first t)
 
 not_known_part : (at came : ℕ) → at + came ≤ 2 ^ 48 → not_known at came ≡ Unfinished came
 not_known_part at came l = rw (past_not at came (omega (arith, l)))
@@ -233,7 +233,7 @@ cut_unknown at bytes came stage l tag len = go (is_read at came 0) (is_read at c
     go true true p q (inr t) (inl z) = absurd (let r = read_only at came 2 q in omega (arith, r.0, z))
     go true true p q (inr t) (inr z) =
         let last = unread_is at came (2 + length_in bytes) (inl (omega (arith, z.1))) in
-        sym (found-cut at bytes came stage p t q (length_in bytes) refl z.0 last) ∙ not_known_part at came l
+        sym (found_cut at bytes came stage p t q (length_in bytes) refl z.0 last) ∙ not_known_part at came l
 
 -- What is known of two fields by the same tests is the same, if a law says what it is by each test. The second may have
 -- more bytes, where the first is known.
@@ -270,19 +270,19 @@ stays_known at bytes came more stage l known = go (is_read at came 0) (right_tag
         → next_in at bytes more stage ≡ next_in at bytes came stage
     go false t b r c u pa pt pb pr pc pu = same 0 pa (found_none at bytes came stage pa) (found_none at bytes more stage)
     go true false b r c u pa pt pb pr pc pu =
-        sym (found-tag at bytes more stage (on 0 pa) pt) ∙ found-tag at bytes came stage pa pt
+        sym (found_tag at bytes more stage (on 0 pa) pt) ∙ found_tag at bytes came stage pa pt
     go true true false r c u pa pt pb pr pc pu =
         same 2 pb (found_part at bytes came stage pa pt pb) (found_part at bytes more stage (on 0 pa) pt)
     go true true true false c u pa pt pb pr pc pu =
-        sym (found-length at bytes more stage (on 0 pa) pt (on 2 pb) n refl pr) ∙ found-length at bytes came stage pa pt pb n refl pr
+        sym (found_length at bytes more stage (on 0 pa) pt (on 2 pb) n refl pr) ∙ found_length at bytes came stage pa pt pb n refl pr
     go true true true true false u pa pt pb pr pc pu =
-        same (2 + n) pc (found-cut at bytes came stage pa pt pb n refl pr pc) (found-cut at bytes more stage (on 0 pa) pt (on 2 pb) n refl pr)
+        same (2 + n) pc (found_cut at bytes came stage pa pt pb n refl pr pc) (found_cut at bytes more stage (on 0 pa) pt (on 2 pb) n refl pr)
     go true true true true true false pa pt pb pr pc pu =
         sym (found_turn at bytes more stage (on 0 pa) pt (on 2 pb) n refl pr (on (2 + n) pc) (event_in bytes) refl pu)
         ∙ found_turn at bytes came stage pa pt pb n refl pr pc (event_in bytes) refl pu
     go true true true true true true pa pt pb pr pc pu =
-        sym (found-whole at bytes more stage (on 0 pa) pt (on 2 pb) n refl pr (on (2 + n) pc) (event_in bytes) refl pu)
-        ∙ found-whole at bytes came stage pa pt pb n refl pr pc (event_in bytes) refl pu
+        sym (found_whole at bytes more stage (on 0 pa) pt (on 2 pb) n refl pr (on (2 + n) pc) (event_in bytes) refl pu)
+        ∙ found_whole at bytes came stage pa pt pb n refl pr pc (event_in bytes) refl pu
 
 -- ---- what is looked at
 
@@ -354,22 +354,22 @@ known_by_looks at a b came stage looks = go (is_read at came 0) (right_tag (tag_
         → is_read at came (2 + n) ≡ c → in_turn (event_in a) stage ≡ u → next_in at a came stage ≡ next_in at b came stage
     go false t q r c u ep et eq er ec eu = sym (found_none at a came stage ep) ∙ found_none at b came stage ep
     go true false q r c u ep et eq er ec eu =
-        sym (found-tag at a came stage ep et) ∙ found-tag at b came stage ep (ap (λ (x : ℕ). right_tag x stage) (sym (tagged ep)) ∙ et)
+        sym (found_tag at a came stage ep et) ∙ found_tag at b came stage ep (ap (λ (x : ℕ). right_tag x stage) (sym (tagged ep)) ∙ et)
     go true true false r c u ep et eq er ec eu =
         sym (found_part at a came stage ep et eq) ∙ found_part at b came stage ep (ap (λ (x : ℕ). right_tag x stage) (sym (tagged ep)) ∙ et) eq
     go true true true false c u ep et eq er ec eu =
-        sym (found-length at a came stage ep et eq n refl er)
-        ∙ found-length at b came stage ep (ap (λ (x : ℕ). right_tag x stage) (sym (tagged ep)) ∙ et) eq n (sized eq)
+        sym (found_length at a came stage ep et eq n refl er)
+        ∙ found_length at b came stage ep (ap (λ (x : ℕ). right_tag x stage) (sym (tagged ep)) ∙ et) eq n (sized eq)
         (ap (λ (x : ℕ). right_length x n) (sym (tagged ep)) ∙ er)
     go true true true true false u ep et eq er ec eu =
-        sym (found-cut at a came stage ep et eq n refl er ec)
-        ∙ found-cut at b came stage ep (ap (λ (x : ℕ). right_tag x stage) (sym (tagged ep)) ∙ et) eq n (sized eq)
+        sym (found_cut at a came stage ep et eq n refl er ec)
+        ∙ found_cut at b came stage ep (ap (λ (x : ℕ). right_tag x stage) (sym (tagged ep)) ∙ et) eq n (sized eq)
         (ap (λ (x : ℕ). right_length x n) (sym (tagged ep)) ∙ er) ec
     go true true true true true false ep et eq er ec eu =
         sym (found_turn at a came stage ep et eq n refl er ec (event_in a) refl eu)
         ∙ found_turn at b came stage ep (ap (λ (x : ℕ). right_tag x stage) (sym (tagged ep)) ∙ et) eq n (sized eq)
         (ap (λ (x : ℕ). right_length x n) (sym (tagged ep)) ∙ er) ec (event_in a) (said (tagged ep) er ec) eu
     go true true true true true true ep et eq er ec eu =
-        sym (found-whole at a came stage ep et eq n refl er ec (event_in a) refl eu)
-        ∙ found-whole at b came stage ep (ap (λ (x : ℕ). right_tag x stage) (sym (tagged ep)) ∙ et) eq n (sized eq)
+        sym (found_whole at a came stage ep et eq n refl er ec (event_in a) refl eu)
+        ∙ found_whole at b came stage ep (ap (λ (x : ℕ). right_tag x stage) (sym (tagged ep)) ∙ et) eq n (sized eq)
         (ap (λ (x : ℕ). right_length x n) (sym (tagged ep)) ∙ er) ec (event_in a) (said (tagged ep) er ec) eu

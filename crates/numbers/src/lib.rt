@@ -1,6 +1,7 @@
 // The numbers of document 01 by name, and the codes in a file of their own; no code, so that all code can stand on it.
 // A name means one thing, in the width of what it is held against; a number that means two things has two names.
 #![tactic(auto)]
+
 pub mod codes;
 
 // Places for blocks.

@@ -6,7 +6,6 @@ use Prim.Native.Nat.{ℕ, ◌/◌, ◌≤◌}
 use borrow.Author.Tests.{le-ltb}
 use lib.Dec.{ltb}
 use lib.ListN.{length}
-use Rattle.rules.specs.Calls.{wrong_tables}
 use Rattle.board.specs.Reading.{is_sound}
 use Rattle.log_bytes.specs.Format.{past_l}
 use Rattle.fragments.specs.Kept.{is_fit}
@@ -37,42 +36,42 @@ module _ (s : State) (ids lens : List ℕ) (a : length ids ≡ 2048) (d : length
   code_over e = sym (tables_right ∙ ap (λ (t : Bool). cond t 0 (cond (unfit s ids lens) 2 0)) e)
 
   module _ (going : s.over ≡ false) where
-    going-code : feed_code s ids lens ≡ cond (unfit s ids lens) 2 0
-    going-code = tables_right ∙ ap (λ (t : Bool). cond t 0 (cond (unfit s ids lens) 2 0)) going
+    going_code : feed_code s ids lens ≡ cond (unfit s ids lens) 2 0
+    going_code = tables_right ∙ ap (λ (t : Bool). cond t 0 (cond (unfit s ids lens) 2 0)) going
 
-    pub code-kept : fits ≡ false → 2 ≡ feed_code s ids lens
-    code-kept e = sym (going-code ∙ ap (λ (t : Bool). cond (not t || (past_l s.stage && (many || unsound))) 2 0) e)
+    pub code_kept : fits ≡ false → 2 ≡ feed_code s ids lens
+    code_kept e = sym (going_code ∙ ap (λ (t : Bool). cond (not t || (past_l s.stage && (many || unsound))) 2 0) e)
 
     module _ (e : fits ≡ true) where
-      fit-code : feed_code s ids lens ≡ cond (past_l s.stage && (many || unsound)) 2 0
-      fit-code = going-code ∙ ap (λ (t : Bool). cond (not t || (past_l s.stage && (many || unsound))) 2 0) e
+      fit_code : feed_code s ids lens ≡ cond (past_l s.stage && (many || unsound)) 2 0
+      fit_code = going_code ∙ ap (λ (t : Bool). cond (not t || (past_l s.stage && (many || unsound))) 2 0) e
 
-      pub code-before : past_l s.stage ≡ false → 0 ≡ feed_code s ids lens
-      code-before p = sym (fit-code ∙ ap (λ (t : Bool). cond (t && (many || unsound)) 2 0) p)
+      pub code_before : past_l s.stage ≡ false → 0 ≡ feed_code s ids lens
+      code_before p = sym (fit_code ∙ ap (λ (t : Bool). cond (t && (many || unsound)) 2 0) p)
 
       module _ (p : past_l s.stage ≡ true) where
-        past-code : feed_code s ids lens ≡ cond (many || unsound) 2 0
-        past-code = fit-code ∙ ap (λ (t : Bool). cond (t && (many || unsound)) 2 0) p
+        past_code : feed_code s ids lens ≡ cond (many || unsound) 2 0
+        past_code = fit_code ∙ ap (λ (t : Bool). cond (t && (many || unsound)) 2 0) p
 
-        pub code-bytes : many ≡ true → 2 ≡ feed_code s ids lens
-        code-bytes m = sym (past-code ∙ ap (λ (t : Bool). cond (t || unsound) 2 0) m)
+        pub code_bytes : many ≡ true → 2 ≡ feed_code s ids lens
+        code_bytes m = sym (past_code ∙ ap (λ (t : Bool). cond (t || unsound) 2 0) m)
 
         module _ (m : many ≡ false) where
-          few-code : feed_code s ids lens ≡ cond unsound 2 0
-          few-code = past-code ∙ ap (λ (t : Bool). cond (t || unsound) 2 0) m
+          few_code : feed_code s ids lens ≡ cond unsound 2 0
+          few_code = past_code ∙ ap (λ (t : Bool). cond (t || unsound) 2 0) m
 
           flip : (t : Bool) → ◌≡◌ {A = ℕ} (cond (not t) 2 0) (cond t 0 2)
           flip true = refl
           flip false = refl
 
-          pub code-early : early_code s.board ids lens ≡ feed_code s ids lens
+          pub code_early : early_code s.board ids lens ≡ feed_code s ids lens
           unfolding early_code
-          code-early =
+          code_early =
               ap (λ (t : Bool). cond t 3 (cond (is_sound s.board ids lens) 0 2)) (none_wrong (length ids) (length lens) a d)
-              ∙ sym (few-code ∙ flip (is_sound s.board ids lens))
+              ∙ sym (few_code ∙ flip (is_sound s.board ids lens))
 
-          pub code-sound : is_sound s.board ids lens ≡ true → 0 ≡ feed_code s ids lens
-          code-sound q = sym (few-code ∙ ap (λ (t : Bool). cond (not t) 2 0) q)
+          pub code_sound : is_sound s.board ids lens ≡ true → 0 ≡ feed_code s ids lens
+          code_sound q = sym (few_code ∙ ap (λ (t : Bool). cond (not t) 2 0) q)
 
 -- a state from which a listing goes on is not refused
 pub can_code : (s : State) (ids lens : List ℕ) → CanGoOn s ids lens → feed_code s ids lens ≡ 0
@@ -84,9 +83,9 @@ can_code s ids lens k = go (past_l s.stage) refl
     go : (t : Bool) → past_l s.stage ≡ t → feed_code s ids lens ≡ 0
     go true p =
         let known = k.good p in
-        sym (code-sound s ids lens k.ids_all k.lens_all k.going e p (le-ltb (s.at / 3) (s.sent.0 / 65536) (k.few p))
+        sym (code_sound s ids lens k.ids_all k.lens_all k.going e p (le-ltb (s.at / 3) (s.sent.0 / 65536) (k.few p))
         (sound_known s.board ids lens known))
-    go false p = sym (code-before s ids lens k.ids_all k.lens_all k.going e p)
+    go false p = sym (code_before s ids lens k.ids_all k.lens_all k.going e p)
 
 -- nor is one where the listing is over
 pub over_code : (s : State) (ids lens : List ℕ) → length ids ≡ 2048 → length lens ≡ 2048 → feed_code (ended_state s) ids lens ≡ 0

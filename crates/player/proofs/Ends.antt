@@ -1,7 +1,7 @@
 -- The first field of a listing, its end, and the promise of each call; and however the log is cut, the listing is that
 -- of the joined log. Assumes nothing.
 use mathlib.Core.Path.{◌≡◌, refl, sym, ap, ap₂, subst, ◌∙◌}
-use mathlib.Core.Bool.{Bool, true, false, cond, ◌&&◌, ◌||◌, true≢false}
+use mathlib.Core.Bool.{Bool, true, false, ◌&&◌, ◌||◌, true≢false}
 use mathlib.Core.Logic.{◌⊎◌, inl, inr, ◌≢◌}
 use mathlib.Core.List.{List, [], ◌++◌, append-nil}
 use Prim.Native.Nat.{ℕ, ◌+◌, ◌-◌, ◌^◌, ◌≤◌, ◌<◌}
@@ -20,8 +20,8 @@ use Rattle.log_bytes.specs.declared.Event.{Event}
 use Rattle.log_bytes.specs.declared.Event.TheVariants.{Largest}
 use Rattle.log_bytes.specs.declared.End.{End}
 use Rattle.log_bytes.specs.declared.End.TheVariants.{Whole as ends-whole, Broken as ends-broken, Long as ends-long}
-use Rattle.log_bytes.specs.declared.Next.TheVariants.{GoesOn, Ends, Unfinished}
-use Rattle.log_bytes.specs.Format.{past_l, stage_after, in_turn, next_in}
+use Rattle.log_bytes.specs.declared.Next.TheVariants.{Ends, Unfinished}
+use Rattle.log_bytes.specs.Format.{past_l, stage_after, in_turn}
 use Rattle.log_bytes.specs.Rows.{end_in, next_of}
 use Rattle.log_bytes.proofs.Stages.{past_after}
 use Rattle.log_bytes.proofs.Wholes.{none_come, never_whole, part_is}
@@ -44,9 +44,9 @@ use Rattle.listing_rules.proofs.Listing.{listing_whole, listing_ends, listing_cu
 use Rattle.fields.specs.Fields.{memory, reads}
 use Rattle.player.specs.declared.State.{State}
 use Rattle.player.specs.declared.Piece.{Piece}
-use Rattle.player.specs.Feeding.{before_first, Held, held, rest_of, is_over, offset_of, feed_code, CanGoOn, stayed, ended_state, ended_piece}
+use Rattle.player.specs.Feeding.{before_first, Held, held, rest_of, is_over, offset_of, feed_code, CanGoOn, stayed, ended_piece}
 use Rattle.player.specs.Feeding.{FeedDone, FeedOf, CloseDone, CloseOf, FeedsListing}
-use Rattle.player.proofs.Codes.{code-kept, code-before, can_code, over_code}
+use Rattle.player.proofs.Codes.{code_kept, code_before, can_code, over_code}
 use Rattle.player.proofs.Feeding.{over_rest, ended_rest, past_rest, before_rest, listing_read, ended_done, last_line_lem}
 
 -- before L nothing is shown but how the log ends, and it does not end whole
@@ -97,8 +97,8 @@ module _ (s : State) (ids lens fragment out : List ℕ) (k : CanGoOn s ids lens)
     abbrev partly : State
     partly = record { stage = s.stage; over = false; at = s.at; came = now; kept = after; sent = s.sent; board = s.board }
 
-    partly-goes : CanGoOn partly ids lens
-    partly-goes = record {
+    partly_goes : CanGoOn partly ids lens
+    partly_goes = record {
       going = refl;
       fit = h.fit;
       low = k.low;
@@ -122,7 +122,7 @@ module _ (s : State) (ids lens fragment out : List ℕ) (k : CanGoOn s ids lens)
             ∙ sym (before_rest s ids lens k.going p (fragment ++ later));
         untouched = refl;
       };
-      goes_on = can_code partly ids lens partly-goes;
+      goes_on = can_code partly ids lens partly_goes;
       all = inr (inr p);
       moves = λ r n. omega (arith, h.moves);
       onward = λ e. omega (arith, h.moves);
@@ -150,8 +150,8 @@ module _ (s : State) (ids lens fragment out : List ℕ) (k : CanGoOn s ids lens)
       past! : past_l stage ≡ true
       past! = ap past_l on ∙ past_after (Largest l) s.stage g.turn
 
-      made-goes : CanGoOn after_first ids' lens'
-      made-goes = record {
+      made_goes : CanGoOn after_first ids' lens'
+      made_goes = record {
         going = refl;
         fit = none_come (s.at + size) after stage;
         low = g.low;
@@ -179,7 +179,7 @@ module _ (s : State) (ids lens fragment out : List ℕ) (k : CanGoOn s ids lens)
               ∙ sym (before_rest s ids lens k.going p (fragment ++ later));
           untouched = refl;
         };
-        goes_on = can_code after_first ids' lens' made-goes;
+        goes_on = can_code after_first ids' lens' made_goes;
         all = inr (inr p);
         moves = λ r n. omega (arith, g.begins);
         onward = λ e. omega (arith, g.begins);
@@ -229,10 +229,10 @@ module _ (s : State) (ids lens out : List ℕ) where
             unshown end refl p ∙ sym (listing_cut unmade s.at (kept_bytes s.kept s.came ++ []) s.stage s.came cut)
             ∙ sym (before_rest s ids lens k.going p [])
 
-    pub close-last : (clock count : ℕ) → clock ≡ s.board.clock → count ≡ total_of s.board.counts → (last : ℕ) (out' : List ℕ)
+    pub close_last : (clock count : ℕ) → clock ≡ s.board.clock → count ≡ total_of s.board.counts → (last : ℕ) (out' : List ℕ)
         → (e : End) → e ≡ end → Written out 0 (last_of clock s.sent.0 count e) last out' → last ≤ length out
         → CloseDone s ids lens out (ended_piece 0 last s) out'
-    close-last clock count c n last out' e q w small = record {
+    close_last clock count c n last out' e q w small = record {
       done = refl;
       none = refl;
       closed = record {
@@ -298,7 +298,7 @@ feeds_listing log ids lens written t =
 pub before_first_ready : (ids lens : List ℕ) → length ids ≡ 2048 → length lens ≡ 2048 → feed_code before_first ids lens ≡ 0
 before_first_ready ids lens a d =
     let none = none_come 0 before_first.kept BeforeL in
-    sym (code-before before_first ids lens a d refl (fit_is 0 before_first.kept 0 BeforeL none (omega arith)) refl)
+    sym (code_before before_first ids lens a d refl (fit_is 0 before_first.kept 0 BeforeL none (omega arith)) refl)
 
 -- no byte is read past the end of every log
 pub code_low : (s : State) (ids lens : List ℕ) → length ids ≡ 2048 → length lens ≡ 2048 → feed_code s ids lens ≡ 0 → s.over ≡ false → offset_of s ≤ 2 ^ 48
@@ -308,7 +308,7 @@ code_low s ids lens a d z e = go (is_fit s.at s.kept s.came s.stage) refl
     go true f =
         let fit! = fit_only s.at s.kept s.came s.stage f in
         omega (arith, (part_is s.at s.kept s.came s.stage s.came fit!.0).low, fit!.1)
-    go false f = absurd (let two : ◌≡◌ {A = ℕ} 2 0 = code-kept s ids lens a d e f ∙ z in omega (arith, two))
+    go false f = absurd (let two : ◌≡◌ {A = ℕ} 2 0 = code_kept s ids lens a d e f ∙ z in omega (arith, two))
 
 module _ (s : State) (ids lens fragment out : List ℕ) (r : Piece) (ids' lens' out' : List ℕ) (p : FeedOf s ids lens fragment out r ids' lens' out') where
   pub feed_fits : (r.used ≤ length out) × (r.taken ≤ length fragment)

@@ -1,51 +1,40 @@
 -- What is written field by field is the listing, whatever comes later. Assumes nothing.
-use mathlib.Core.Path.{◌≡◌, refl, sym, ap, ap₂, subst, ◌∙◌}
-use mathlib.Core.Bool.{Bool, true, false, cond, ◌&&◌, ◌||◌, true≢false, false≢true}
-use mathlib.Core.Logic.{◌⊎◌, inl, inr, ◌≢◌}
+use mathlib.Core.Path.{◌≡◌, refl, sym, ap, ap₂, ◌∙◌}
+use mathlib.Core.Bool.{Bool, true, false, cond, ◌||◌, true≢false}
+use mathlib.Core.Logic.{◌⊎◌, inl, inr}
 use mathlib.Core.List.{List, [], ◌++◌, append_assoc, append-nil}
 use Prim.Native.Nat.{ℕ, ◌+◌, ◌-◌, ◌/◌, ◌^◌, ◌≤◌, ◌<◌}
 use native.Mathlib.Omega.{arith}
 use borrow.Author.Tests.{ltb-true, ltb-false, eqb-true, eq-eqb}
-use lib.Dec.{ltb, leb, eqb}
-use lib.ListN.{length, take, drop, length-drop, length-replicate}
-use lib.Seq.{drop-drop, length-sets}
-use Rattle.base.proofs.Numbers.{split, true_le}
-use Rattle.base.proofs.Tests.{and_left, and_right}
+use lib.Dec.{ltb, eqb}
+use lib.ListN.{length, take, drop, length-drop}
+use lib.Seq.{drop-drop}
+use Rattle.base.proofs.Numbers.{split}
 use Rattle.rules.specs.Board
 use Rattle.rules.specs.Board.{Place}
 use Rattle.board.specs.declared.Board as struct
 use Rattle.board.specs.Reading.{encode, view}
 use Rattle.log_bytes.specs.declared.Stage.{Stage}
-use Rattle.log_bytes.specs.declared.Stage.TheVariants.{BeforeL}
 use Rattle.log_bytes.specs.declared.Event.{Event}
-use Rattle.log_bytes.specs.declared.Event.TheVariants.{Largest}
 use Rattle.log_bytes.specs.declared.End.{End}
-use Rattle.log_bytes.specs.declared.End.TheVariants.{Whole as ends-whole, Broken as ends-broken, Long as ends-long}
-use Rattle.log_bytes.specs.declared.Next.TheVariants.{GoesOn, Ends, Unfinished}
-use Rattle.log_bytes.specs.Format.{past_l, stage_after, in_turn, next_in}
-use Rattle.log_bytes.specs.Rows.{Reading, end_in, next_of, read_from}
-use Rattle.log_bytes.proofs.Stages.{past_after, turn_later}
-use Rattle.log_bytes.proofs.Wholes.{none_come, never_whole}
-use Rattle.log_bytes.proofs.First.{largest_range}
+use Rattle.log_bytes.specs.declared.Next.TheVariants.{Ends, Unfinished}
+use Rattle.log_bytes.specs.Format.{past_l, stage_after, next_in}
+use Rattle.log_bytes.specs.Rows.{Reading, next_of, read_from}
+use Rattle.log_bytes.proofs.Stages.{past_after}
+use Rattle.log_bytes.proofs.Wholes.{none_come}
 use Rattle.fragments.specs.Kept.{kept_bytes}
 use Rattle.fragments.specs.Reading.{joined, GoesOnWith, KeptOn}
-use Rattle.fragments.specs.Feeding.{Told, Closed}
 use Rattle.fragments.proofs.Kept.{kept_none, rest_joined}
-use Rattle.fragments.proofs.Feeding.{tells_all, told_nothing}
 use Rattle.lines.specs.Text.{Written, Line}
 use Rattle.lines.proofs.Texts.{none, then, from_front, written_length}
-use Rattle.arrays.specs.Lists.{total_of, zeroed}
+use Rattle.arrays.specs.Lists.{total_of}
 use Rattle.arrays.proofs.Totals.{total_map}
-use Rattle.board.specs.Leaving.{Returned, returned}
-use Rattle.board.proofs.Fresh.{Starts, starts}
-use Rattle.blocks.specs.Blocks.{fresh_in}
-use Rattle.listing_rules.specs.Listing.{Playing, unmade, waiting, lines_of, field_line, played, last_of, last_line, listing_from, listing_of}
-use Rattle.listing_rules.proofs.Listing.{listing_whole, listing_ends, listing_cut, listing_first}
+use Rattle.listing_rules.specs.Listing.{Playing, unmade, waiting, lines_of, field_line, last_of, last_line, listing_from}
+use Rattle.listing_rules.proofs.Listing.{listing_whole, listing_ends}
 use Rattle.fields.specs.Fields.{Memory, memory, reads, KnownMemory, FieldPlayed}
 use Rattle.player.specs.declared.State.{State}
-use Rattle.player.specs.declared.Piece.{Piece}
-use Rattle.player.specs.Feeding.{Held, held, playing, rest_of, offset_of, CanGoOn, stayed, ended_state, ended_piece}
-use Rattle.player.specs.Feeding.{FeedDone, FeedOf, CloseDone, CloseOf, FeedsListing}
+use Rattle.player.specs.Feeding.{Held, held, playing, rest_of, offset_of, CanGoOn, ended_state, ended_piece}
+use Rattle.player.specs.Feeding.{FeedDone}
 use Rattle.player.proofs.Codes.{can_code, over_code}
 
 -- ---- What is left, by the state

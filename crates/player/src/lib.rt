@@ -1,6 +1,7 @@
 // The player of a log that comes in fragments: it is lent one after the other, and writes the listing to lent buffers,
 // a line as soon as its field is whole. It works on the engine's arrays from field to field.
 #![tactic(auto)]
+
 ghost use Rattle.std.specs.Prelude.{◌≡◌, true, false, ◌||◌, ltb, eqb, length};
 ghost use Rattle.log_bytes.specs.Format.{past_l};
 ghost use Rattle.arrays.specs.Lists.{total_of};

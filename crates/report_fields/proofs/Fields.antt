@@ -133,22 +133,22 @@ module _ (h : Holding) (known : Known h.board h.ids h.lens) where
     abbrev takes : Event → (full : Bool) → Step → Tallied
     takes e full s = field_in e (closing_place h.board.numbers e) (step_credit h.board.largest n.board.shares s) s full t
 
-    abbrev stepBy : Out → Step
-    stepBy o = step_of (code_of (told m o)) (told_by o) (numbers_of n.board)
+    abbrev step_by : Out → Step
+    step_by o = step_of (code_of (told m o)) (told_by o) (numbers_of n.board)
 
     abbrev Counts! : Event → (full : Bool) → Tallied → Type 0
     Counts! e full x = counts_now x.tallies x.stops ≡ counted m (turn_of m e) (counts_now t full)
 
     -- nothing is taken from a refusal
-    refused-takes : (e : Event) (code : ℕ) → (turn_of m e).out ≡ refused code → eqb code 0 ≡ false → Acted h e n r
+    refused_takes : (e : Event) (code : ℕ) → (turn_of m e).out ≡ refused code → eqb code 0 ≡ false → Acted h e n r
         → takes e false r ≡ tallied false t
     unfolding field_in
-    refused-takes e code o z a = ap (takes e false) (a.tells ∙ ap stepBy o) ∙ rw z
+    refused_takes e code o z a = ap (takes e false) (a.tells ∙ ap step_by o) ∙ rw z
 
     -- nor from a field that is neither a close nor a serve
-    other-takes : (x : Tallied) → x ≡ tallied false t → (u : Bool) → cond u x (tallied false t) ≡ tallied false t
-    other-takes x e true = e
-    other-takes x e false = refl
+    other_takes : (x : Tallied) → x ≡ tallied false t → (u : Bool) → cond u x (tallied false t) ≡ tallied false t
+    other_takes x e true = e
+    other_takes x e false = refl
 
     module _ (fits : CountsFit m (counts_now t false)) where
       as_before : (e : Event) (x : Tallied) → x ≡ tallied false t → counted m (turn_of m e) (counts_now t false) ≡ counts_now t false
@@ -161,7 +161,7 @@ module _ (h : Holding) (known : Known h.board h.ids h.lens) where
         where
           go : Comes m (close! block) (step m (close! block)) → Counts! (Close block) false (takes (Close block) false r)
           go (inl (code, (o, z))) =
-              as_before (Close block) _ (refused-takes (Close block) code o z a) (counted_refused m tidy (close! block) code o (counts_now t false) fits)
+              as_before (Close block) _ (refused_takes (Close block) code o z a) (counted_refused m tidy (close! block) code o (counts_now t false) fits)
           go (inr (o, l)) =
               ap (λ (y : Tallied). counts_now y.tallies y.stops) (gone o ∙ ap (λ (p : ℕ). tallied false (vanished_in p t)) (closing_is block l))
               ∙ closed_counts (where_is m block) t false sized l
@@ -172,10 +172,10 @@ module _ (h : Holding) (known : Known h.board h.ids h.lens) where
             where
               gone : (step m (close! block)).out ≡ done
                   → takes (Close block) false r ≡ tallied false (vanished_in (closing_place h.board.numbers (Close block)) t)
-              gone o = ap (takes (Close block) false) (a.tells ∙ ap stepBy o)
+              gone o = ap (takes (Close block) false) (a.tells ∙ ap step_by o)
 
       -- the credit that is counted is that of a slot of the block
-      credit_is : (s : Sending) → SendSeen m s n → step_credit h.board.largest n.board.shares (stepBy (sent s)) ≡ credit_at m s.place
+      credit_is : (s : Sending) → SendSeen m s n → step_credit h.board.largest n.board.shares (step_by (sent s)) ≡ credit_at m s.place
       credit_is s w = ap₂ credit_of (sym largest_is) w.share
 
       serves : Acted h Serve n r → Counts! Serve false (takes Serve false r)
@@ -183,7 +183,7 @@ module _ (h : Holding) (known : Known h.board h.ids h.lens) where
       serves a = go (comes m tidy serve!)
         where
           go : Comes m serve! (step m serve!) → Counts! Serve false (takes Serve false r)
-          go (inl (code, (o, z))) = as_before Serve _ (refused-takes Serve code o z a) (counted_refused m tidy serve! code o (counts_now t false) fits)
+          go (inl (code, (o, z))) = as_before Serve _ (refused_takes Serve code o z a) (counted_refused m tidy serve! code o (counts_now t false) fits)
           go (inr (s, o)) =
               ap (λ (y : Tallied). counts_now y.tallies y.stops) (one ∙ ap taken! (credit_is s (a.sends s o)))
               ∙ sent_counts s (credit_at m s.place) t _ sized (a.sends s o).place
@@ -196,48 +196,48 @@ module _ (h : Holding) (known : Known h.board h.ids h.lens) where
               taken! : ℕ → Tallied
               taken! credit = sent_in s.place s.began (bytes_charged s.front) s.lost credit t
 
-              one : takes Serve false r ≡ taken! (step_credit h.board.largest n.board.shares (stepBy (sent s)))
-              one = ap (takes Serve false) (a.tells ∙ ap stepBy o)
+              one : takes Serve false r ≡ taken! (step_credit h.board.largest n.board.shares (step_by (sent s)))
+              one = ap (takes Serve false) (a.tells ∙ ap step_by o)
 
-    counts-by : (full : Bool) → CountsFit m (counts_now t full) → (e : Event) → Acted h e n r → Counts! e full (takes e full r)
+    counts_by : (full : Bool) → CountsFit m (counts_now t full) → (e : Event) → Acted h e n r → Counts! e full (takes e full r)
     unfolding field_in
-    counts-by true fits e a = sym (full_stays m (turn_of m e) (counts_now t true) refl)
-    counts-by false fits (Largest l) a = as_before fits (Largest l) _ (other-takes _ refl (eqb r.code 0)) (counted_idle m (counts_now t false) fits)
-    counts-by false fits (Open o) a =
-        as_before fits (Open o) _ (other-takes _ refl (eqb r.code 0)) (counted_other m tidy (open! (meant o)) refl refl (counts_now t false) fits)
-    counts-by false fits (Close block) a = closes fits block a
-    counts-by false fits (Rename old new) a =
-        as_before fits (Rename old new) _ (other-takes _ refl (eqb r.code 0)) (counted_other m tidy (rename! old new) refl refl (counts_now t false) fits)
-    counts-by false fits (Arrive block number bytes) a =
-        as_before fits (Arrive block number bytes) _ (other-takes _ refl (eqb r.code 0))
+    counts_by true fits e a = sym (full_stays m (turn_of m e) (counts_now t true) refl)
+    counts_by false fits (Largest l) a = as_before fits (Largest l) _ (other_takes _ refl (eqb r.code 0)) (counted_idle m (counts_now t false) fits)
+    counts_by false fits (Open o) a =
+        as_before fits (Open o) _ (other_takes _ refl (eqb r.code 0)) (counted_other m tidy (open! (meant o)) refl refl (counts_now t false) fits)
+    counts_by false fits (Close block) a = closes fits block a
+    counts_by false fits (Rename old new) a =
+        as_before fits (Rename old new) _ (other_takes _ refl (eqb r.code 0)) (counted_other m tidy (rename! old new) refl refl (counts_now t false) fits)
+    counts_by false fits (Arrive block number bytes) a =
+        as_before fits (Arrive block number bytes) _ (other_takes _ refl (eqb r.code 0))
         (counted_other m tidy (record! block (record { number = number; bytes = bytes })) refl refl (counts_now t false) fits)
-    counts-by false fits Serve a = serves fits a
-    counts-by false fits Passed a = as_before fits Passed _ (other-takes _ refl (eqb r.code 0)) (counted_idle m (counts_now t false) fits)
+    counts_by false fits Serve a = serves fits a
+    counts_by false fits Passed a = as_before fits Passed _ (other_takes _ refl (eqb r.code 0)) (counted_idle m (counts_now t false) fits)
 
     -- the lists keep their lengths
-    sized-done : (u : Bool) (x : Tallied) → TalliesSized x.tallies → TalliesSized (cond u x (tallied false t)).tallies
-    sized-done true x z = z
-    sized-done false x z = sized
+    sized_done : (u : Bool) (x : Tallied) → TalliesSized x.tallies → TalliesSized (cond u x (tallied false t)).tallies
+    sized_done true x z = z
+    sized_done false x z = sized
 
-    sized-by : (full : Bool) (e : Event) → TalliesSized (takes e full r).tallies
+    sized_by : (full : Bool) (e : Event) → TalliesSized (takes e full r).tallies
     unfolding field_in
-    sized-by true e = sized
-    sized-by false (Largest l) = sized-done (eqb r.code 0) _ sized
-    sized-by false (Open o) = sized-done (eqb r.code 0) _ sized
-    sized-by false (Close block) = sized-done (eqb r.code 0) _ (sized_closed _ t sized)
-    sized-by false (Rename old new) = sized-done (eqb r.code 0) _ sized
-    sized-by false (Arrive block number bytes) = sized-done (eqb r.code 0) _ sized
-    sized-by false Serve = sized-done (eqb r.code 0) _ (sized_sent _ _ _ _ _ t sized)
-    sized-by false Passed = sized-done (eqb r.code 0) _ sized
+    sized_by true e = sized
+    sized_by false (Largest l) = sized_done (eqb r.code 0) _ sized
+    sized_by false (Open o) = sized_done (eqb r.code 0) _ sized
+    sized_by false (Close block) = sized_done (eqb r.code 0) _ (sized_closed _ t sized)
+    sized_by false (Rename old new) = sized_done (eqb r.code 0) _ sized
+    sized_by false (Arrive block number bytes) = sized_done (eqb r.code 0) _ sized
+    sized_by false Serve = sized_done (eqb r.code 0) _ (sized_sent _ _ _ _ _ t sized)
+    sized_by false Passed = sized_done (eqb r.code 0) _ sized
 
     -- ---- what counting asks
 
     not_refused : (e : Event) (code : ℕ) → (turn_of m e).out ≡ refused code → eqb code 0 ≡ false → Acted h e n r → r.code ≡ 0 → ⊥
     not_refused e code o z a q =
-        true≢false (sym (eq-eqb code 0 (sym (ap (λ (s : Step). s.code) (a.tells ∙ ap stepBy o)) ∙ q)) ∙ z)
+        true≢false (sym (eq-eqb code 0 (sym (ap (λ (s : Step). s.code) (a.tells ∙ ap step_by o)) ∙ q)) ∙ z)
 
-    close-inside : (block : ℕ) → Acted h (Close block) n r → r.code ≡ 0 → closing_place h.board.numbers (Close block) < 64
-    close-inside block a q = go (comes m tidy (close! block))
+    close_inside : (block : ℕ) → Acted h (Close block) n r → r.code ≡ 0 → closing_place h.board.numbers (Close block) < 64
+    close_inside block a q = go (comes m tidy (close! block))
       where
         go : Comes m (close! block) (step m (close! block)) → closing_place h.board.numbers (Close block) < 64
         go (inl (code, (o, z))) = absurd (not_refused (Close block) code o z a q)
@@ -245,14 +245,14 @@ module _ (h : Holding) (known : Known h.board h.ids h.lens) where
 
     module _ (fits : CountsFit m (counts_now t false)) (a : Acted h Serve n r) where
       -- a send is small enough to be counted
-      send-small : (s : Sending) → (step m serve!).out ≡ sent s → SendCounts h.board.largest n.board.shares (stepBy (sent s)) t
+      send_small : (s : Sending) → (step m serve!).out ≡ sent s → SendCounts h.board.largest n.board.shares (step_by (sent s)) t
       unfolding largest_charge charged framing
-      send-small s o = record {
+      send_small s o = record {
         counts = record {
           inside = w.place;
           before = fit_small m s.place (account_now t s.place) (fits refl s.place);
           most_bytes = omega (arith, w.small);
-          most_lost = omega (arith, (tells m tidy serve! s o).parts, hand, credit-below s.began);
+          most_lost = omega (arith, (tells m tidy serve! s o).parts, hand, credit_below s.began);
           most_credit = omega (arith, credit, ap₂ credit_of (sym largest_is) w.share);
         };
         low = omega (arith, w.share, one.bought);
@@ -281,17 +281,17 @@ module _ (h : Holding) (known : Known h.board h.ids h.lens) where
                 tidy.shape.most,
               )
 
-          credit-below : (t : Bool) → cond t (credit_at m s.place) 0 < 2 ^ 33
-          credit-below true = credit
-          credit-below false = omega arith
+          credit_below : (t : Bool) → cond t (credit_at m s.place) 0 < 2 ^ 33
+          credit_below true = credit
+          credit_below false = omega arith
 
-      send-counts : r.code ≡ 0 → SendCounts h.board.largest n.board.shares r t
-      send-counts q = go (comes m tidy serve!)
+      send_counts : r.code ≡ 0 → SendCounts h.board.largest n.board.shares r t
+      send_counts q = go (comes m tidy serve!)
         where
           go : Comes m serve! (step m serve!) → SendCounts h.board.largest n.board.shares r t
           go (inl (code, (o, z))) = absurd (not_refused Serve code o z a q)
           go (inr (s, o)) =
-              subst (λ (x : Step). SendCounts h.board.largest n.board.shares x t) (sym (a.tells ∙ ap stepBy o)) (send-small s o)
+              subst (λ (x : Step). SendCounts h.board.largest n.board.shares x t) (sym (a.tells ∙ ap step_by o)) (send_small s o)
 
 -- ---- The law of one field
 
@@ -300,9 +300,9 @@ module _ (l : Ledger) (k : KnownLedger l) (e : Event) (n : Holding) (r : Step) (
   can_count = record {
     closes = λ f q block e-is.
         subst (λ (x : Event). closing_place l.holds.board.numbers x < 64) (sym e-is)
-        (close-inside l.holds k.good l.tallies k.sized n r block (subst (λ (x : Event). Acted l.holds x n r) e-is a) q);
+        (close_inside l.holds k.good l.tallies k.sized n r block (subst (λ (x : Event). Acted l.holds x n r) e-is a) q);
     sends = λ f q e-is.
-        send-counts l.holds k.good l.tallies k.sized n r (subst (λ (t : Bool). CountsFit (reads l).board (counts_now l.tallies t)) f k.fits)
+        send_counts l.holds k.good l.tallies k.sized n r (subst (λ (t : Bool). CountsFit (reads l).board (counts_now l.tallies t)) f k.fits)
         (subst (λ (x : Event). Acted l.holds x n r) e-is a) q;
   }
 
@@ -317,7 +317,7 @@ module _ (l : Ledger) (k : KnownLedger l) (e : Event) (n : Holding) (r : Step) (
           (subst (CountsFit (turn_of (reads l).board e).next) (sym counts_is)
           (fits_turn (reads l).board (tidy l.holds k.good) (reads l).counts k.fits e));
       sized =
-          subst (λ (y : Tallied). TalliesSized y.tallies) (sym x-is) (sized-by l.holds k.good l.tallies k.sized n r l.full e);
+          subst (λ (y : Tallied). TalliesSized y.tallies) (sym x-is) (sized_by l.holds k.good l.tallies k.sized n r l.full e);
     };
     next = (λ i. record { board = a.next i; counts = counts_is i }) ∙ sym (counted_turn (reads l) e late);
   }
@@ -325,4 +325,4 @@ module _ (l : Ledger) (k : KnownLedger l) (e : Event) (n : Holding) (r : Step) (
       counts_is : counts_now x.tallies x.stops ≡ counted (reads l).board (turn_of (reads l).board e) (reads l).counts
       counts_is =
           ap (λ (y : Tallied). counts_now y.tallies y.stops) x-is
-          ∙ counts-by l.holds k.good l.tallies k.sized n r l.full k.fits e a
+          ∙ counts_by l.holds k.good l.tallies k.sized n r l.full k.fits e a

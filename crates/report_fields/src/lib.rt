@@ -1,13 +1,14 @@
 // One field of a log done and counted: what it says is done on the engine's arrays, and a send or a close changes the
 // counts beside them. No line is written. The board is not tested here: whoever goes from field to field tests it once.
 #![tactic(auto)]
+
 ghost use Rattle.std.specs.Prelude.{◌≡◌, false, ◌≤◌, ◌<◌, get_or};
 ghost use Rattle.units.specs.Credit.{credit_of};
 ghost use Rattle.log_bytes.specs.Format.{is_l};
 ghost use Rattle.board.specs.Memory.{numbers_now, board_now};
 ghost use Rattle.counting.specs.Counting.{tallies_now};
 ghost use Rattle.counting.specs.Steps.{tallied};
-ghost use Rattle.report_fields.specs.Fields.{Ledger, ledger, KnownLedger, FieldCounted};
+ghost use Rattle.report_fields.specs.Fields.{ledger, KnownLedger, FieldCounted};
 ghost use Rattle.report_fields.specs.Steps.{closing_place, step_credit, field_in, CanCountField};
 
 use board::After;
@@ -96,8 +97,7 @@ fn count_field(
     }
 }
 
-// One field after L: what it says is done and counted. The contract names what stands in memory at entry once, as
-// `before`.
+// One field after L: what it says is done and counted.
 pub fn play_counted(
     event: Event,
     full: bool,
@@ -124,16 +124,22 @@ pub fn play_counted(
     ids: &mut [u32],
     lens: &mut [u16],
 ) -> Counted
-    ghost before: { Ledger }
-    requires full_value { ledger
+    requires { let before = ledger
         (board_now numbers.old shares.old starts.old counts.old
         deficits.old ready.old next.old
         heads.old tails.old held.old
         largest (numbers_now clock active pending slot left.0))
         ids.old lens.old
-        (tallies_now slots.old credits.old sent.old losses.old) full ≡ before }
-    requires known_ledger { KnownLedger before × (is_l event ≡ false) }
-    ensures { let after = ledger
+        (tallies_now slots.old credits.old sent.old losses.old) full in
+        KnownLedger before × (is_l event ≡ false) }
+    ensures { let before = ledger
+        (board_now numbers.old shares.old starts.old counts.old
+        deficits.old ready.old next.old
+        heads.old tails.old held.old
+        largest (numbers_now clock active pending slot left.0))
+        ids.old lens.old
+        (tallies_now slots.old credits.old sent.old losses.old) full in
+        let after = ledger
         (board_now numbers.new shares.new starts.new counts.new
         deficits.new ready.new next.new
         heads.new tails.new held.new

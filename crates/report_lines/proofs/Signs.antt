@@ -78,14 +78,14 @@ module _ (d : ℤ) (f : SFits w64 d) where
     rest_is : rest_held ≡ pos (mag d)
     rest_is = to_z-of_z rest_fits ∙ rest
 
-    pub rest-casts : T (non_neg rest_held) × Fits w64 (nat_abs rest_held)
-    rest-casts = rw rest_is (tt, record { fits = omega (arith, f.sfits) })
+    pub rest_casts : T (non_neg rest_held) × Fits w64 (nat_abs rest_held)
+    rest_casts = rw rest_is (tt, record { fits = omega (arith, f.sfits) })
 
     pub rest_more : Fits w64 (nat_abs rest_held + 1)
     rest_more = rw rest_is (record { fits = omega (arith, f.sfits) })
 
-    pub rest-size : nat_abs rest_held + 1 ≡ nat_abs d
-    rest-size = rw rest_is (sym (ap nat_abs (below e) ∙ omega arith))
+    pub rest_size : nat_abs rest_held + 1 ≡ nat_abs d
+    rest_size = rw rest_is (sym (ap nat_abs (below e) ∙ omega arith))
 
   pub above_casts : lt_z (to_z w64 (of_z w64 d)) (pos 0) ≡ false → T (non_neg (to_z w64 (of_z w64 d))) × Fits w64 (nat_abs (to_z w64 (of_z w64 d)))
   above_casts e = subst (λ (z : ℤ). T (non_neg z) × Fits w64 (nat_abs z)) (sym (to_z-of_z f ∙ above e)) (tt, record { fits = omega (arith, f.sfits) })

@@ -2,7 +2,7 @@
 use mathlib.Core.Path.{◌≡◌, refl, sym, ap, ap₂, ◌∙◌}
 use mathlib.Core.Bool.{Bool, true, false, true≢false}
 use mathlib.Core.List.{List, [], ◌++◌}
-use Prim.Native.Nat.{ℕ, ◌+◌, ◌-◌, ◌^◌, ◌≤◌, ◌<◌}
+use Prim.Native.Nat.{ℕ, ◌+◌, ◌-◌, ◌^◌, ◌≤◌}
 use native.Mathlib.Omega.{arith}
 use lib.ListN.{length, drop, length-drop}
 use lib.Seq.{drop-length, drop-drop}
@@ -65,27 +65,27 @@ played_first s ids lens fragment room c =
 module _ (s : State) (ids lens fragment : List ℕ) (here : Ledger) (stage : Stage) (at came : ℕ) (kept : List ℕ) (taken : ℕ)
     (u : PlayedTo s ids lens fragment here stage at came kept taken) where
   module _ (next : Next) (after : List ℕ) (read : ReadOn at stage kept came (drop taken fragment) next after) where
-    part-has : length (drop taken fragment) ≡ length fragment - taken
-    part-has = length-drop taken fragment
+    part_has : length (drop taken fragment) ≡ length fragment - taken
+    part_has = length-drop taken fragment
 
     -- a field that follows is not L
-    pub played-late : (e : Event) (size : ℕ) → next ≡ GoesOn e size → is_l e ≡ false
-    played-late e size h = turn_later e stage u.past (read.goes e size h).turn
+    pub played_late : (e : Event) (size : ℕ) → next ≡ GoesOn e size → is_l e ≡ false
+    played_late e size h = turn_later e stage u.past (read.goes e size h).turn
 
-    pub goes-within : (e : Event) (size : ℕ) → next ≡ GoesOn e size → taken + (size - came) ≤ length fragment
-    goes-within e size h =
+    pub goes_within : (e : Event) (size : ℕ) → next ≡ GoesOn e size → taken + (size - came) ≤ length fragment
+    goes_within e size h =
         let g = read.goes e size h in
-        omega (arith, g.begins, g.ends, part-has, u.within)
+        omega (arith, g.begins, g.ends, part_has, u.within)
 
-    pub played-goes : (e : Event) (size : ℕ) → next ≡ GoesOn e size → (n : Ledger) → FieldCounted here e n → (stage' : Stage) → stage' ≡ stage_after stage e
+    pub played_goes : (e : Event) (size : ℕ) → next ≡ GoesOn e size → (n : Ledger) → FieldCounted here e n → (stage' : Stage) → stage' ≡ stage_after stage e
         → PlayedTo s ids lens fragment n stage' (at + size) 0 after (taken + (size - came))
-    played-goes e size h n p stage' then! = record {
+    played_goes e size h n p stage' then! = record {
       good = p.good;
       past = ap past_l then! ∙ past_after e stage g.turn;
       fit = none_come (at + size) after stage';
       low = g.low;
       room = read.room ∙ u.room;
-      within = goes-within e size h;
+      within = goes_within e size h;
       onward = omega (arith, g.begins, u.onward);
       same = λ later.
           ap₂ (λ (r : Reporting) (t : Stage). report_from r s.shown (at + size) (joined after 0 (drop (taken + (size - came)) fragment) later) t)
@@ -104,14 +104,14 @@ module _ (s : State) (ids lens fragment : List ℕ) (here : Ledger) (stage : Sta
             ∙ ap (λ (part : List ℕ). part ++ later) (drop-drop (size - came) taken fragment)
             ∙ sym (kept_none after (drop (taken + (size - came)) fragment ++ later))
 
-    pub played-keeps : (now : ℕ) → next ≡ Unfinished now → PlayedTo s ids lens fragment here stage at now after (taken + (now - came))
-    played-keeps now h = record {
+    pub played_keeps : (now : ℕ) → next ≡ Unfinished now → PlayedTo s ids lens fragment here stage at now after (taken + (now - came))
+    played_keeps now h = record {
       good = u.good;
       past = u.past;
       fit = k.fit;
       low = u.low;
       room = read.room ∙ u.room;
-      within = omega (arith, k.moves, k.ends, part-has, u.within);
+      within = omega (arith, k.moves, k.ends, part_has, u.within);
       onward = omega (arith, k.moves, u.onward);
       same = λ later.
           ap (λ (part : List ℕ). report_from (reads here) s.shown at (joined after now part later) stage) (sym (drop-drop (now - came) taken fragment))
@@ -123,8 +123,8 @@ module _ (s : State) (ids lens fragment : List ℕ) (here : Ledger) (stage : Sta
         k = read.more now h
 
     -- the log ends here
-    pub played-stops : (e : End) → next ≡ Ends e → (later : List ℕ) → one_line here.full e ≡ left_of s ids lens (fragment ++ later)
-    played-stops e h later =
+    pub played_stops : (e : End) → next ≡ Ends e → (later : List ℕ) → one_line here.full e ≡ left_of s ids lens (fragment ++ later)
+    played_stops e h later =
         ends_one (reads here) s.shown at (joined kept came (drop taken fragment) later) stage e (read.ends e h later) ∙ u.same later
 
 -- all of the fragment is taken

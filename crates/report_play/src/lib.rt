@@ -1,5 +1,6 @@
 // A log that comes in fragments, played with the counts beside the engine's arrays, for its report. No line is written.
 #![tactic(auto)]
+
 ghost use Rattle.report_play.specs.Playing.{CanPlay, PlayedOn};
 
 use board::Board;

@@ -62,8 +62,8 @@ module _ (s : State) (ids lens out : List ℕ) where
   module _ (k : CanGoOn s ids lens) (room : length s.kept ≡ 13) (e : End) (is : e ≡ end_in s.at s.came s.stage) (full : Bool)
       (stopped : full ≡ has_stopped s) where
     -- what is left at the log's end, from any place on
-    left-from : (p : ℕ) → rest_of (held (showing s p) ids lens) [] ≡ report_end (reporting (held s ids lens)) p e
-    left-from p =
+    left_from : (p : ℕ) → rest_of (held (showing s p) ids lens) [] ≡ report_end (reporting (held s ids lens)) p e
+    left_from p =
         going_rest (held (showing s p) ids lens) refl []
         ∙ report_cut (reporting (held s ids lens)) p s.at (kept_bytes s.kept s.came ++ []) s.stage s.came
         (kept_next s.at s.kept s.came s.stage room k.fit)
@@ -82,20 +82,20 @@ module _ (s : State) (ids lens out : List ℕ) where
       counts = s.counts;
     }
 
-    left-all : rest_of (held s ids lens) [] ≡ report_end (reporting (held s ids lens)) s.shown e
-    left-all = ap (λ (x : State). rest_of (held x ids lens) []) itself ∙ left-from s.shown
+    left_all : rest_of (held s ids lens) [] ≡ report_end (reporting (held s ids lens)) s.shown e
+    left_all = ap (λ (x : State). rest_of (held x ids lens) []) itself ∙ left_from s.shown
 
     -- one line
-    pub close-alone : is_alone full e ≡ true → (used : ℕ) (out' : List ℕ) → Written out 0 (one_line full e) used out' → used ≤ length out
+    pub close_alone : is_alone full e ≡ true → (used : ℕ) (out' : List ℕ) → Written out 0 (one_line full e) used out' → used ≤ length out
         → CloseDone s ids lens out (ended_piece 0 used s) out'
-    close-alone one used out' w small = record {
+    close_alone one used out' w small = record {
       done = refl;
       none = refl;
       closed = record {
         fits = small;
         joined =
             ap (λ (t : List ℕ). take used out' ++ t) (ended_rest s ids lens []) ∙ append-nil (take used out') ∙ l.text
-            ∙ alone_line (reporting (held s ids lens)) s.shown full e (stopped ∙ full_is s ids lens) one ∙ sym left-all;
+            ∙ alone_line (reporting (held s ids lens)) s.shown full e (stopped ∙ full_is s ids lens) one ∙ sym left_all;
         untouched = l.rest;
       };
       goes_on = over_code s ids lens k.ids_all k.lens_all;
@@ -116,8 +116,8 @@ module _ (s : State) (ids lens out : List ℕ) where
       counting : s.counts.full ≡ false
       counting = sym (ap (λ (t : Bool). t && s.counts.full) past) ∙ sym stopped ∙ (not_alone full e many).0
 
-      pub close-small : (p : ℕ) → Small (account_now (tallies_of s.counts) p)
-      close-small p = fit_small (view s.board ids lens) p (account_now (tallies_of s.counts) p) (known.fits counting p)
+      pub close_small : (p : ℕ) → Small (account_now (tallies_of s.counts) p)
+      close_small p = fit_small (view s.board ids lens) p (account_now (tallies_of s.counts) p) (known.fits counting p)
 
       lines_are : (p : ℕ) → lines_from_in s.board (tallies_of s.counts) p ≡ report_end (reporting (held s ids lens)) p e
       lines_are p =
@@ -132,7 +132,7 @@ module _ (s : State) (ids lens out : List ℕ) where
             ap (λ (t : State). rest_of (held t ids lens) []) q ∙ ended_rest s ids lens []
             ∙ sym (ap (λ (t : State). cond t.over [] (lines_from_in s.board (tallies_of s.counts) t.shown)) q)
         left (inr m) =
-            ap (λ (t : State). rest_of (held t ids lens) []) m.0 ∙ left-from x.state.shown ∙ sym (lines_are x.state.shown)
+            ap (λ (t : State). rest_of (held t ids lens) []) m.0 ∙ left_from x.state.shown ∙ sym (lines_are x.state.shown)
             ∙ sym (ap (λ (t : State). cond t.over [] (lines_from_in s.board (tallies_of s.counts) x.state.shown)) m.0)
 
         on : (x.state ≡ ended_state s) ⊎ ((x.state ≡ showing s x.state.shown) × ((s.shown < x.state.shown) × (x.state.shown ≤ 64)))
@@ -148,13 +148,13 @@ module _ (s : State) (ids lens out : List ℕ) where
             ∙ can_code (showing s x.state.shown) ids lens
             (record { going = refl; fit = k.fit; low = k.low; ids_all = k.ids_all; lens_all = k.lens_all; good = k.good })
 
-        pub close-places : CloseDone s ids lens out x out'
-        close-places = record {
+        pub close_places : CloseDone s ids lens out x out'
+        close_places = record {
           done = shown.done;
           none = shown.none;
           closed = record {
             fits = shown.fits;
-            joined = ap (λ (t : List ℕ). take x.used out' ++ t) (left shown.stays) ∙ shown.joined ∙ lines_are s.shown ∙ sym left-all;
+            joined = ap (λ (t : List ℕ). take x.used out' ++ t) (left shown.stays) ∙ shown.joined ∙ lines_are s.shown ∙ sym left_all;
             untouched = shown.rest;
           };
           goes_on = next shown.stays;

@@ -45,39 +45,39 @@ module _ (s : State) (ids lens : List ℕ) (a : length ids ≡ 2048) (d : length
   early_is = ap (λ (t : Bool). cond t 3 (cond (is_sound s.board ids lens) 0 2)) (none_wrong (length ids) (length lens) a d)
 
   module _ (going : s.over ≡ false) where
-    going-code : feed_code s ids lens ≡ cond (unfit s ids lens) 2 0
-    going-code = tables_right ∙ ap (λ (t : Bool). cond t 0 (cond (unfit s ids lens) 2 0)) going
+    going_code : feed_code s ids lens ≡ cond (unfit s ids lens) 2 0
+    going_code = tables_right ∙ ap (λ (t : Bool). cond t 0 (cond (unfit s ids lens) 2 0)) going
 
-    pub code-kept : fits ≡ false → 2 ≡ feed_code s ids lens
-    code-kept e = sym (going-code ∙ ap (λ (t : Bool). cond (not t || (past_l s.stage && (unsound || uncounted))) 2 0) e)
+    pub code_kept : fits ≡ false → 2 ≡ feed_code s ids lens
+    code_kept e = sym (going_code ∙ ap (λ (t : Bool). cond (not t || (past_l s.stage && (unsound || uncounted))) 2 0) e)
 
     module _ (e : fits ≡ true) where
-      fit-code : feed_code s ids lens ≡ cond (past_l s.stage && (unsound || uncounted)) 2 0
-      fit-code = going-code ∙ ap (λ (t : Bool). cond (not t || (past_l s.stage && (unsound || uncounted))) 2 0) e
+      fit_code : feed_code s ids lens ≡ cond (past_l s.stage && (unsound || uncounted)) 2 0
+      fit_code = going_code ∙ ap (λ (t : Bool). cond (not t || (past_l s.stage && (unsound || uncounted))) 2 0) e
 
-      pub code-before : past_l s.stage ≡ false → 0 ≡ feed_code s ids lens
-      code-before p = sym (fit-code ∙ ap (λ (t : Bool). cond (t && (unsound || uncounted)) 2 0) p)
+      pub code_before : past_l s.stage ≡ false → 0 ≡ feed_code s ids lens
+      code_before p = sym (fit_code ∙ ap (λ (t : Bool). cond (t && (unsound || uncounted)) 2 0) p)
 
       module _ (p : past_l s.stage ≡ true) where
-        past-code : feed_code s ids lens ≡ cond (unsound || uncounted) 2 0
-        past-code = fit-code ∙ ap (λ (t : Bool). cond (t && (unsound || uncounted)) 2 0) p
+        past_code : feed_code s ids lens ≡ cond (unsound || uncounted) 2 0
+        past_code = fit_code ∙ ap (λ (t : Bool). cond (t && (unsound || uncounted)) 2 0) p
 
-        pub code-early : early_code s.board ids lens ≢ 0 → early_code s.board ids lens ≡ feed_code s ids lens
-        code-early ne = early_is ∙ go (is_sound s.board ids lens) refl
+        pub code_early : early_code s.board ids lens ≢ 0 → early_code s.board ids lens ≡ feed_code s ids lens
+        code_early ne = early_is ∙ go (is_sound s.board ids lens) refl
           where
             go : (t : Bool) → is_sound s.board ids lens ≡ t → ◌≡◌ {A = ℕ} (cond t 0 2) (feed_code s ids lens)
             go true q = absurd (ne (early_is ∙ ap (λ (t : Bool). cond t 0 2) q))
-            go false q = sym (past-code ∙ ap (λ (t : Bool). cond (not t || uncounted) 2 0) q)
+            go false q = sym (past_code ∙ ap (λ (t : Bool). cond (not t || uncounted) 2 0) q)
 
         module _ (sound : is_sound s.board ids lens ≡ true) where
-          sound-code : feed_code s ids lens ≡ cond uncounted 2 0
-          sound-code = past-code ∙ ap (λ (t : Bool). cond (not t || uncounted) 2 0) sound
+          sound_code : feed_code s ids lens ≡ cond uncounted 2 0
+          sound_code = past_code ∙ ap (λ (t : Bool). cond (not t || uncounted) 2 0) sound
 
-          pub code-counts : counts_fit_now s.board s.counts ≡ false → 2 ≡ feed_code s ids lens
-          code-counts q = sym (sound-code ∙ ap (λ (t : Bool). cond (not t) 2 0) q)
+          pub code_counts : counts_fit_now s.board s.counts ≡ false → 2 ≡ feed_code s ids lens
+          code_counts q = sym (sound_code ∙ ap (λ (t : Bool). cond (not t) 2 0) q)
 
-          pub code-ready : counts_fit_now s.board s.counts ≡ true → 0 ≡ feed_code s ids lens
-          code-ready q = sym (sound-code ∙ ap (λ (t : Bool). cond (not t) 2 0) q)
+          pub code_ready : counts_fit_now s.board s.counts ≡ true → 0 ≡ feed_code s ids lens
+          code_ready q = sym (sound_code ∙ ap (λ (t : Bool). cond (not t) 2 0) q)
 
 -- a state from which a report goes on is not refused
 pub can_code : (s : State) (ids lens : List ℕ) → CanGoOn s ids lens → feed_code s ids lens ≡ 0
@@ -89,9 +89,9 @@ can_code s ids lens k = go (past_l s.stage) refl
     go : (t : Bool) → past_l s.stage ≡ t → feed_code s ids lens ≡ 0
     go true p =
         let l = k.good p in
-        sym (code-ready s ids lens k.ids_all k.lens_all k.going e p (sound_known s.board ids lens l.good)
+        sym (code_ready s ids lens k.ids_all k.lens_all k.going e p (sound_known s.board ids lens l.good)
         ((counts_fit_decides s.board ids lens s.counts l.good l.sized).no l.fits))
-    go false p = sym (code-before s ids lens k.ids_all k.lens_all k.going e p)
+    go false p = sym (code_before s ids lens k.ids_all k.lens_all k.going e p)
 
 -- nor is one where the report is over
 pub over_code : (s : State) (ids lens : List ℕ) → length ids ≡ 2048 → length lens ≡ 2048 → feed_code (ended_state s) ids lens ≡ 0
@@ -121,14 +121,14 @@ code_low s ids lens z e = go (wrong_tables (length ids) (length lens)) refl z
         let fit! = fit_only s.at s.kept s.came s.stage f in
         omega (arith, fit!.1, (part_is s.at s.kept s.came s.stage s.came fit!.0).low)
 
-    by-fit : (t : Bool) → is_fit s.at s.kept s.came s.stage ≡ t → feed_code s ids lens ≡ 0 → length ids ≡ 2048 → length lens ≡ 2048
+    by_fit : (t : Bool) → is_fit s.at s.kept s.came s.stage ≡ t → feed_code s ids lens ≡ 0 → length ids ≡ 2048 → length lens ≡ 2048
         → offset_of s ≤ 2 ^ 48
-    by-fit true f q a d = low f
-    by-fit false f q a d = absurd (omega (arith, code-kept s ids lens a d e f, q))
+    by_fit true f q a d = low f
+    by_fit false f q a d = absurd (omega (arith, code_kept s ids lens a d e f, q))
 
     go : (t : Bool) → wrong_tables (length ids) (length lens) ≡ t → ◌≡◌ {A = ℕ} (cond t 3 (cond s.over 0 (cond (unfit s ids lens) 2 0))) 0
         → offset_of s ≤ 2 ^ 48
     go true q w = absurd (omega arith)
     go false q w =
         let tables = right_tables (length ids) (length lens) q in
-        by-fit (is_fit s.at s.kept s.came s.stage) refl z tables.0 tables.1
+        by_fit (is_fit s.at s.kept s.came s.stage) refl z tables.0 tables.1

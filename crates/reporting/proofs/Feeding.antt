@@ -115,8 +115,8 @@ can_play s ids lens k p = record { past = p; fit = k.fit; low = k.low; good = k.
 module _ (s : State) (ids lens fragment out : List ℕ) (k : CanGoOn s ids lens) (p : past_l s.stage ≡ true) where
   module _ (r : Played) (ids' lens' : List ℕ) (u : PlayedOn s ids lens fragment r ids' lens') where
     -- all of the fragment is played
-    pub next-done : r.ends ≡ false → FeedDone s ids lens fragment out (stayed 0 (length fragment) r.state) ids' lens' out
-    next-done e = record {
+    pub next_done : r.ends ≡ false → FeedDone s ids lens fragment out (stayed 0 (length fragment) r.state) ids' lens' out
+    next_done e = record {
       done = refl;
       told = record {
         within = omega arith;
@@ -182,8 +182,8 @@ module _ (s : State) (ids lens fragment out : List ℕ) (k : CanGoOn s ids lens)
     partly =
         record { stage = s.stage; over = false; at = s.at; came = now; kept = after; shown = s.shown; board = s.board; counts = s.counts }
 
-    partly-goes : CanGoOn partly ids lens
-    partly-goes = record {
+    partly_goes : CanGoOn partly ids lens
+    partly_goes = record {
       going = refl;
       fit = h.fit;
       low = k.low;
@@ -204,7 +204,7 @@ module _ (s : State) (ids lens fragment out : List ℕ) (k : CanGoOn s ids lens)
             ∙ sym (before_rest s ids lens k.going p (fragment ++ later));
         untouched = refl;
       };
-      goes_on = can_code partly ids lens partly-goes;
+      goes_on = can_code partly ids lens partly_goes;
       quiet = λ q. refl;
       all = λ q. inr p;
       moves = λ q n. omega (arith, h.moves);
@@ -229,8 +229,8 @@ module _ (s : State) (ids lens fragment out : List ℕ) (k : CanGoOn s ids lens)
     reads_made : reads (ledger b ids' lens' (tallies_of zero_counts) false) ≡ record { board = fresh l; counts = no_counts }
     reads_made = λ i. record { board = made_starts.reads i; counts = zero_reads i }
 
-    made-known : KnownLedger (ledger b ids' lens' (tallies_of zero_counts) false)
-    made-known = record {
+    made_known : KnownLedger (ledger b ids' lens' (tallies_of zero_counts) false)
+    made_known = record {
       good = made_starts.good;
       fits = subst (λ (r : Reporting). CountsFit r.board r.counts) (sym reads_made) (fits_fresh l);
       sized = record {
@@ -249,14 +249,14 @@ module _ (s : State) (ids lens fragment out : List ℕ) (k : CanGoOn s ids lens)
       past! : past_l stage ≡ true
       past! = ap past_l on ∙ past_after (Largest l) s.stage g.turn
 
-      made-goes : CanGoOn made ids' lens'
-      made-goes = record {
+      made_goes : CanGoOn made ids' lens'
+      made_goes = record {
         going = refl;
         fit = none_come (s.at + size) after stage;
         low = g.low;
         ids_all = made_starts.good.ids_all;
         lens_all = made_starts.good.lens_all;
-        good = λ q. made-known;
+        good = λ q. made_known;
       }
 
       pub first_made : FeedDone s ids lens fragment out (stayed 0 (size - s.came) made) ids' lens' out
@@ -276,7 +276,7 @@ module _ (s : State) (ids lens fragment out : List ℕ) (k : CanGoOn s ids lens)
               ∙ sym (before_rest s ids lens k.going p (fragment ++ later));
           untouched = refl;
         };
-        goes_on = can_code made ids' lens' made-goes;
+        goes_on = can_code made ids' lens' made_goes;
         quiet = λ q. refl;
         all = λ q. inr p;
         moves = λ q n. omega (arith, g.begins);

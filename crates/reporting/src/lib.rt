@@ -1,6 +1,7 @@
 // The report of a log that comes in fragments: it is lent one after the other, and played. Where it has ended, a line
 // is written for each block that is open there, to lent buffers; `full`, `broken N` and `long` are written alone.
 #![tactic(auto)]
+
 ghost use Rattle.std.specs.Prelude.{◌≡◌, true, false, ℕ, ◌+◌, ◌*◌, ◌^◌, ◌≤◌, ◌<◌, length};
 ghost use Rattle.log_bytes.specs.Format.{past_l};
 ghost use Rattle.lines.specs.Text.{Written};

@@ -232,9 +232,9 @@ module _ (b : Board) (sh : Shape b.largest b.clock b.places b.orders b.held) whe
     is_named : {y : Place} → (y ≡ free_place) ⊎ ((1 ≤ (at b p).number) × (1 ≤ (at b p).share))
     is_named = inr (named_num (at b p) can.has.bought (sh.place_ok p).named, can.has.bought)
 
-    pub joins-ok : PlaceOk L (joins b.clock (at b p) r)
+    pub joins_ok : PlaceOk L (joins b.clock (at b p) r)
     unfolding All StandOk
-    joins-ok =
+    joins_ok =
         let k = sh.place_ok p in
         record {
           items = ((can.least, can.most), tt);
@@ -247,8 +247,8 @@ module _ (b : Board) (sh : Shape b.largest b.clock b.places b.orders b.held) whe
           named = is_named;
         }
 
-    pub more-ok : 1 ≤ length (at b p).lane → PlaceOk L (more (at b p) r)
-    more-ok h =
+    pub more_ok : 1 ≤ length (at b p).lane → PlaceOk L (more (at b p) r)
+    more_ok h =
         let k = sh.place_ok p in
         record {
           items = all_snoc (InSize L) (at b p).lane r k.items (can.least, can.most);
@@ -297,10 +297,10 @@ module _ (b : Board) (p n : ℕ) (x : Record) (can : CanTake b p n x) (g : Good 
           fine : Fine b.largest b.clock (busy b.slot) (set b.places p y) (joining b p y).orders b.held
           fine =
               let bought = can.has.bought in
-              let yok = joins-ok b g.fine.shape p n x can in
+              let yok = joins_ok b g.fine.shape p n x can in
               fine_join p (at b p).start (x ∷ []) (at b p).deficit in_l_lem (busy_le b.slot) (ap is_queued was) bought yok g.fine
       go false e = keeps_kept b p z g in_l_lem refl refl refl (names_kept b.places p z in_l_lem refl refl g.fine.shape.names)
-          (more-ok b g.fine.shape p n x can (false_lt (length (at b p).lane) 0 e))
+          (more_ok b g.fine.shape p n x can (false_lt (length (at b p).lane) 0 e))
         where
           z : Place
           z = more (at b p) x

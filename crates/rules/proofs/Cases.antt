@@ -96,13 +96,13 @@ where_has b n h = record {
 -- a number that is not found
 pub where_none : (b : Board) (n : ℕ) → ltb (where_is b n) 64 ≡ false → NoneHas b n
 unfolding where_is
-where_none b n e q h = true≢false (sym isT ∙ least_false t 64 q (omega (arith, h.inside, false_lt (suc (least t 64)) 64 e)))
+where_none b n e q h = true≢false (sym is_t ∙ least_false t 64 q (omega (arith, h.inside, false_lt (suc (least t 64)) 64 e)))
   where
     t : ℕ → Bool
     t i = is_open (at b i) && eqb n (at b i).number
 
-    isT : t q ≡ true
-    isT = rw (leb_yes 1 (at b q).share h.bought, eqb_yes n (at b q).number (sym h.named))
+    is_t : t q ≡ true
+    is_t = rw (leb_yes 1 (at b q).share h.bought, eqb_yes n (at b q).number (sym h.named))
 
 -- every block of the 64 places is at one of them
 pub has_at : (b : Board) (q n : ℕ) → length b.places ≡ 64 → 1 ≤ (at b q).share → (at b q).number ≡ n → Has b q n

@@ -269,11 +269,11 @@ held_step b hs x g h = record { agrees = go (some_wait nb.places) refl; alive = 
 
     go : (t : Bool) → some_wait nb.places ≡ t → HeldByHolds nb.clock nb.held (still_held nb new)
     go true w = λ d l k. steps b hs g h.agrees x w d l k ∙ sym (kept_live nb w new d k l)
-    go false w = rw (dropped nb w new) (agrees_none nb.clock nb.held (tn.calm (quiet-when (quiet nb) (sym (some_quiet nb tn) ∙ w))))
+    go false w = rw (dropped nb w new) (agrees_none nb.clock nb.held (tn.calm (quiet_when (quiet nb) (sym (some_quiet nb tn) ∙ w))))
       where
-        quiet-when : (t : Bool) → not t ≡ false → t ≡ true
-        quiet-when true e = refl
-        quiet-when false e = absurd (true≢false e)
+        quiet_when : (t : Bool) → not t ≡ false → t ≡ true
+        quiet_when true e = refl
+        quiet_when false e = absurd (true≢false e)
 
 pub held_row : (b : Board) (hs : List Hold) (xs : List Single) → Tidy b → HeldIs b hs → (k : ℕ) → (play b xs).held k ≡ sum (held_of k) (holds hs b xs)
 unfolding play holds

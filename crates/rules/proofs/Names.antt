@@ -166,21 +166,21 @@ module _ (b : Board) (p n : ℕ) (g : Tidy b) (h : Has b p n) where
       record {
         stays = λ _. (
           rw (same_name b p n q old g h c.has) (go (ℕ_discrete p q)),
-          set_field (λ (x : Place). x.share) b.places q (renamed new (at b q)) inQ refl p,
+          set_field (λ (x : Place). x.share) b.places q (renamed new (at b q)) in_q refl p,
         );
         ends = λ e. absurd (false≢true e);
         sent = refl;
         took = refl;
       }
     where
-      inQ : q < length b.places
-      inQ = omega (arith, c.has.inside, g.shape.all64)
+      in_q : q < length b.places
+      in_q = omega (arith, c.has.inside, g.shape.all64)
 
       nb : Board
       nb = go_on b q (renamed new (at b q))
 
       share : (at nb p).share ≡ (at b p).share
-      share = set_field (λ (x : Place). x.share) b.places q (renamed new (at b q)) inQ refl p
+      share = set_field (λ (x : Place). x.share) b.places q (renamed new (at b q)) in_q refl p
 
       go : Dec (p ≡ q) → Has nb p (cond (eqb p q) new n)
       go (yes e) =
@@ -188,7 +188,7 @@ module _ (b : Board) (p n : ℕ) (g : Tidy b) (h : Has b p n) where
             inside = h.inside;
             bought = rw share h.bought;
             named =
-                ap (λ (z : ℕ). (at nb z).number) e ∙ ap (λ (x : Place). x.number) (get_or-set_same b.places q (renamed new (at b q)) free_place inQ);
+                ap (λ (z : ℕ). (at nb z).number) e ∙ ap (λ (x : Place). x.number) (get_or-set_same b.places q (renamed new (at b q)) free_place in_q);
           })
       go (no e) = rw (eqb_no p q e) (same nb (ap (λ (x : Place). x.number) (get_or-set_other b.places q p (renamed new (at b q)) free_place e)) share)
 
@@ -228,15 +228,15 @@ module _ (b : Board) (p n : ℕ) (g : Tidy b) (h : Has b p n) where
             rw (same_name b p n q m g h c.has, has_where b q m g c.has);
       }
     where
-      inQ : q < length b.places
-      inQ = omega (arith, c.has.inside, g.shape.all64)
+      in_q : q < length b.places
+      in_q = omega (arith, c.has.inside, g.shape.all64)
 
       keeps : (f : Place → ℕ) → ((y : Place) → f (joins b.clock y r) ≡ f y) → ((y : Place) → f (more y r) ≡ f y) → f (at (taken_in b q r) p) ≡ f (at b p)
       keeps f byJoins byMore = go (leb (length (at b q).lane) 0)
         where
           go : (t : Bool) → f (at (cond t (joining b q (joins b.clock (at b q) r)) (go_on b q (more (at b q) r))) p) ≡ f (at b p)
-          go true = set_field f b.places q (joins b.clock (at b q) r) inQ (byJoins (at b q)) p
-          go false = set_field f b.places q (more (at b q) r) inQ (byMore (at b q)) p
+          go true = set_field f b.places q (joins b.clock (at b q) r) in_q (byJoins (at b q)) p
+          go false = set_field f b.places q (more (at b q) r) in_q (byMore (at b q)) p
 
   follow_send : (z : Sending) → let q = z.place in q < 64 → 1 ≤ (at b q).share
       → (nb : Board) → (at nb p).number ≡ (at b p).number → (at nb p).share ≡ (at b p).share

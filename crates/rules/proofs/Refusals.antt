@@ -43,19 +43,19 @@ writes_refused serve! code = refl
 pub call_by : (lent : Lent) (c : Call) (P : Outcome → Type 0) → ((code : ℕ) → P (refused_by lent c code)) → ((b : Board) → lent.board ≡ some b → P (done! b c))
     → P (call lent c)
 unfolding call
-call_by lent c P given go = byT (wrong_tables lent.numbers lent.lengths)
+call_by lent c P given go = by_t (wrong_tables lent.numbers lent.lengths)
   where
-    byS : (b : Board) → lent.board ≡ some b → (t : Bool) → P (unless_spoilt lent c t b)
-    byS b e true = given 2
-    byS b e false = go b e
+    by_s : (b : Board) → lent.board ≡ some b → (t : Bool) → P (unless_spoilt lent c t b)
+    by_s b e true = given 2
+    by_s b e false = go b e
 
-    byB : (m : Option Board) → lent.board ≡ m → P (by_board lent c m)
-    byB none e = given 2
-    byB (some b) e = byS b e (spoilt b)
+    by_b : (m : Option Board) → lent.board ≡ m → P (by_board lent c m)
+    by_b none e = given 2
+    by_b (some b) e = by_s b e (spoilt b)
 
-    byT : (t : Bool) → P (by_tables lent c t)
-    byT true = given 3
-    byT false = byB lent.board refl
+    by_t : (t : Bool) → P (by_tables lent c t)
+    by_t true = given 3
+    by_t false = by_b lent.board refl
 
 kept_all : (lent : Lent) (c : Call) (code : ℕ) → KeepsAll lent c (refused_by lent c code)
 kept_all lent c code = record { alone = refl; board = refl; entries = refl; list = refl }

@@ -82,9 +82,9 @@ module _ (L c : ℕ) (l : List Place) (o : ℕ → List ℕ) (H : ℕ → ℕ) (
   -- the slot goes on
   module _ (more : 2 ≤ length (pl l p).lane)
       (fits : bytes_charged (get_or (drop 1 (pl l p).lane) 0 no_record) * 65536 ≤ left_of (pl l p).stand - bytes_charged (front (pl l p)) * 65536) where
-    pub going-ok : PlaceOk L (going (pl l p))
+    pub going_ok : PlaceOk L (going (pl l p))
     unfolding StandOk
-    going-ok = record {
+    going_ok = record {
       items = all_rest (InSize L) (pl l p).lane (sh.place_ok p).items;
       owed = omega (arith, most_pos L sh.least);
       most = (sh.place_ok p).most;

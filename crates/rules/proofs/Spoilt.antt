@@ -323,16 +323,16 @@ tidy_of b high (
       slot = at_place b (λ x. slot_of b.largest x x.stand) slot p l;
     })
 
-    in-lists : Lists b
-    in-lists = (d_lists b).yes lists
+    in_lists : Lists b
+    in_lists = (d_lists b).yes lists
 
-    slot-below : (p : ℕ) → 64 ≤ p → (s : Option ℕ) → slot_at_place s ≡ true → is_at p s ≡ false
-    slot-below p h none e = refl
-    slot-below p h (some q) e = eqb_no p q (λ f. omega (arith, true_le (suc q) 64 e))
+    slot_below : (p : ℕ) → 64 ≤ p → (s : Option ℕ) → slot_at_place s ≡ true → is_at p s ≡ false
+    slot_below p h none e = refl
+    slot_below p h (some q) e = eqb_no p q (λ f. omega (arith, true_le (suc q) 64 e))
 
     one : (p : ℕ) → (64 ≤ p) ⊎ (p < 64) → is_serving (at b p).stand ≡ is_at p b.slot
-    one p (inl l) = ap (λ (x : Place). is_serving x.stand) (beyond b long p l) ∙ sym (slot-below p l b.slot in-lists.slot)
-    one p (inr l) = in-lists.one p l
+    one p (inl l) = ap (λ (x : Place). is_serving x.stand) (beyond b long p l) ∙ sym (slot_below p l b.slot in_lists.slot)
+    one p (inr l) = in_lists.one p l
 
     calm : quiet b ≡ true → (k : ℕ) → (17 ≤ k) ⊎ (k < 17) → b.held k ≡ 0
     calm q k (inl l) = high.no_held k l
@@ -342,17 +342,17 @@ tidy_of b high (
     rises k (inl l) = rw (high.no_order k l) tt
     rises k (inr l) = (d_rising b.places (b.orders k)).yes (all_at (λ j. never_falling b.places (b.orders j)) 17 k rising l)
 
-    no-class : (q : Bool) (k : ℕ) (x : Place) → 17 ≤ k → q && eqb k (block_class x) ≡ false
-    no-class true k x l = eqb_no k (block_class x) (λ e. omega (arith, class_le x.share))
-    no-class false k x l = refl
+    no_class : (q : Bool) (k : ℕ) (x : Place) → 17 ≤ k → q && eqb k (block_class x) ≡ false
+    no_class true k x l = eqb_no k (block_class x) (λ e. omega (arith, class_le x.share))
+    no_class false k x l = refl
 
     listed : (k p : ℕ) → (17 ≤ k) ⊎ (k < 17) → (64 ≤ p) ⊎ (p < 64) → count p (b.orders k) ≡ one_if (in_class k (at b p))
-    listed k p (inl l) m = rw (high.no_order k l, no-class (is_queued (at b p).stand) k (at b p) l)
-    listed k p (inr l) (inr m) = in-lists.listed k l p m
+    listed k p (inl l) m = rw (high.no_order k l, no_class (is_queued (at b p).stand) k (at b p) l)
+    listed k p (inr l) (inr m) = in_lists.listed k l p m
     listed k p (inr l) (inl m) = none (split 1 (count p (b.orders k))) ∙ sym (ap (λ (x : Place). one_if (in_class k x)) (beyond b long p m))
       where
         none : (1 ≤ count p (b.orders k)) ⊎ (count p (b.orders k) < 1) → count p (b.orders k) ≡ 0
-        none (inl a) = absurd (omega (arith, in-lists.inside k l p a))
+        none (inl a) = absurd (omega (arith, in_lists.inside k l p a))
         none (inr a) = omega arith
 
 clauses_of : (b : Board) → Tidy b → Each (clauses b)

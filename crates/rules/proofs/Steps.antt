@@ -100,7 +100,7 @@ joined c s = record { share = s.share; ord = true; ready = next_start (class s) 
 pub join_in_time : (l : List Seat) (H : ℕ → ℕ) (c d p : ℕ) → d ≤ 1 → p < length l → 1 ≤ (get_or l p free).share → (get_or l p free).ord ≡ false
     → InTime l H c d → InTime (set l p (joined c (get_or l p free))) H c d
 join_in_time l H c d p d1 h one was s =
-    record { ok = ok_other l c d p new h s.ok (λ e. okNew); fits = fits; bought = omega (arith, s.bought, sum_set (λ t. t.share) free l p new h) }
+    record { ok = ok_other l c d p new h s.ok (λ e. ok_new); fits = fits; bought = omega (arith, s.bought, sum_set (λ t. t.share) free l p new h) }
   where
     old : Seat
     old = get_or l p free
@@ -108,8 +108,8 @@ join_in_time l H c d p d1 h one was s =
     new : Seat
     new = joined c old
 
-    okNew : SeatOk c d new
-    okNew =
+    ok_new : SeatOk c d new
+    ok_new =
         record {
           bought = one;
           start = next_start_lem (class old) c;

@@ -80,7 +80,7 @@ module _ (L c : ℕ) (l : List Place) (o : ℕ → List ℕ) (H : ℕ → ℕ) (
           (serving_not_queued (pl l p).stand is_s) (Slot.short_ok L c l o H p g.shape g.one m (true_le (suc rest) nx e)) g.shape)
       two m false e =
           tidy_go_on (going (pl l p)) refl
-          (same (going (pl l p)) refl refl refl refl (Slot.going-ok L c l o H p g.shape g.one m (omega (arith, false_lt (suc rest) nx e))))
+          (same (going (pl l p)) refl refl refl refl (Slot.going_ok L c l o H p g.shape g.one m (omega (arith, false_lt (suc rest) nx e))))
 
       go : (t : Bool) → leb (length (pl l p).lane) 1 ≡ t
           → Tidy (cond t (ended b p (emptied (pl l p)) o) (cond (ltb rest nx) (ended b p (short c (pl l p)) o') (go_on b p (going (pl l p)))))
@@ -89,10 +89,10 @@ module _ (L c : ℕ) (l : List Place) (o : ℕ → List ℕ) (H : ℕ → ℕ) (
 
 pub tidy_send : (b : Board) (p : ℕ) → b.slot ≡ some p → Tidy b → Tidy (send_from b p)
 tidy_send b p e =
-    subst (λ (s : Option ℕ). Tidy (set-slot s) → Tidy (send_from (set-slot s) p)) (sym e) (tidy_lit b.largest b.clock b.places b.orders b.held p)
+    subst (λ (s : Option ℕ). Tidy (set_slot s) → Tidy (send_from (set_slot s) p)) (sym e) (tidy_lit b.largest b.clock b.places b.orders b.held p)
   where
-    set-slot : Option ℕ → Board
-    set-slot s = lit b.largest b.clock b.places b.orders s b.held
+    set_slot : Option ℕ → Board
+    set_slot s = lit b.largest b.clock b.places b.orders s b.held
 
 -- a slot begins
 module _ (b : Board) (r : ℕ) (free : b.slot ≡ none) (least : LeastIs b.places (some r)) (soon : max b.clock r < 2 ^ 62) (g : Tidy b) where

@@ -25,7 +25,7 @@ use Rattle.rules.proofs.Shape.{Shape, Distinct, PlaceOk, names_kept, free_ok, sh
 use Rattle.rules.proofs.Shape.{shape_other, LeastIs, least_is}
 use Rattle.rules.proofs.Good.{names_free}
 use Rattle.rules.proofs.Turns.{lit}
-use Rattle.rules.proofs.Calls.{set_field, in_places, names_new, free_out, empty_out, opened_ok, renamed_ok, joins-ok, more-ok}
+use Rattle.rules.proofs.Calls.{set_field, in_places, names_new, free_out, empty_out, opened_ok, renamed_ok, joins_ok, more_ok}
 use Rattle.rules.proofs.Tidy.{Tidy, tidy_send, tidy_sent}
 use Rattle.rules.proofs.Cases.{CanOpen, CanRename, CanClose, CanTake, other_cases, serve_turns, least_of}
 
@@ -58,7 +58,7 @@ module _ (b : Board) (p n : ℕ) (x : Record) (can : CanTake b p n x) (g : Tidy 
     where
       go : (t : Bool) → leb (length (at b p).lane) 0 ≡ t → Tidy (cond t (joining b p (joins b.clock (at b p) x)) (go_on b p (more (at b p) x)))
       go true e = record {
-        shape = shape_join p (at b p).start (x ∷ []) (at b p).deficit in_l_lem (ap is_queued was) (joins-ok b g.shape p n x can) g.shape;
+        shape = shape_join p (at b p).start (x ∷ []) (at b p).deficit in_l_lem (ap is_queued was) (joins_ok b g.shape p n x can) g.shape;
         one = λ q. set_field (λ z. is_serving z.stand) b.places p y in_l_lem (sym (ap is_serving was)) q ∙ g.one q;
         calm = λ q. absurd (noisy (least_ready l) (least_is l) (and_right (is_none b.slot) (is_none (least_ready l)) q));
         time = g.time;
@@ -84,7 +84,7 @@ module _ (b : Board) (p n : ℕ) (x : Record) (can : CanTake b p n x) (g : Tidy 
           z = more (at b p) x
 
           zok : PlaceOk b.largest (more (at b p) x)
-          zok = more-ok b g.shape p n x can (false_lt (length (at b p).lane) 0 e)
+          zok = more_ok b g.shape p n x can (false_lt (length (at b p).lane) 0 e)
 
 tidy_rename : (b : Board) (p old new : ℕ) → CanRename b p old new → Tidy b → Tidy (go_on b p (renamed new (at b p)))
 tidy_rename b p old new can g =

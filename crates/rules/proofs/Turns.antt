@@ -312,8 +312,8 @@ keeps_sent b nb z only w long timely s = record { good = s.good; stays = stays; 
         go (queued r) e = let v = ap in_line e in omega (arith, s.again v, bar_waits nb.clock (at nb p).share (at nb p).stand v)
         go (serving n) e = let v = ap in_line e in omega (arith, s.again v, bar_waits nb.clock (at nb p).share (at nb p).stand v)
 
-    ownBars : Bars b turn p
-    ownBars = record { rise = up (is_none b.slot) refl; slot = λ e. (omega (arith, is_due, (timely.begins (sym now ∙ e)).0), after) }
+    own_bars : Bars b turn p
+    own_bars = record { rise = up (is_none b.slot) refl; slot = λ e. (omega (arith, is_due, (timely.begins (sym now ∙ e)).0), after) }
       where
         now : begun b turn p ≡ is_none b.slot
         now = rw (eqb_yes p p refl) (and_true (is_none b.slot))
@@ -329,7 +329,7 @@ keeps_sent b nb z only w long timely s = record { good = s.good; stays = stays; 
     bars q e = go (ℕ_discrete q p)
       where
         go : Dec (q ≡ p) → Bars b turn q
-        go (yes f) = rw f ownBars
+        go (yes f) = rw f own_bars
         go (no f) = bars_same b turn q (eqb_no q p f) (rw (s.others q f) (bar_mono b.clock nb.clock (at b q).share (at b q).stand s.onward))
 
     comes : (q : ℕ) → in_line (at nb q).stand ≡ true → (in_line (at b q).stand ≡ false) ⊎ (eqb q p ≡ true)
@@ -386,16 +386,16 @@ module _ (L c : ℕ) (l : List Place) (o : ℕ → List ℕ) (H : ℕ → ℕ) (
   -- the slot goes on
   module _ (more : 2 ≤ length (pl l p).lane)
       (fits : bytes_charged (get_or (drop 1 (pl l p).lane) 0 no_record) * 65536 ≤ left_of (pl l p).stand - bytes_charged (front (pl l p)) * 65536) where
-    going-ok : PlaceOk L (going (pl l p))
-    going-ok = Slot.going-ok L c l o H p g.fine.shape g.one more fits
+    going_ok : PlaceOk L (going (pl l p))
+    going_ok = Slot.going_ok L c l o H p g.fine.shape g.one more fits
 
-    sends-going : Sends (lit L c l o (some p) H) (lit L c (set l p (going (pl l p))) o (some p) H) p (bytes_charged (front (pl l p))) c 0
+    sends_going : Sends (lit L c l o (some p) H) (lit L c (set l p (going (pl l p))) o (some p) H) p (bytes_charged (front (pl l p))) c 0
     unfolding slot_bytes_left
-    sends-going = record {
+    sends_going = record {
       good =
           record {
             fine = fine_same p (going (pl l p)) in_l (serving_seat (pl l p) is_s)
-                (names_kept l p (going (pl l p)) in_l refl refl g.fine.shape.names) going-ok g.fine;
+                (names_kept l p (going (pl l p)) in_l refl refl g.fine.shape.names) going_ok g.fine;
             one = one;
           };
       others = others_set (going (pl l p));
@@ -451,11 +451,11 @@ module _ (L c : ℕ) (l : List Place) (o : ℕ → List ℕ) (H : ℕ → ℕ) (
     short_ok : PlaceOk L (short c (pl l p))
     short_ok = Slot.short_ok L c l o H p g.fine.shape g.one more lacks
 
-    sends-short : Sends (lit L c l o (some p) H)
+    sends_short : Sends (lit L c l o (some p) H)
         (ended (lit L c l o (some p) H) p (short c (pl l p)) (upd o (block_class (pl l p)) (o (block_class (pl l p)) ++ (p ∷ [])))) p
         (bytes_charged (front (pl l p))) c 0
     unfolding slot_bytes_left ended
-    sends-short = record {
+    sends_short = record {
       good = record {
         fine =
             fine_tick (fine_join p (onward (pl l p)) (drop 1 (pl l p).lane) x.deficit in_l (omega arith) (serving_not_queued (pl l p).stand is_s)
@@ -499,8 +499,8 @@ module _ (L c : ℕ) (l : List Place) (o : ℕ → List ℕ) (H : ℕ → ℕ) (
 
       two : 2 ≤ length (pl l p).lane → (t : Bool) → ltb rest nx ≡ t
           → Sends b (cond t (ended b p (short c (pl l p)) o') (go_on b p (going (pl l p)))) p (bytes_charged (front (pl l p))) c 0
-      two m true e = sends-short m (true_le (suc rest) nx e)
-      two m false e = sends-going m (omega (arith, false_lt (suc rest) nx e))
+      two m true e = sends_short m (true_le (suc rest) nx e)
+      two m false e = sends_going m (omega (arith, false_lt (suc rest) nx e))
 
       go : (t : Bool) → leb (length (pl l p).lane) 1 ≡ t
           → Sends b (cond t (ended b p (emptied (pl l p)) o) (cond (ltb rest nx) (ended b p (short c (pl l p)) o') (go_on b p (going (pl l p))))) p
@@ -511,11 +511,11 @@ module _ (L c : ℕ) (l : List Place) (o : ℕ → List ℕ) (H : ℕ → ℕ) (
 -- a send while the slot is open at p
 pub sends : (b : Board) (p : ℕ) → b.slot ≡ some p → Good b → Sends b (send_from b p) p (bytes_charged (front (at b p))) b.clock 0
 sends b p e =
-    subst (λ (s : Option ℕ). Good (set-slot s) → Sends (set-slot s) (send_from (set-slot s) p) p (bytes_charged (front (at b p))) b.clock 0) (sym e)
+    subst (λ (s : Option ℕ). Good (set_slot s) → Sends (set_slot s) (send_from (set_slot s) p) p (bytes_charged (front (at b p))) b.clock 0) (sym e)
     (sends_lit b.largest b.clock b.places b.orders b.held p)
   where
-    set-slot : Option ℕ → Board
-    set-slot s = lit b.largest b.clock b.places b.orders s b.held
+    set_slot : Option ℕ → Board
+    set_slot s = lit b.largest b.clock b.places b.orders s b.held
 
 pub lane_some : (L share : ℕ) (lane : List Record) (s : Stand) → in_line s ≡ true → StandOk L share lane s → 1 ≤ length lane
 unfolding StandOk
@@ -532,7 +532,7 @@ front_pos b p g w =
 pub keeps_send : (b : Board) (p : ℕ) → b.slot ≡ some p → Good b → Keeps b (send false b p)
 unfolding send
 keeps_send b p e g =
-    keeps_sent b (send_from b p) (sending false b p) only isW (front_pos b p g isW) timely
+    keeps_sent b (send_from b p) (sending false b p) only is_w (front_pos b p g is_w) timely
     (subst (λ (n : ℕ). Sends b (send_from b p) p (bytes_charged (front (at b p))) b.clock n) (sym given) (sends b p e g))
   where
     is_s : is_serving (at b p).stand ≡ true
@@ -547,5 +547,5 @@ keeps_send b p e g =
     only : (q : ℕ) → is_serving (at b q).stand ≡ true → q ≡ p
     only q f = eqb_true q p (ap (is_at q) (sym e) ∙ sym (g.one q) ∙ f)
 
-    isW : in_line (at b p).stand ≡ true
-    isW = serving_waits (at b p).stand is_s
+    is_w : in_line (at b p).stand ≡ true
+    is_w = serving_waits (at b p).stand is_s

@@ -25,11 +25,11 @@ some_yes : (l : List Place) (p : ℕ) → p < length l → 1 ≤ length (get_or 
 unfolding some_wait
 some_yes [] p h w = absurd (omega arith)
 some_yes (x ∷ xs) zero h w = rw (leb_yes 1 (length x.lane) w)
-some_yes (x ∷ xs) (suc p) h w = rw (some_yes xs p (omega arith) w) (or-true (waits x))
+some_yes (x ∷ xs) (suc p) h w = rw (some_yes xs p (omega arith) w) (or_true (waits x))
   where
-    or-true : (t : Bool) → t || true ≡ true
-    or-true true = refl
-    or-true false = refl
+    or_true : (t : Bool) → t || true ≡ true
+    or_true true = refl
+    or_true false = refl
 
 some_no : (l : List Place) → ((p : ℕ) → length (get_or l p free_place).lane ≡ 0) → some_wait l ≡ false
 unfolding some_wait

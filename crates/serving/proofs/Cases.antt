@@ -27,12 +27,12 @@ module _ (shares lens : List ℕ) (p : ℕ) (e : Engine) (entry bytes_charged on
 
   module _ (following need : ℕ) (more : get_or e.counts p 0 - 1 ≢ 0) (following-is : following ≡ lane_entry p on 0)
       (need-is : need ≡ charge_of (get_or lens following 0)) where
-    pub sent-on : need ≤ e.now.left.0 - bytes_charged
+    pub sent_on : need ≤ e.now.left.0 - bytes_charged
         → engine_now (set e.starts p on) (set e.counts p (get_or e.counts p 0 - 1)) e.queues.deficits e.queues.ready e.queues.next
         e.queues.heads e.queues.tails e.queues.held
         (numbers_now e.now.clock e.now.active e.now.pending (p + 1) (e.now.left.0 - bytes_charged)) ≡ sent_from shares lens p e
     unfolding sent_from
-    sent-on h =
+    sent_on h =
         rw (
           ne_eqb (get_or e.counts p 0 - 1) 0 more,
           ← entry_is,
@@ -43,12 +43,12 @@ module _ (shares lens : List ℕ) (p : ℕ) (e : Engine) (entry bytes_charged on
           le-leb need (e.now.left.0 - bytes_charged) h,
         )
 
-    pub sent-waits : e.now.left.0 - bytes_charged < need → (x : WaitingEnd)
+    pub sent_waits : e.now.left.0 - bytes_charged < need → (x : WaitingEnd)
         → x ≡ ended_waiting p k (e.now.left.0 - bytes_charged) e.now.clock e.now.active e.now.pending e.queues
         → engine_now (set e.starts p on) (set e.counts p (get_or e.counts p 0 - 1)) x.queues.deficits x.queues.ready x.queues.next
         x.queues.heads x.queues.tails x.queues.held x.now ≡ sent_from shares lens p e
     unfolding sent_from
-    sent-waits h x x-is =
+    sent_waits h x x-is =
         rw (
           ne_eqb (get_or e.counts p 0 - 1) 0 more,
           ← entry_is,
@@ -85,23 +85,23 @@ module _ (shares lens : List ℕ) (L bytes room : ℕ) (e : Engine) where
   within_stop code s c s-is = rw (c, s-is)
 
   module _ (p t : ℕ) (c : choice_of e ≡ Go p t) where
-    pub within-full : (s : Step) → room ≡ 0 → s ≡ stayed 14 e.now → at_rest s
+    pub within_full : (s : Step) → room ≡ 0 → s ≡ stayed 14 e.now → at_rest s
     unfolding served_within
-    within-full s z s-is = rw (c, eq-eqb room 0 z, s-is)
+    within_full s z s-is = rw (c, eq-eqb room 0 z, s-is)
 
     module _ (entry bytes_charged : ℕ) (some : room ≢ 0) (entry_is : entry ≡ lane_entry p (get_or e.starts p 0) 0)
         (charge_is : bytes_charged ≡ charged (get_or lens entry 0)) where
-      pub within-long : (s : Step) → bytes < bytes_charged → s ≡ stayed 13 e.now → at_rest s
+      pub within_long : (s : Step) → bytes < bytes_charged → s ≡ stayed 13 e.now → at_rest s
       unfolding served_within
-      within-long s h s-is = rw (c, ne_eqb room 0 some, ← entry_is, ← charge_is, lt-ltb bytes bytes_charged h, s-is)
+      within_long s h s-is = rw (c, ne_eqb room 0 some, ← entry_is, ← charge_is, lt-ltb bytes bytes_charged h, s-is)
 
-      pub within-done : bytes_charged ≤ bytes → (n : Engine) (lost : ℕ)
+      pub within_done : bytes_charged ≤ bytes → (n : Engine) (lost : ℕ)
           → (n ≡ enacted shares lens L p t e) × (lost ≡ lost_from lens p (opened shares L p t e))
           → let b = eqb e.now.slot 0 in
           let told : ServeTells = record { place = p; entry = entry; bytes = bytes_charged; clock = t; began = b; lost = lost } in
           within_of 0 told n ≡ served_within shares lens L bytes room e
       unfolding served_within
-      within-done h n lost (n-is, lost_is) =
+      within_done h n lost (n-is, lost_is) =
           rw (c, ne_eqb room 0 some, ← entry_is, ← charge_is, le-ltb bytes bytes_charged h, ← n-is, ← lost_is)
 
 -- where a slot can serve, its place's lane is in the table

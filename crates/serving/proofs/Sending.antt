@@ -35,7 +35,7 @@ use Rattle.board.proofs.Same.{same, kept}
 use Rattle.board.specs.Memory.{Orders, orders_now, Queues, Engine, engine_now, numbers_now, engine_of, with_engine, queues_now}
 use Rattle.taking.specs.Taking.{joined_orders}
 use Rattle.slots.specs.Slots.{Turned, turned_now, turned, still_active, EmptyEnd, WaitingEnd, empty_end_now, ended_empty, waiting_end_now, ended_waiting}
-use Rattle.slots.proofs.Sets.{active-order, nobody}
+use Rattle.slots.proofs.Sets.{active_order, nobody}
 use Rattle.slots.proofs.Clock.{clock_is}
 
 -- ---- The engine's steps, with what they read named
@@ -172,18 +172,18 @@ module _ (m : Board.Board) (fit : Fit m) (p : ℕ) (held! : m.slot ≡ some p) w
     others : (j : ℕ) → j ≢ k → any_waits j (set l p y0) ≡ any_waits j l
     others j ne = active_set j p l y0 (sym (rw waits! (eqb_no j k ne)))
 
-    now-active : any_waits k (set l p y0) ≡ not (eqb (first_link (m.orders k)) 0)
+    now_active : any_waits k (set l p y0) ≡ not (eqb (first_link (m.orders k)) 0)
     unfolding ended
-    now-active = active-order (ended m p (emptied (at m p)) m.orders) next! refl k
+    now_active = active_order (ended m p (emptied (at m p)) m.orders) next! refl k
 
     active_is : (t : Bool) → eqb (first_link (m.orders k)) 0 ≡ t
         → cond t (without_bit (encode m).active k) (encode m).active ≡ set_below 17 (λ j. any_waits j (set l p y0))
     unfolding encode
-    active_is true e = set_less (λ j. any_waits j l) (λ j. any_waits j (set l p y0)) 17 k k17 (now-active ∙ ap not e) others
+    active_is true e = set_less (λ j. any_waits j l) (λ j. any_waits j (set l p y0)) 17 k k17 (now_active ∙ ap not e) others
     active_is false e = set_ext (λ j. any_waits j l) (λ j. any_waits j (set l p y0)) 17 (λ j h. go j (ℕ_discrete j k))
       where
         go : (j : ℕ) → Dec (j ≡ k) → any_waits j l ≡ any_waits j (set l p y0)
-        go j (yes q) = ap (λ (i : ℕ). any_waits i l) q ∙ was_active ∙ sym (ap (λ (i : ℕ). any_waits i (set l p y0)) q ∙ now-active ∙ ap not e)
+        go j (yes q) = ap (λ (i : ℕ). any_waits i l) q ∙ was_active ∙ sym (ap (λ (i : ℕ). any_waits i (set l p y0)) q ∙ now_active ∙ ap not e)
         go j (no q) = sym (others j q)
 
     quiet_is : eqb (set_below 17 (λ j. any_waits j (set l p y0))) 0 ≡ is_none (least_ready (set l p y0))
@@ -200,9 +200,9 @@ module _ (m : Board.Board) (fit : Fit m) (p : ℕ) (held! : m.slot ≡ some p) w
         zeros = refl
     held_is false e = tab_ext 17 _ _ (λ j h. sym (ap (λ (b : Bool). cond b 0 (release m.clock (suc m.clock) m.held j)) e))
 
-    pub empty-is : with_engine (encode m) (empty_engine p k (onward (at m p)) 0 (engine_of (encode m))) ≡ encode (ended m p (emptied (at m p)) m.orders)
+    pub empty_is : with_engine (encode m) (empty_engine p k (onward (at m p)) 0 (engine_of (encode m))) ≡ encode (ended m p (emptied (at m p)) m.orders)
     unfolding ended encode
-    empty-is =
+    empty_is =
         ap (λ (x : EmptyEnd). with_engine (encode m)
         (engine_now (set (encode m).starts p (onward (at m p))) (set (encode m).counts p 0) (encode m).deficits (encode m).ready (encode m).next
         (encode m).heads (encode m).tails x.held x.now))
@@ -244,24 +244,24 @@ module _ (m : Board.Board) (fit : Fit m) (p : ℕ) (held! : m.slot ≡ some p) w
     abbrev o1 : ℕ → List ℕ
     o1 = upd m.orders k (m.orders k ++ (p ∷ []))
 
-    some-least : is_none (least_ready (set l p y1)) ≡ false
+    some_least : is_none (least_ready (set l p y1)) ≡ false
     unfolding LeastIs
-    some-least = go (least_ready (set l p y1)) (least_is (set l p y1))
+    some_least = go (least_ready (set l p y1)) (least_is (set l p y1))
       where
         go : (r : Option ℕ) → LeastIs (set l p y1) r → is_none r ≡ false
         go none h = absurd (true≢false (sym (ap (λ (w : Place). is_queued w.stand) (get_or-set_same l p y1 free_place in_l)) ∙ h p))
         go (some r) h = refl
 
-    held-short : tab 17 (release m.clock (suc m.clock) m.held) ≡ tab 17 (settle (set l p y1) (release m.clock (suc m.clock) m.held))
+    held_short : tab 17 (release m.clock (suc m.clock) m.held) ≡ tab 17 (settle (set l p y1) (release m.clock (suc m.clock) m.held))
     unfolding settle
-    held-short = tab_ext 17 _ _ (λ j h. sym (ap (λ (b : Bool). cond b 0 (release m.clock (suc m.clock) m.held j)) some-least))
+    held_short = tab_ext 17 _ _ (λ j h. sym (ap (λ (b : Bool). cond b 0 (release m.clock (suc m.clock) m.held j)) some_least))
 
     -- at the old clock the block that joined is not pending, and its ready time is as the rules have it
     seats : (q : ℕ) → SeatP m.clock (pl (set l p y1) q)
     seats = set_all (SeatP m.clock) l p y1 in_l (λ e. (next_start_lem k m.clock, omega arith)) g.shape.seat
 
-    due-old : (j : ℕ) → any_due l m.clock (o j) ≡ any_due (set l p y1) m.clock (o1 j)
-    due-old j = sym (go (ℕ_discrete j k))
+    due_old : (j : ℕ) → any_due l m.clock (o j) ≡ any_due (set l p y1) m.clock (o1 j)
+    due_old j = sym (go (ℕ_discrete j k))
       where
         away : any_due (set l p y1) m.clock (o j) ≡ any_due l m.clock (o j)
         away = due_away l m.clock p y1 (o j) (gone j)
@@ -284,13 +284,13 @@ module _ (m : Board.Board) (fit : Fit m) (p : ℕ) (held! : m.slot ≡ some p) w
     clock1 : turned m.clock (suc m.clock) (tab 17 (λ j. first_link (o1 j))) (turned_now (set_below 17 (λ j. any_due l m.clock (o j))) (tab 17 m.held))
         ≡ turned_now (set_below 17 (λ j. any_due (set l p y1) (suc m.clock) (o1 j))) (tab 17 (release m.clock (suc m.clock) m.held))
     clock1 =
-        ap (λ (s : ℕ). turned m.clock (suc m.clock) (tab 17 (λ j. first_link (o1 j))) (turned_now s (tab 17 m.held))) (set_ext _ _ 17 (λ j h. due-old j))
+        ap (λ (s : ℕ). turned m.clock (suc m.clock) (tab 17 (λ j. first_link (o1 j))) (turned_now s (tab 17 m.held))) (set_ext _ _ 17 (λ j h. due_old j))
         ∙ clock_is (set l p y1) o1 m.held m.clock (suc m.clock) listed1 seats (omega arith)
 
-    pub short-is : with_engine (encode m) (waiting_engine p k (onward (at m p)) (length (at m p).lane - 1) (left_after (at m p)) (engine_of (encode m)))
+    pub short_is : with_engine (encode m) (waiting_engine p k (onward (at m p)) (length (at m p).lane - 1) (left_after (at m p)) (engine_of (encode m)))
         ≡ encode (ended m p (short m.clock (at m p)) (upd m.orders k (m.orders k ++ (p ∷ []))))
     unfolding ended encode
-    short-is =
+    short_is =
         ap (λ (x : WaitingEnd). with_engine (encode m)
         (record {
           starts = set (encode m).starts p (onward (at m p));
@@ -314,7 +314,7 @@ module _ (m : Board.Board) (fit : Fit m) (p : ℕ) (held! : m.slot ≡ some p) w
               ∙ same_links y1 refl (upd o k (o k ++ (p ∷ [])));
           heads = hds;
           tails = tails_join o kj p k p64 k17 refl (gone k) (class m g k) (once m g k) (small m g k);
-          held = held-short;
+          held = held_short;
           largest = refl;
           clock = refl;
           active =

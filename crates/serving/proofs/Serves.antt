@@ -46,7 +46,7 @@ use Rattle.board.proofs.Fields.{share_is, start_is, count_is, deficit_is}
 use Rattle.slots.proofs.Sets as sets
 use Rattle.slots.proofs.Choosing.{choice_is}
 use Rattle.slots.proofs.Beginning.{begin_is}
-use Rattle.serving.proofs.Sending.{empty_engine, going_engine, waiting_engine, is_s, in_l, some!, going_is, empty-is, short-is}
+use Rattle.serving.proofs.Sending.{empty_engine, going_engine, waiting_engine, is_s, in_l, some!, going_is, empty_is, short_is}
 
 -- ---- The front of a lane and the record behind it
 
@@ -162,7 +162,7 @@ module _ (m : Board.Board) (fit : Fit m) (p : ℕ) (held! : m.slot ≡ some p) (
           → with_engine (encode m)
           (cond (not u) (going_engine p (onward x) (length x.lane - 1) (left_after x) (engine_of (encode m)))
           (waiting_engine p (block_class x) (onward x) (length x.lane - 1) (left_after x) (engine_of (encode m)))) ≡ encode (cond u B C)
-      two h true t = short-is m fit p held! h t
+      two h true t = short_is m fit p held! h t
       two h false t = going_is m fit p held! h
 
       needs : 1 < length x.lane → charge_of (get_or lens (lane_entry p (onward x) 0) 0) ≡ bytes_charged (get_or (drop 1 x.lane) 0 no_record) * 65536
@@ -179,7 +179,7 @@ module _ (m : Board.Board) (fit : Fit m) (p : ℕ) (held! : m.slot ≡ some p) (
           ≡ encode (cond t A (cond (ltb (left_after x) need) B C))
       go true f t =
           let z : length x.lane - 1 ≡ 0 = omega (arith, true_le (length x.lane) 1 f) in
-          ap (λ (n : ℕ). with_engine (encode m) (empty_engine p (block_class x) (onward x) n (engine_of (encode m)))) z ∙ empty-is m fit p held! t
+          ap (λ (n : ℕ). with_engine (encode m) (empty_engine p (block_class x) (onward x) n (engine_of (encode m)))) z ∙ empty_is m fit p held! t
       go false f t =
           rw (needs (false_lt (length x.lane) 1 f), fits_not need (left_after x)) (two (false_lt (length x.lane) 1 f) (ltb (left_after x) need) t)
 
@@ -258,7 +258,7 @@ module _ (m m' : Board.Board) (p t : ℕ) (ids lens : List ℕ) (fit : Fit m') (
 opened_as : (shares : List ℕ) (L p t : ℕ) (e : Engine) → e.now.slot ≡ suc p → e.now.clock ≡ t → opened shares L p t e ≡ e
 unfolding opened opened_slot
 opened_as shares L p t e s c =
-    rw (eqb-slot) (λ j. record {
+    rw (eqb_slot) (λ j. record {
       starts = e.starts;
       counts = e.counts;
       queues = e.queues;
@@ -266,8 +266,8 @@ opened_as shares L p t e s c =
           record { clock = sym c j; active = e.now.active; pending = e.now.pending; slot = (add-one p ∙ sym s) j; left = e.now.left };
     })
   where
-    eqb-slot : eqb e.now.slot 0 ≡ false
-    eqb-slot = ne_eqb e.now.slot 0 (λ z. omega (arith, s))
+    eqb_slot : eqb e.now.slot 0 ≡ false
+    eqb_slot = ne_eqb e.now.slot 0 (λ z. omega (arith, s))
 
 -- a choice's fields
 stop_go : (code place time : ℕ) → Stop code ≡ Go place time → ⊥
@@ -356,24 +356,24 @@ module _ (m : Board.Board) (fit : Fit m) where
     unfolding lowest
     ch = choose m.places m.orders (max m.clock r) r g.shape.listed g.shape.rising li (omega arith)
 
-    class-small : lowest m (max m.clock r) < 17
-    class-small = omega (arith, ch.is_kind, class_le (at m (chosen m (max m.clock r))).share)
+    class_small : lowest m (max m.clock r) < 17
+    class_small = omega (arith, ch.is_kind, class_le (at m (chosen m (max m.clock r))).share)
 
     head_is : get_or (encode m).heads (lowest m (max m.clock r)) 0 ≡ suc (chosen m (max m.clock r))
     unfolding encode
-    head_is = get_d_tab 17 (λ j. first_link (m.orders j)) (lowest m (max m.clock r)) 0 class-small ∙ ap first_link ch.first
+    head_is = get_d_tab 17 (λ j. first_link (m.orders j)) (lowest m (max m.clock r)) 0 class_small ∙ ap first_link ch.first
 
     chosen_is : chosen_class (encode m).active (encode m).pending ≡ lowest m (max m.clock r)
     chosen_is = (choice_is m g free r li).1
 
-    time-is : slot_clock m.clock (encode m).pending (lowest m (max m.clock r)) ≡ max m.clock r
-    time-is = ap (slot_clock m.clock (encode m).pending) (sym chosen_is) ∙ (choice_is m g free r li).0
+    time_is : slot_clock m.clock (encode m).pending (lowest m (max m.clock r)) ≡ max m.clock r
+    time_is = ap (slot_clock m.clock (encode m).pending) (sym chosen_is) ∙ (choice_is m g free r li).0
 
     busy! : eqb (encode m).active 0 ≡ false
     busy! = sets.nobody m g free ∙ ap is_none least
 
     chooses : choice_of (engine_of (encode m)) ≡ cond (leb (2 ^ 62) (max m.clock r)) (Stop 11) (Go (chosen m (max m.clock r)) (max m.clock r))
-    chooses = choice_free m (lowest m t) t (suc p) free busy! chosen_is time-is head_is ∙ ap (λ (n : ℕ). cond (leb (2 ^ 62) t) (Stop 11) (Go n t)) less
+    chooses = choice_free m (lowest m t) t (suc p) free busy! chosen_is time_is head_is ∙ ap (λ (n : ℕ). cond (leb (2 ^ 62) t) (Stop 11) (Go n t)) less
       where
         less : suc p - 1 ≡ p
         less = omega arith
@@ -381,10 +381,10 @@ module _ (m : Board.Board) (fit : Fit m) where
   -- what the choice asks
   pub can_choose : CanChoose (encode m).clock (encode m).active (encode m).pending (encode m).slot (encode m).heads
   unfolding encode
-  can_choose = record { time = clock-small; class = λ s a. class s a; first = λ s a. first s a }
+  can_choose = record { time = clock_small; class = λ s a. class s a; first = λ s a. first s a }
     where
-      clock-small : (encode m).clock ≤ 2 ^ 62
-      clock-small = omega (arith, g.time)
+      clock_small : (encode m).clock ≤ 2 ^ 62
+      clock_small = omega (arith, g.time)
 
       free : (s : Option ℕ) → m.slot ≡ s → (encode m).slot ≡ 0 → m.slot ≡ none
       free none e z = e
@@ -398,7 +398,7 @@ module _ (m : Board.Board) (fit : Fit m) where
       class s a =
           let f = free m.slot refl s in
           let w = busy f a (least_ready m.places) refl in
-          rw (chosen_is f w.0 w.1) (class-small f w.0 w.1)
+          rw (chosen_is f w.0 w.1) (class_small f w.0 w.1)
 
       first : (encode m).slot ≡ 0 → ((encode m).active ≡ 0 → ⊥) → 1 ≤ get_or (encode m).heads K 0
       first s a =
@@ -431,44 +431,44 @@ module _ (m : Board.Board) (fit : Fit m) (ids lens : List ℕ) (holds : Holds m 
     where
       stays : with_engine (encode m) (opened (encode m).shares (encode m).largest p m.clock (engine_of (encode m))) ≡ encode m
       stays =
-          ap (with_engine (encode m)) (opened_as (encode m).shares (encode m).largest p m.clock (engine_of (encode m)) (open_slot m p w.slot) clock-of)
+          ap (with_engine (encode m)) (opened_as (encode m).shares (encode m).largest p m.clock (engine_of (encode m)) (open_slot m p w.slot) clock_of)
         where
-          clock-of : (encode m).clock ≡ m.clock
-          clock-of = refl
+          clock_of : (encode m).clock ≡ m.clock
+          clock_of = refl
 
   -- A SERVE THAT BEGINS A SLOT
   serves_new : (r t p : ℕ) → Begins m r t p → p ≡ chosen m t → Serves m ids lens (sending true (begin m t) p) (send_from (begin m t) p)
   unfolding begin encode
   serves_new r t p w e = record {
     chooses = chooses m fit w.slot r w.least ∙ rw (← w.time, leb_no (2 ^ 62) t w.soon, ← e);
-    can = λ h. record { begins = λ z. can-begin; sends = can_sends m (begin m t) p t ids lens fit-begin slot-begin holds-begin opens h };
-    enacts = enact_is m (begin m t) p t ids lens fit-begin slot-begin holds-begin opens;
-    holds = holds_send (begin m t) fit-begin p slot-begin ids lens holds-begin;
+    can = λ h. record { begins = λ z. can_begin; sends = can_sends m (begin m t) p t ids lens fit_begin slot_begin holds_begin opens h };
+    enacts = enact_is m (begin m t) p t ids lens fit_begin slot_begin holds_begin opens;
+    holds = holds_send (begin m t) fit_begin p slot_begin ids lens holds_begin;
     inside = w.inside;
     number = ap (λ (x : Record). x.number) front_at;
     bytes = ap (λ (x : Record). x.bytes) front_at;
     short = subst (λ (x : Record). x.bytes ≤ m.largest) (sym (front_is m fit ids lens holds p w.lane) ∙ front_at) (short_front m fit p w.lane);
-    entry = ap (λ (s : ℕ). lane_entry p s 0) (sym start-begin) ∙ front_entry p (at (begin m t) p);
+    entry = ap (λ (s : ℕ). lane_entry p s 0) (sym start_begin) ∙ front_entry p (at (begin m t) p);
     began = ap (λ (o : Option ℕ). eqb (slot_link o) 0) w.slot;
-    lost = lost_is m (begin m t) p t ids lens fit-begin slot-begin holds-begin opens;
+    lost = lost_is m (begin m t) p t ids lens fit_begin slot_begin holds_begin opens;
   }
     where
       next! : Tidy (begin m t)
       next! = rw w.time (tidy_begin m r w.slot (li m fit w.slot r w.least) (rw (← w.time) w.soon) fit.tidy)
 
-      slot-begin : (begin m t).slot ≡ some p
-      slot-begin = ap some (sym e)
+      slot_begin : (begin m t).slot ≡ some p
+      slot_begin = ap some (sym e)
 
-      fit-begin : Fit (begin m t)
-      fit-begin = record { tidy = next!; classes = record { no_order = no_order_lem; no_held = no-held } }
+      fit_begin : Fit (begin m t)
+      fit_begin = record { tidy = next!; classes = record { no_order = no_order_lem; no_held = no_held_lem } }
         where
           no_order_lem : (k : ℕ) → 17 ≤ k → (begin m t).orders k ≡ []
           no_order_lem k h =
               upd_other m.orders (lowest m t) (drop 1 (m.orders (lowest m t))) k (λ q. omega (arith, q, w.choice.is_kind, class_le (at m p).share))
               ∙ fit.classes.no_order k h
 
-          no-held : (k : ℕ) → 17 ≤ k → (begin m t).held k ≡ 0
-          no-held k h = omega (arith, release_le m.clock t m.held k, fit.classes.no_held k h)
+          no_held_lem : (k : ℕ) → 17 ≤ k → (begin m t).held k ≡ 0
+          no_held_lem k h = omega (arith, release_le m.clock t m.held k, fit.classes.no_held k h)
 
       in_l_lem : p < length m.places
       in_l_lem = queued_in m.places p w.choice.is_q
@@ -476,29 +476,29 @@ module _ (m : Board.Board) (fit : Fit m) (ids lens : List ℕ) (holds : Holds m 
       y : Place
       y = started m.largest (at m p)
 
-      places-are : (begin m t).places ≡ set m.places p (started m.largest (at m p))
-      places-are = ap (λ (q : ℕ). set m.places q (started m.largest (at m q))) (sym e)
+      places_are : (begin m t).places ≡ set m.places p (started m.largest (at m p))
+      places_are = ap (λ (q : ℕ). set m.places q (started m.largest (at m q))) (sym e)
 
-      start-begin : (at (begin m t) p).start ≡ (at m p).start
-      start-begin =
-          ap (λ (l : List Place). (pl l p).start) places-are
+      start_begin : (at (begin m t) p).start ≡ (at m p).start
+      start_begin =
+          ap (λ (l : List Place). (pl l p).start) places_are
           ∙ ap (λ (x : Place). x.start) (get_or-set_same m.places p y free_place in_l_lem)
 
-      holds-begin : Holds (begin m t) ids lens
-      holds-begin =
-          subst (λ (l : List Place). (i : ℕ) → (pl l i).lane ≡ lane_of ids lens i (pl l i) (length (pl l i).lane)) (sym places-are)
+      holds_begin : Holds (begin m t) ids lens
+      holds_begin =
+          subst (λ (l : List Place). (i : ℕ) → (pl l i).lane ≡ lane_of ids lens i (pl l i) (length (pl l i).lane)) (sym places_are)
           (holds_set m.places p y ids lens in_l_lem holds (holds p ∙ lane_by ids lens p (at m p) y (length (at m p).lane) refl))
 
       front_at : record_at ids lens (lane_entry p (at m p).start 0) ≡ front (at (begin m t) p)
       front_at =
           front_is m fit ids lens holds p w.lane
-          ∙ sym (ap (λ (l : List Place). front (pl l p)) places-are ∙ ap front (get_or-set_same m.places p y free_place in_l_lem))
+          ∙ sym (ap (λ (l : List Place). front (pl l p)) places_are ∙ ap front (get_or-set_same m.places p y free_place in_l_lem))
 
       opens : with_engine (encode m) (opened (encode m).shares (encode m).largest p t (engine_of (encode m))) ≡ encode (begin m t)
       opens = begin_is m fit t p (omega (arith, w.time)) w.slot w.choice (sym e) next!
 
-      can-begin : CanBegin (encode m).shares (encode m).largest p (class_of (get_or (encode m).shares p 0)) (engine_of (encode m)).queues
-      can-begin = record {
+      can_begin : CanBegin (encode m).shares (encode m).largest p (class_of (get_or (encode m).shares p 0)) (engine_of (encode m)).queues
+      can_begin = record {
         inside = w.inside;
         class = refl;
         low = rw (share_is m p) w.bought;

@@ -103,7 +103,7 @@ module _ (m : Board.Board) (fit : Fit m) (ids lens : List ℕ) (holds : Holds m 
   go_on : (s : Sending) → (serve m).out ≡ sent s → Serves m ids lens s (serve m).next
       → let c = Go s.place s.clock in Stops m bytes room (made c) ⊎ SendsOne m ids lens bytes room (made c)
   unfolding bytes_charged
-  go_on s e w = rw (start_is m p, w.bytes) (by-room (split 1 room))
+  go_on s e w = rw (start_is m p, w.bytes) (by_room (split 1 room))
     where
       p : ℕ
       p = s.place
@@ -156,24 +156,24 @@ module _ (m : Board.Board) (fit : Fit m) (ids lens : List ℕ) (holds : Holds m 
         some = λ z. omega arith;
         fits = h;
         inside = w.inside;
-        entry = entry-small;
+        entry = entry_small;
         charge_is = refl;
         number_is = w.number;
         bytes_is = w.bytes;
         burst_is = burst_goes m bytes s e room (λ z. omega arith) h;
       }))
         where
-          entry-small : lane_entry p (at m p).start 0 < 2048
-          entry-small = lane_inside p (at m p).start 0 w.inside
+          entry_small : lane_entry p (at m p).start 0 < 2048
+          entry_small = lane_inside p (at m p).start 0 w.inside
 
-      by-room : (1 ≤ room) ⊎ (room < 1)
+      by_room : (1 ≤ room) ⊎ (room < 1)
           → Stops m bytes room (result (eqb room 0) (ltb bytes c)) ⊎ SendsOne m ids lens bytes room (result (eqb room 0) (ltb bytes c))
-      by-room (inl h) = rw (ne_eqb room 0 (λ z. omega arith)) (by_bytes h (turn (split c bytes)))
+      by_room (inl h) = rw (ne_eqb room 0 (λ z. omega arith)) (by_bytes h (turn (split c bytes)))
         where
           turn : (c ≤ bytes) ⊎ (bytes < c) → (bytes < c) ⊎ (c ≤ bytes)
           turn (inl x) = inr x
           turn (inr x) = inl x
-      by-room (inr h) =
+      by_room (inr h) =
           let z : room ≡ 0 = omega arith in
           rw (eq-eqb room 0 z) (inl (record { code = λ y. omega arith; same = refl; burst_is = burst_full m bytes s e room z; why = inr (inl z) }))
 

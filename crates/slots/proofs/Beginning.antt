@@ -33,7 +33,7 @@ use Rattle.board.proofs.Moves.{after_first, nexts_leave, heads_leave, tails_leav
 use Rattle.board.proofs.Same.{same, kept}
 use Rattle.board.specs.Memory.{Engine, engine_now, numbers_now, engine_of, with_engine}
 use Rattle.slots.specs.Slots.{Turned, turned_now, turned, left_links, still_pending, began_at, opened_slot, opened}
-use Rattle.slots.proofs.Sets.{still-is}
+use Rattle.slots.proofs.Sets.{still_is}
 use Rattle.slots.proofs.Clock.{clock_is}
 
 -- the engine's step, with what it reads named
@@ -111,7 +111,7 @@ module _ (m : Board.Board) (fit : Fit m) (t p : ℕ) (later : m.clock ≤ t) (fr
         largest = refl;
         clock = refl;
         active = set_ext _ _ 17 (λ j h. sym (active_set j p l y refl) ∙ ap (λ (q : ℕ). any_waits j (set l q (started m.largest (at m q)))) (sym first));
-        pending = ap₂ (λ (a b : List ℕ). still_pending (set_below 17 due) k t a b) hds ready ∙ still-is (begin m t) next! due k k17 was others;
+        pending = ap₂ (λ (a b : List ℕ). still_pending (set_below 17 due) k t a b) hds ready ∙ still_is (begin m t) next! due k k17 was others;
         slot = ap suc (sym first);
         left = left;
       })

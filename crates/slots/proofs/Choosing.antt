@@ -26,7 +26,7 @@ use Rattle.rules.proofs.Shape.{LeastIs, listed_in, due_pending}
 use Rattle.rules.proofs.Tidy.{Tidy}
 use Rattle.board.specs.Reading.{first_link, encode}
 use Rattle.slots.specs.Slots.{chosen_class, slot_clock}
-use Rattle.slots.proofs.Sets.{set_some, set_void, active-order}
+use Rattle.slots.proofs.Sets.{set_some, set_void, active_order}
 
 -- the lowest class of a set that is not empty is the first that passes its test
 lowest_set : (f : ℕ → Bool) (k : ℕ) → k < 17 → f k ≡ true → ((j : ℕ) → j < k → f j ≡ false) → lowest_bit (set_below 17 f) ≡ k
@@ -91,16 +91,16 @@ module _ (m : Board.Board) (g : Tidy m) (free : m.slot ≡ none) (r : ℕ) (li :
             absurd (omega (arith, w.2, lowest_ready w.0 (listed_in m.places m.orders g.shape.listed j w.0 w.1).0))
 
     -- every block in an order is ready at the next start of its class
-    at-start : (i : ℕ) → is_queued (at m i).stand ≡ true → ready m.places i ≡ next_start (block_class (at m i)) m.clock
-    at-start i q = let s = g.shape.seat i q in next_is (block_class (at m i)) m.clock (ready m.places i) s.0 (omega (arith, lowest_ready i q)) s.1
+    at_start : (i : ℕ) → is_queued (at m i).stand ≡ true → ready m.places i ≡ next_start (block_class (at m i)) m.clock
+    at_start i q = let s = g.shape.seat i q in next_is (block_class (at m i)) m.clock (ready m.places i) s.0 (omega (arith, lowest_ready i q)) s.1
 
     abbrev k : ℕ
     k = least a 17
 
     -- a class is active if its order has a block
-    active-class : (i : ℕ) → is_queued (at m i).stand ≡ true → a (block_class (at m i)) ≡ true
+    active_class : (i : ℕ) → is_queued (at m i).stand ≡ true → a (block_class (at m i)) ≡ true
     unfolding any_due
-    active-class i q = active-order m g free (block_class (at m i)) ∙ go (m.orders (block_class (at m i))) refl
+    active_class i q = active_order m g free (block_class (at m i)) ∙ go (m.orders (block_class (at m i))) refl
       where
         go : (xs : List ℕ) → m.orders (block_class (at m i)) ≡ xs → not (eqb (first_link xs) 0) ≡ true
         go [] e =
@@ -108,22 +108,22 @@ module _ (m : Board.Board) (g : Tidy m) (free : m.slot ≡ none) (r : ℕ) (li :
             ∙ due_pending m.places m.orders (ready m.places i) g.shape.listed i q (omega arith)))
         go (x ∷ xs) e = ap not (ne_eqb (suc x) 0 (λ z. omega arith))
 
-    k-low : (i : ℕ) → is_queued (at m i).stand ≡ true → k ≤ block_class (at m i)
-    k-low i q = go (split k (block_class (at m i)))
+    k_low : (i : ℕ) → is_queued (at m i).stand ≡ true → k ≤ block_class (at m i)
+    k_low i q = go (split k (block_class (at m i)))
       where
         go : (k ≤ block_class (at m i)) ⊎ (block_class (at m i) < k) → k ≤ block_class (at m i)
         go (inl x) = x
-        go (inr x) = absurd (true≢false (sym (active-class i q) ∙ least_false a 17 (block_class (at m i)) x))
+        go (inr x) = absurd (true≢false (sym (active_class i q) ∙ least_false a 17 (block_class (at m i)) x))
 
     k17 : least a 17 < 17
-    k17 = omega (arith, k-low first.0 first.1, first_class)
+    k17 = omega (arith, k_low first.0 first.1, first_class)
 
     -- the first of class k
     member : (q : ℕ) × (1 ≤ count q (m.orders k)) × (is_queued (at m q).stand ≡ true) × (k ≡ block_class (at m q))
     member = go (m.orders k) refl
       where
         go : (xs : List ℕ) → m.orders k ≡ xs → (q : ℕ) × (1 ≤ count q (m.orders k)) × (is_queued (at m q).stand ≡ true) × (k ≡ block_class (at m q))
-        go [] e = absurd (true≢false (sym (least_true a 17 k17) ∙ active-order m g free k ∙ ap (λ (xs : List ℕ). not (eqb (first_link xs) 0)) e))
+        go [] e = absurd (true≢false (sym (least_true a 17 k17) ∙ active_order m g free k ∙ ap (λ (xs : List ℕ). not (eqb (first_link xs) 0)) e))
         go (q ∷ qs) e =
             let c : 1 ≤ count q (m.orders k) = rw e (in_head q qs) in
             let w = listed_in m.places m.orders g.shape.listed k q c in
@@ -132,42 +132,42 @@ module _ (m : Board.Board) (g : Tidy m) (free : m.slot ≡ none) (r : ℕ) (li :
     start_is : next_start k m.clock ≡ r
     start_is =
         let q = member.0 in
-        let e = at-start q member.2 in
+        let e = at_start q member.2 in
         let u = ap (λ (j : ℕ). next_start j m.clock) member.3 in
         omega (
           arith,
           e,
           u,
           lowest_ready q member.2,
-          at-start first.0 first.1,
+          at_start first.0 first.1,
           first.2,
-          next_align k (block_class (at m first.0)) m.clock (k-low first.0 first.1),
+          next_align k (block_class (at m first.0)) m.clock (k_low first.0 first.1),
         )
 
-    below-k : (j : ℕ) → j < k → any_due m.places r (m.orders j) ≡ false
+    below_k : (j : ℕ) → j < k → any_due m.places r (m.orders j) ≡ false
     unfolding any_due
-    below-k j l = go (m.orders j) refl
+    below_k j l = go (m.orders j) refl
       where
         go : (xs : List ℕ) → m.orders j ≡ xs → any_due m.places r xs ≡ false
         go [] e = refl
         go (q ∷ qs) e =
-            absurd (false≢true (sym (least_false a 17 j l) ∙ active-order m g free j ∙ ap (λ (xs : List ℕ). not (eqb (first_link xs) 0)) e
+            absurd (false≢true (sym (least_false a 17 j l) ∙ active_order m g free j ∙ ap (λ (xs : List ℕ). not (eqb (first_link xs) 0)) e
             ∙ ap not (ne_eqb (suc q) 0 (λ z. omega arith))))
 
-    lowest-is : lowest m r ≡ k
+    lowest_is : lowest m r ≡ k
     unfolding lowest
-    lowest-is =
-        least_found (λ j. any_due m.places r (m.orders j)) 17 k k17 below-k (due_any m.places r member.0 (m.orders k) member.1 member.2 due)
+    lowest_is =
+        least_found (λ j. any_due m.places r (m.orders j)) 17 k k17 below_k (due_any m.places r member.0 (m.orders k) member.1 member.2 due)
       where
         due : ready m.places member.0 ≤ r
-        due = omega (arith, at-start member.0 member.2, ap (λ (j : ℕ). next_start j m.clock) member.3, start_is)
+        due = omega (arith, at_start member.0 member.2, ap (λ (j : ℕ). next_start j m.clock) member.3, start_is)
 
     later! : (slot_clock m.clock (encode m).pending (chosen_class (encode m).active (encode m).pending) ≡ r)
         × (chosen_class (encode m).active (encode m).pending ≡ lowest m r)
     unfolding slot_clock chosen_class encode
     later! = (
       rw (eq-eqb (set_below 17 (pending m)) 0 (set_void (pending m) calm), low) start_is,
-      rw (eq-eqb (set_below 17 (pending m)) 0 (set_void (pending m) calm)) (low ∙ sym lowest-is),
+      rw (eq-eqb (set_below 17 (pending m)) 0 (set_void (pending m) calm)) (low ∙ sym lowest_is),
     )
       where
         low : lowest_bit (set_below 17 (active m)) ≡ k

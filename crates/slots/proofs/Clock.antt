@@ -85,12 +85,12 @@ module _ (c t : ℕ) (h : c ≤ t) (full : ℕ → Bool) (heads : List ℕ) (her
       own : f k || (eqb k k && full k) ≡ f k || full k
       own = ap (λ (b : Bool). f k || (b && full k)) (eqb_yes k k refl)
 
-      or-true : (b : Bool) → b || true ≡ true
-      or-true true = refl
-      or-true false = refl
+      or_true : (b : Bool) → b || true ≡ true
+      or_true true = refl
+      or_true false = refl
 
       go : (b : Bool) → full k ≡ b → cond (not b) (set_below 17 f) (with_bit (set_below 17 f) k) ≡ set_below 17 (more k f)
-      go true e = set_more f (more k f) 17 k l (own ∙ ap (λ (b : Bool). f k || b) e ∙ or-true (f k)) other
+      go true e = set_more f (more k f) 17 k l (own ∙ ap (λ (b : Bool). f k || b) e ∙ or_true (f k)) other
       go false e = set_ext f (more k f) 17 (λ j m. same j (ℕ_discrete j k))
         where
           same : (j : ℕ) → Dec (j ≡ k) → f j ≡ f j || (eqb j k && full j)
@@ -101,13 +101,13 @@ module _ (c t : ℕ) (h : c ≤ t) (full : ℕ → Bool) (heads : List ℕ) (her
   idle : (k : ℕ) (f : ℕ → Bool) (H : ℕ → ℕ) → ((j : ℕ) → j < 17 → leb k j && gone j ≡ false)
       → turned_now (set_below 17 f) (tab 17 H) ≡ turned_now (set_below 17 (due k f)) (tab 17 (rest k H))
   idle k f H e =
-      ap₂ turned_now (set_ext f (due k f) 17 (λ j l. sym (and-or (f j) (leb k j) (gone j) (full j) (e j l))))
+      ap₂ turned_now (set_ext f (due k f) 17 (λ j l. sym (and_or (f j) (leb k j) (gone j) (full j) (e j l))))
       (tab_ext 17 H (rest k H) (λ j l. sym (ap (λ (b : Bool). cond b 0 (H j)) (e j l))))
     where
-      and-or : (a b d w : Bool) → b && d ≡ false → a || (b && (d && w)) ≡ a
-      and-or a true true w q = absurd (true≢false q)
-      and-or a true false w q = or_false a
-      and-or a false d w q = or_false a
+      and_or : (a b d w : Bool) → b && d ≡ false → a || (b && (d && w)) ≡ a
+      and_or a true true w q = absurd (true≢false q)
+      and_or a true false w q = or_false a
+      and_or a false d w q = or_false a
 
   -- a start of class k is passed: what is left to do from the next class on
   onward : (k : ℕ) → gone k ≡ true → (f : ℕ → Bool) (H : ℕ → ℕ)
@@ -189,15 +189,15 @@ due_later l o c t listed seat h k = go (true_or (any_due l c (o k)))
     later e [] q = and_false (leb (next_start k c) t) ∙ sym (ap (any_due l t) q)
     later e (p ∷ ps) q = rw (ne_eqb (suc p) 0 (λ z. omega arith)) (reached (split (next_start k c) t))
       where
-        isFirst : 1 ≤ count p (o k)
-        isFirst = rw q (in_head p ps)
+        is_first : 1 ≤ count p (o k)
+        is_first = rw q (in_head p ps)
 
         not_yet : t < next_start k c → (b : Bool) → any_due l t (o k) ≡ b → b ≡ false
         not_yet d false f = refl
         not_yet d true f = let w = any_due_lem l t (o k) f in absurd (omega (arith, w.2, at_next e w.0 w.1))
 
         reached : (next_start k c ≤ t) ⊎ (t < next_start k c) → leb (next_start k c) t && true ≡ any_due l t (o k)
-        reached (inl d) = rw (leb_yes (next_start k c) t d) (sym (due_any l t p (o k) isFirst (is_in p isFirst).0 (omega (arith, at_next e p isFirst))))
+        reached (inl d) = rw (leb_yes (next_start k c) t d) (sym (due_any l t p (o k) is_first (is_in p is_first).0 (omega (arith, at_next e p is_first))))
         reached (inr d) = rw (leb_no (next_start k c) t d) (sym (not_yet d (any_due l t (o k)) refl))
 
     go : (any_due l c (o k) ≡ true) ⊎ (any_due l c (o k) ≡ false)

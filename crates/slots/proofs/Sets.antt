@@ -82,9 +82,9 @@ module _ (m : Board.Board) (g : Tidy m) where
     dropped : pending m k ≡ false → without_bit (set_below 17 f) k ≡ set_below 17 (pending m)
     dropped e = set_less f (pending m) 17 k k17 e others
 
-    pub still-is : still_pending (set_below 17 f) k m.clock (encode m).heads (encode m).ready ≡ (encode m).pending
+    pub still_is : still_pending (set_below 17 f) k m.clock (encode m).heads (encode m).ready ≡ (encode m).pending
     unfolding still_pending encode any_due
-    still-is = rw (get_d_tab 17 (λ j. first_link (m.orders j)) k 0 k17) (go (m.orders k) refl)
+    still_is = rw (get_d_tab 17 (λ j. first_link (m.orders j)) k 0 k17) (go (m.orders k) refl)
       where
         go : (xs : List ℕ) → m.orders k ≡ xs
             → cond (eqb (first_link xs) 0) (without_bit (set_below 17 f) k)
@@ -108,9 +108,9 @@ module _ (m : Board.Board) (g : Tidy m) where
   -- ---- with no slot open
   module _ (free : m.slot ≡ none) where
     -- a block waits exactly when it is in its class's order
-    waits-queued : (p : ℕ) → waits (at m p) ≡ is_queued (at m p).stand
+    waits_queued : (p : ℕ) → waits (at m p) ≡ is_queued (at m p).stand
     unfolding StandOk
-    waits-queued p = go (at m p).stand (g.shape.place_ok p).stand_ok (g.one p ∙ ap (is_at p) free)
+    waits_queued p = go (at m p).stand (g.shape.place_ok p).stand_ok (g.one p ∙ ap (is_at p) free)
       where
         go : (s : Stand) → StandOk m.largest (at m p).share (at m p).lane s → is_serving s ≡ false → ltb 0 (length (at m p).lane) ≡ is_queued s
         go out ok e = rw ok
@@ -118,18 +118,18 @@ module _ (m : Board.Board) (g : Tidy m) where
         go (serving n) ok e = absurd (true≢false e)
 
     -- a class is active if its order is not empty
-    pub active-order : (k : ℕ) → active m k ≡ not (eqb (first_link (m.orders k)) 0)
-    active-order k = go (m.orders k) refl
+    pub active_order : (k : ℕ) → active m k ≡ not (eqb (first_link (m.orders k)) 0)
+    active_order k = go (m.orders k) refl
       where
         go : (xs : List ℕ) → m.orders k ≡ xs → any_waits k m.places ≡ not (eqb (first_link xs) 0)
         go [] e = active_none k m.places (λ p. off p (true_or (is_active k (at m p))))
           where
             off : (p : ℕ) → (is_active k (at m p) ≡ true) ⊎ (is_active k (at m p) ≡ false) → is_active k (at m p) ≡ false
             off p (inr f) = f
-            off p (inl f) = absurd (nothing (at m p) k p (rw e at (g.shape.listed k p)) (rw (sym (waits-queued p)) f))
+            off p (inl f) = absurd (nothing (at m p) k p (rw e at (g.shape.listed k p)) (rw (sym (waits_queued p)) f))
         go (q ∷ qs) e =
             rw (ne_eqb (suc q) 0 (λ z. omega arith))
-            (active_here k q m.places (queued_in m.places q w.0) (rw (waits-queued q, w.0) (eqb_yes k (block_class (at m q)) w.1)))
+            (active_here k q m.places (queued_in m.places q w.0) (rw (waits_queued q, w.0) (eqb_yes k (block_class (at m q)) w.1)))
           where
             w : (is_queued (at m q).stand ≡ true) × (k ≡ block_class (at m q))
             w = listed_in m.places m.orders g.shape.listed k q (rw e (in_head q qs))
@@ -144,7 +144,7 @@ module _ (m : Board.Board) (g : Tidy m) where
           where
             idle : (k p : ℕ) → (is_active k (at m p) ≡ true) ⊎ (is_active k (at m p) ≡ false) → is_active k (at m p) ≡ false
             idle k p (inr e) = e
-            idle k p (inl e) = absurd (true≢false (sym (and_left (waits (at m p)) (eqb k (block_class (at m p))) e) ∙ waits-queued p ∙ h p))
+            idle k p (inl e) = absurd (true≢false (sym (and_left (waits (at m p)) (eqb k (block_class (at m p))) e) ∙ waits_queued p ∙ h p))
         go (some r) h = ne_eqb (set_below 17 (active m)) 0 (set_some (active m) (block_class (at m i)) (omega (arith, class_le (at m i).share)) on)
           where
             i : ℕ
@@ -153,4 +153,4 @@ module _ (m : Board.Board) (g : Tidy m) where
             on : active m (block_class (at m i)) ≡ true
             on =
                 active_here (block_class (at m i)) i m.places (queued_in m.places i h.1.1)
-                (rw (waits-queued i, h.1.1) (eqb_yes (block_class (at m i)) (block_class (at m i)) refl))
+                (rw (waits_queued i, h.1.1) (eqb_yes (block_class (at m i)) (block_class (at m i)) refl))

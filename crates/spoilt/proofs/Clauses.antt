@@ -35,8 +35,8 @@ use Rattle.board.proofs.ClassSets.{and_never}
 use Rattle.spoilt_places.specs.Ranges.{size_in_range, number_in_range, in_order, shares_fit, held_while_waiting, none_held}
 use Rattle.spoilt_orders.specs.Walks.{clock_in_range}
 use Rattle.spoilt.proofs.Apart.{d_apart}
-use Rattle.spoilt.proofs.Places.{stand_is, inner, waits-is, queued_is, serving-is, number_is, share_is, ring-is, deficit_is, free_is, lengths-from}
-use Rattle.spoilt.proofs.Places.{record_is, share_at, number_at, queued-at, all_64}
+use Rattle.spoilt.proofs.Places.{stand_is, inner, waits_is, queued_is, serving_is, number_is, share_is, ring_is, deficit_is, free_is, lengths_from}
+use Rattle.spoilt.proofs.Places.{record_is, share_at, number_at, queued_at, all_64}
 use Rattle.spoilt.proofs.Sets.{quiet_is}
 use Rattle.spoilt.proofs.Rules.{Rules, Belongs}
 use Rattle.spoilt.proofs.Spelling.{walk!, member, member_ready, ready_at, open_at, lists_all, slot_at, ordered, falls_as, active_field, slot_serves}
@@ -114,7 +114,7 @@ module _ (b : struct.Board) (ids lens : List ℕ) (z : Sized b) (r : Rules b len
   -- each waiting block in an order or in the open slot
   stands : (p : ℕ) → p < 64 → stands_by_lane (place_of b ids lens p) ≡ true
   unfolding in_order
-  stands p h = rw (waits-is b ids lens p, queued_is b ids lens p, serving-is b ids lens p) (go (eqb (get_or b.counts p 0) 0) refl (eqb b.slot (p + 1)))
+  stands p h = rw (waits_is b ids lens p, queued_is b ids lens p, serving_is b ids lens p) (go (eqb (get_or b.counts p 0) 0) refl (eqb b.slot (p + 1)))
     where
       has_share : eqb (get_or b.counts p 0) 0 ≡ false → is_open (place_of b ids lens p) ≡ true
       has_share e = ap is_open (sym (inner b ids lens p h)) ∙ le-leb 1 (at v p).share (omega (arith, share_at b ids lens p h, open_at b ids lens r p h e))
@@ -128,7 +128,7 @@ module _ (b : struct.Board) (ids lens : List ℕ) (z : Sized b) (r : Rules b len
   -- the open slot's block and no other
   one_serves : (p : ℕ) → p < 64 → alike (is_serving (at v p).stand) (is_at p v.slot) ≡ true
   unfolding view
-  one_serves p h = rw (inner b ids lens p h, serving-is b ids lens p, add-one p) (go b.slot refl)
+  one_serves p h = rw (inner b ids lens p h, serving_is b ids lens p, add-one p) (go b.slot refl)
     where
       go : (s : ℕ) → b.slot ≡ s → alike (not (eqb (get_or b.counts p 0) 0) && eqb s (suc p)) (is_at p (slot_by s)) ≡ true
       go zero e = rw (ne_eqb 0 (suc p) (λ f. omega arith), and_never (not (eqb (get_or b.counts p 0) 0)))
@@ -186,7 +186,7 @@ module _ (b : struct.Board) (ids lens : List ℕ) (z : Sized b) (r : Rules b len
           (omega (arith, lists_all b ids lens r k (omega (arith, class_le (at v p).share)) p h, ap one_if (ap₂ (λ (s t : Bool). s && t) e (eqb_yes k k refl))))
 
       same : is_queued (at v p).stand ≡ true → ready_num (at v p).stand ≡ get_or b.ready p 0
-      same e = ready_at b ids lens r p h (sym (queued-at b ids lens p h) ∙ e)
+      same e = ready_at b ids lens r p h (sym (queued_at b ids lens p h) ∙ e)
 
       multiple : is_queued (at v p).stand ≡ true → ready_num (at v p).stand % 2 ^ k ≡ 0
       multiple e = ap (λ (n : ℕ). n % 2 ^ k) (same e) ∙ omega (arith, (own e).times, div-add-mod' (get_or b.ready p 0) (2 ^ k))
@@ -205,7 +205,7 @@ module _ (b : struct.Board) (ids lens : List ℕ) (z : Sized b) (r : Rules b len
       go false ec false es = refl
       go false ec true es =
           let w = slot_serves b ids lens r p (eqb_true b.slot (p + 1) es ∙ add-one p) in
-          and_both (waits (place_of b ids lens p)) _ (waits-is b ids lens p ∙ ap not ec)
+          and_both (waits (place_of b ids lens p)) _ (waits_is b ids lens p ∙ ap not ec)
           (and_both (leb (bytes_charged (front (place_of b ids lens p)) * 65536) b.left.0) _
           (le-leb (bytes_charged (front (place_of b ids lens p)) * 65536) b.left.0 (omega (arith, w.fits, front_charge b ids lens p ec)))
           (le-leb (suc b.left.0) (3 * largest_charge b.largest * 65536) (omega (arith, w.under))))
@@ -239,9 +239,9 @@ module _ (b : struct.Board) (ids lens : List ℕ) (z : Sized b) (r : Rules b len
             (
               each Spoilt.share_in_range (λ p h. share_is b ids lens p ∙ (r.places p h).1.0),
               (
-                each Spoilt.ring_in_range (λ p h. ring-is b ids lens p ∙ (r.places p h).1.1.0),
+                each Spoilt.ring_in_range (λ p h. ring_is b ids lens p ∙ (r.places p h).1.1.0),
                 (
-                  each (λ x. lengths_in b.largest x.lane) (λ p h. lengths-from b ids lens p (r.lanes p h)),
+                  each (λ x. lengths_in b.largest x.lane) (λ p h. lengths_from b ids lens p (r.lanes p h)),
                   (
                     each (Spoilt.deficit_in_range b.largest) (λ p h. deficit_is b ids lens p ∙ (r.places p h).1.1.1.0),
                     (

@@ -87,5 +87,5 @@ module _ (l : List Place) where
             go (inr c) = omega arith
 
     -- and where all are listed, the orders are as long
-    pub all-met : ((k : ℕ) → k < 17 → (q : ℕ) → q < 64 → count q (o k) ≡ one_if (in_class k (pl l q))) → below (λ k. length (o k)) 17 ≡ all_blocks
-    all-met listed = lengths ∙ below_ext met blocks 17 (λ k h. below_ext (λ q. count q (o k)) (λ q. one_if (in_class k (pl l q))) 64 (listed k h)) ∙ by_class
+    pub all_met : ((k : ℕ) → k < 17 → (q : ℕ) → q < 64 → count q (o k) ≡ one_if (in_class k (pl l q))) → below (λ k. length (o k)) 17 ≡ all_blocks
+    all_met listed = lengths ∙ below_ext met blocks 17 (λ k h. below_ext (λ q. count q (o k)) (λ q. one_if (in_class k (pl l q))) 64 (listed k h)) ∙ by_class

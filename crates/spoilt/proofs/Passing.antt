@@ -40,10 +40,10 @@ use Rattle.spoilt_places.specs.Ranges.{size_in_range, numbers_apart, in_order, u
 use Rattle.spoilt_orders.specs.Walks.{clock_in_range, class_active, class_pending, blocks_in_order}
 use Rattle.spoilt.specs.Test.{slot_open}
 use Rattle.spoilt.proofs.Apart.{d_apart}
-use Rattle.spoilt.proofs.Counts.{all-met}
+use Rattle.spoilt.proofs.Counts.{all_met}
 use Rattle.spoilt.proofs.Walk.{order_of, walked_from, length_of}
-use Rattle.spoilt.proofs.Places.{inner, share_at, number_at, waits-is, stand_is, serving-is, ready-is, number_is, share_is, ring-is, deficit_is, free_is}
-use Rattle.spoilt.proofs.Places.{lengths-to, queued-at}
+use Rattle.spoilt.proofs.Places.{inner, share_at, number_at, waits_is, stand_is, serving_is, ready_is, number_is, share_is, ring_is, deficit_is, free_is}
+use Rattle.spoilt.proofs.Places.{lengths_to, queued_at}
 use Rattle.spoilt.proofs.Sets.{in_class_lem, Ordered, active_is, pending_is, quiet_is}
 use Rattle.spoilt.proofs.Rules.{SlotRule, d_serves, Rules, place_rules_at, belong_all, Belongs, d_belongs}
 use Rattle.spoilt.proofs.Spelling.{falls_as, last_is}
@@ -101,19 +101,19 @@ module _ (b : struct.Board) (ids lens : List ℕ) (z : Sized b) (s : Sound b ids
       go : (t : Bool) → in_order p (get_or b.counts p 0) b.slot ≡ t → t || (eqb (get_or b.ready p 0) 0 && eqb (get_or b.next p 0) 0) ≡ true
       go true e = refl
       go false e =
-          and_both (eqb (get_or b.ready p 0) 0) (eqb (get_or b.next p 0) 0) (eqb_yes (get_or b.ready p 0) 0 no-ready)
-          (eqb_yes (get_or b.next p 0) 0 no-next)
+          and_both (eqb (get_or b.ready p 0) 0) (eqb (get_or b.next p 0) 0) (eqb_yes (get_or b.ready p 0) 0 no_ready)
+          (eqb_yes (get_or b.next p 0) 0 no_next)
         where
-          no-ready : get_or b.ready p 0 ≡ 0
-          no-ready =
-              ready_field p h ∙ ap (λ (x : Place). ready_num x.stand) (inner b ids lens p h) ∙ ready-is b ids lens p
+          no_ready : get_or b.ready p 0 ≡ 0
+          no_ready =
+              ready_field p h ∙ ap (λ (x : Place). ready_num x.stand) (inner b ids lens p h) ∙ ready_is b ids lens p
               ∙ ap (λ (t : Bool). cond t (get_or b.ready p 0) 0) e
 
-          no-next : get_or b.next p 0 ≡ 0
-          no-next =
+          no_next : get_or b.next p 0 ≡ 0
+          no_next =
               next_field p h ∙ behind_none p (v.orders (block_class (at v p)))
               (tidy.shape.listed (block_class (at v p)) p
-              ∙ ap (λ (t : Bool). one_if (t && eqb (block_class (at v p)) (block_class (at v p)))) (queued-at b ids lens p h ∙ e))
+              ∙ ap (λ (t : Bool). one_if (t && eqb (block_class (at v p)) (block_class (at v p)))) (queued_at b ids lens p h ∙ e))
 
   place_rules_lem : (p : ℕ) → p < 64 → Each (place_rules_at b p)
   unfolding view
@@ -122,7 +122,7 @@ module _ (b : struct.Board) (ids lens : List ℕ) (z : Sized b) (s : Sound b ids
     (
       sym (share_is b ids lens p) ∙ (passes p h).share,
       (
-        sym (ring-is b ids lens p) ∙ (passes p h).ring,
+        sym (ring_is b ids lens p) ∙ (passes p h).ring,
         (
           sym (deficit_is b ids lens p) ∙ (passes p h).deficit,
           (
@@ -143,14 +143,14 @@ module _ (b : struct.Board) (ids lens : List ℕ) (z : Sized b) (s : Sound b ids
   unfolding place_of bare_of
   open_at p h e =
       (d_imp (waits (place_of b ids lens p)) (d_leb 1 (get_or b.shares p 0))).yes (and_right (alike (waits (place_of b ids lens p)) _) _ (passes p h).stands)
-      (waits-is b ids lens p ∙ ap not e)
+      (waits_is b ids lens p ∙ ap not e)
 
   slot_at : (p : ℕ) → b.slot ≡ suc p → (p < 64) × (eqb (get_or b.counts p 0) 0 ≡ false)
   slot_at p e = (
     inside,
     not-true (eqb (get_or b.counts p 0) 0)
         (and_left (not (eqb (get_or b.counts p 0) 0)) _
-        (sym (serving-is b ids lens p) ∙ ap (λ (x : Place). is_serving x.stand) (sym (inner b ids lens p inside)) ∙ serves)),
+        (sym (serving_is b ids lens p) ∙ ap (λ (x : Place). is_serving x.stand) (sym (inner b ids lens p inside)) ∙ serves)),
   )
     where
       serves : is_serving (at v p).stand ≡ true
@@ -199,7 +199,7 @@ module _ (b : struct.Board) (ids lens : List ℕ) (z : Sized b) (s : Sound b ids
       inside = small v tidy k q c
 
       listed : in_order q (get_or b.counts q 0) b.slot ≡ true
-      listed = sym (queued-at b ids lens q inside) ∙ (listed_at k q c).0
+      listed = sym (queued_at b ids lens q inside) ∙ (listed_at k q c).0
 
       waiting : eqb (get_or b.counts q 0) 0 ≡ false
       waiting = not-true (eqb (get_or b.counts q 0) 0) (and_left (not (eqb (get_or b.counts q 0) 0)) _ listed)
@@ -225,9 +225,9 @@ module _ (b : struct.Board) (ids lens : List ℕ) (z : Sized b) (s : Sound b ids
   unfolding view blocks_in_order
   all_listed =
       below_ext (length_of b) (λ k. length (order_of b k)) 17 walks
-      ∙ all-met v.places (order_of b) (λ k h q l. few v tidy k q l) (λ k h q l. tidy.shape.listed k q)
+      ∙ all_met v.places (order_of b) (λ k h q l. few v tidy k q l) (λ k h q l. tidy.shape.listed k q)
       ∙ below_ext (λ p. one_if (is_queued (at v p).stand)) (λ p. one_if (in_order p (get_or b.counts p 0) b.slot)) 64
-      (λ p h. ap one_if (queued-at b ids lens p h))
+      (λ p h. ap one_if (queued_at b ids lens p h))
 
   slot_none : b.slot ≡ 0 → v.slot ≡ none
   unfolding view
@@ -288,7 +288,7 @@ module _ (b : struct.Board) (ids lens : List ℕ) (z : Sized b) (s : Sound b ids
     clock = leb_yes b.clock (2 ^ 62) (omega (arith, tidy.time));
     apart = apart;
     places = place_rules_lem;
-    lanes = λ p h. lengths-to b ids lens p (passes p h).lengths;
+    lanes = λ p h. lengths_to b ids lens p (passes p h).lengths;
     shares = ap (λ (n : ℕ). leb n 65536) (sym (used_is b ids lens z)) ∙ leb_yes (used_share v) 65536 tidy.shape.used_share;
     held =
         ap (λ (t : Bool). not t || all_below 17 (λ k. eqb (get_or b.held k 0) 0)) (ap (λ (n : ℕ). eqb n 0) active_field ∙ sym (quiet_is b ids lens ordered))

@@ -112,32 +112,32 @@ module _ (b : Board) (ids lens : List ℕ) where
     abbrev n : ℕ
     n = get_or b.counts p 0
 
-    pub lane-long : length (place_of b ids lens p).lane ≡ get_or b.counts p 0
+    pub lane_long : length (place_of b ids lens p).lane ≡ get_or b.counts p 0
     unfolding place_of
-    lane-long = length_lane ids lens p (bare_of b p) n
+    lane_long = length_lane ids lens p (bare_of b p) n
 
-    pub waits-is : waits (place_of b ids lens p) ≡ not (eqb (get_or b.counts p 0) 0)
-    waits-is = ap (ltb 0) lane-long ∙ above_zero n
+    pub waits_is : waits (place_of b ids lens p) ≡ not (eqb (get_or b.counts p 0) 0)
+    waits_is = ap (ltb 0) lane_long ∙ above_zero n
 
     pub queued_is : is_queued (place_of b ids lens p).stand ≡ in_order p (get_or b.counts p 0) b.slot
     unfolding place_of bare_of
     queued_is = queued_by p n b.slot b.left.0 (get_or b.ready p 0)
 
-    pub queued-at : p < 64 → is_queued (at (view b ids lens) p).stand ≡ in_order p (get_or b.counts p 0) b.slot
-    queued-at h = ap (λ (y : Place). is_queued y.stand) (inner p h) ∙ queued_is
+    pub queued_at : p < 64 → is_queued (at (view b ids lens) p).stand ≡ in_order p (get_or b.counts p 0) b.slot
+    queued_at h = ap (λ (y : Place). is_queued y.stand) (inner p h) ∙ queued_is
 
     pub stand_is : (place_of b ids lens p).stand
         ≡ cond (eqb (get_or b.counts p 0) 0) out (cond (eqb b.slot (p + 1)) (serving b.left.0) (queued (get_or b.ready p 0)))
     unfolding place_of bare_of
     stand_is = stand_by_lem p n b.slot b.left.0 (get_or b.ready p 0)
 
-    pub serving-is : is_serving (place_of b ids lens p).stand ≡ not (eqb (get_or b.counts p 0) 0) && eqb b.slot (p + 1)
+    pub serving_is : is_serving (place_of b ids lens p).stand ≡ not (eqb (get_or b.counts p 0) 0) && eqb b.slot (p + 1)
     unfolding place_of bare_of
-    serving-is = serving_by p n b.slot b.left.0 (get_or b.ready p 0)
+    serving_is = serving_by p n b.slot b.left.0 (get_or b.ready p 0)
 
-    pub ready-is : ready_num (place_of b ids lens p).stand ≡ cond (in_order p (get_or b.counts p 0) b.slot) (get_or b.ready p 0) 0
+    pub ready_is : ready_num (place_of b ids lens p).stand ≡ cond (in_order p (get_or b.counts p 0) b.slot) (get_or b.ready p 0) 0
     unfolding place_of bare_of
-    ready-is = ready_by p n b.slot b.left.0 (get_or b.ready p 0)
+    ready_is = ready_by p n b.slot b.left.0 (get_or b.ready p 0)
 
     -- the clauses
 
@@ -149,9 +149,9 @@ module _ (b : Board) (ids lens : List ℕ) where
     unfolding place_of bare_of share_in_range
     share_is = refl
 
-    pub ring-is : Spoilt.ring_in_range (place_of b ids lens p) ≡ ring_in_range (place_now b p)
+    pub ring_is : Spoilt.ring_in_range (place_of b ids lens p) ≡ ring_in_range (place_now b p)
     unfolding place_of bare_of ring_in_range
-    ring-is = rw lane-long
+    ring_is = rw lane_long
 
     pub deficit_is : Spoilt.deficit_in_range b.largest (place_of b ids lens p)
         ≡ deficit_in_range b.largest (in_order p (get_or b.counts p 0) b.slot) (place_now b p)
@@ -160,7 +160,7 @@ module _ (b : Board) (ids lens : List ℕ) where
 
     pub free_is : Spoilt.free_is_zero (place_of b ids lens p) ≡ free_is_zero (place_now b p)
     unfolding place_of bare_of free_is_zero
-    free_is = rw (ap not waits-is ∙ not_not (eqb n 0))
+    free_is = rw (ap not waits_is ∙ not_not (eqb n 0))
 
     -- ---- its lane
 
@@ -168,16 +168,16 @@ module _ (b : Board) (ids lens : List ℕ) where
     unfolding entry bare_of
     record_is j = refl
 
-    pub lengths-from : lane_in_range lens b.largest p (get_or b.starts p 0) (get_or b.counts p 0) ≡ true
+    pub lengths_from : lane_in_range lens b.largest p (get_or b.starts p 0) (get_or b.counts p 0) ≡ true
         → lengths_in b.largest (place_of b ids lens p).lane ≡ true
     unfolding place_of lane_of lane_in_range length_in_range
-    lengths-from h =
+    lengths_from h =
         all_lengths b.largest ids lens n (λ j. entry p (bare_of b p) j)
         (λ j l. rw (record_is j) (all_at (λ i. length_in_range b.largest (get_or lens (lane_entry p (get_or b.starts p 0) i) 0)) n j h l))
 
-    pub lengths-to : lengths_in b.largest (place_of b ids lens p).lane ≡ true
+    pub lengths_to : lengths_in b.largest (place_of b ids lens p).lane ≡ true
         → lane_in_range lens b.largest p (get_or b.starts p 0) (get_or b.counts p 0) ≡ true
     unfolding place_of lane_of lane_in_range length_in_range
-    lengths-to h =
+    lengths_to h =
         all_intro (λ j. length_in_range b.largest (get_or lens (lane_entry p (get_or b.starts p 0) j) 0)) n
         (λ j l. rw (← record_is j) (each_length b.largest ids lens n (λ i. entry p (bare_of b p) i) h j l))

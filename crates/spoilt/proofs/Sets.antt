@@ -36,7 +36,7 @@ use Rattle.board.proofs.ClassSets.{and_never, both_ways, due_first}
 use Rattle.spoilt_places.specs.Ranges.{in_order}
 use Rattle.spoilt_orders.specs.Walks.{of_class, class_active, class_pending}
 use Rattle.spoilt.proofs.Walk.{less}
-use Rattle.spoilt.proofs.Places.{inner, beyond, waits-is, ready-is, share_at, queued-at, all_64}
+use Rattle.spoilt.proofs.Places.{inner, beyond, waits_is, ready_is, share_at, queued_at, all_64}
 
 -- ---- the class of a share, multiplied out
 
@@ -108,13 +108,13 @@ module _ (b : struct.Board) (ids lens : List ℕ) (w : Ordered b ids lens) where
   queued_waits : (p : ℕ) → p < 64 → is_queued (at v p).stand ≡ true → waits (at v p) ≡ true
   unfolding in_order
   queued_waits p h e =
-      ap waits (inner b ids lens p h) ∙ waits-is b ids lens p ∙ and_left (not (eqb (get_or b.counts p 0) 0)) _ (sym (queued-at b ids lens p h) ∙ e)
+      ap waits (inner b ids lens p h) ∙ waits_is b ids lens p ∙ and_left (not (eqb (get_or b.counts p 0) 0)) _ (sym (queued_at b ids lens p h) ∙ e)
 
   waits_count : (p : ℕ) → p < 64 → waits (at v p) ≡ true → eqb (get_or b.counts p 0) 0 ≡ false
-  waits_count p h e = not-true _ (sym (ap waits (inner b ids lens p h) ∙ waits-is b ids lens p) ∙ e)
+  waits_count p h e = not-true _ (sym (ap waits (inner b ids lens p h) ∙ waits_is b ids lens p) ∙ e)
 
   count_waits : (p : ℕ) → p < 64 → eqb (get_or b.counts p 0) 0 ≡ false → waits (at v p) ≡ true
-  count_waits p h e = ap waits (inner b ids lens p h) ∙ waits-is b ids lens p ∙ ap not e
+  count_waits p h e = ap waits (inner b ids lens p h) ∙ waits_is b ids lens p ∙ ap not e
 
   -- a block that waits is in an order or has the slot
   waits_where : (p : ℕ) → p < 64 → waits (at v p) ≡ true → (is_queued (at v p).stand ≡ true) ⊎ (b.slot ≡ p + 1)
@@ -123,7 +123,7 @@ module _ (b : struct.Board) (ids lens : List ℕ) (w : Ordered b ids lens) where
     where
       go : (t : Bool) → eqb b.slot (p + 1) ≡ t → (is_queued (at v p).stand ≡ true) ⊎ (b.slot ≡ p + 1)
       go true f = inr (eqb_true b.slot (p + 1) f)
-      go false f = inl (queued-at b ids lens p h ∙ ap₂ (λ (s t : Bool). not s && not t) (waits_count p h e) f)
+      go false f = inl (queued_at b ids lens p h ∙ ap₂ (λ (s t : Bool). not s && not t) (waits_count p h e) f)
 
   -- ACTIVE
   pub active_is : (k : ℕ) → k < 17 → active v k ≡ class_active b.slot b.shares b.heads k
@@ -133,32 +133,32 @@ module _ (b : struct.Board) (ids lens : List ℕ) (w : Ordered b ids lens) where
       h : ℕ
       h = get_or b.heads k 0
 
-      slotIn : Bool
-      slotIn = not (eqb b.slot 0) && (leb b.slot 64 && of_class k (get_or b.shares (b.slot - 1) 0))
+      slot_in : Bool
+      slot_in = not (eqb b.slot 0) && (leb b.slot 64 && of_class k (get_or b.shares (b.slot - 1) 0))
 
-      by-slot : (s : Bool) → slotIn ≡ true → s || slotIn ≡ true
-      by-slot true e = refl
-      by-slot false e = e
+      by_slot : (s : Bool) → slot_in ≡ true → s || slot_in ≡ true
+      by_slot true e = refl
+      by_slot false e = e
 
-      listed-head : (p : ℕ) → 1 ≤ count p (v.orders k) → not (eqb h 0) || slotIn ≡ true
-      listed-head p c = rw (ne_eqb h 0 (λ z. some_first p (v.orders k) c (head_is k ∙ z)))
+      listed_head : (p : ℕ) → 1 ≤ count p (v.orders k) → not (eqb h 0) || slot_in ≡ true
+      listed_head p c = rw (ne_eqb h 0 (λ z. some_first p (v.orders k) c (head_is k ∙ z)))
 
-      place : (p : ℕ) → p < 64 → is_active k (at v p) ≡ true → (is_queued (at v p).stand ≡ true) ⊎ (b.slot ≡ p + 1) → not (eqb h 0) || slotIn ≡ true
+      place : (p : ℕ) → p < 64 → is_active k (at v p) ≡ true → (is_queued (at v p).stand ≡ true) ⊎ (b.slot ≡ p + 1) → not (eqb h 0) || slot_in ≡ true
       place p l e (inl q) =
-          listed-head p (omega (
+          listed_head p (omega (
             arith,
             w.listed k hk p l,
             ap one_if (ap₂ (λ (s t : Bool). s && t) q (and_right (waits (at v p)) (eqb k (block_class (at v p))) e)),
           ))
       place p l e (inr s) =
-          by-slot (not (eqb h 0))
+          by_slot (not (eqb h 0))
           (rw (s, ne_eqb (p + 1) 0 (λ z. omega arith), le-leb (p + 1) 64 (omega arith), back p)
           (class_at_lem k p l (waits_count p l (and_left (waits (at v p)) _ e)) ∙ and_right (waits (at v p)) (eqb k (block_class (at v p))) e))
         where
           back : (q : ℕ) → q + 1 - 1 ≡ q
           back q = omega arith
 
-      to : active v k ≡ true → not (eqb h 0) || slotIn ≡ true
+      to : active v k ≡ true → not (eqb h 0) || slot_in ≡ true
       to e =
           let f = any_active k v.places e in let l : f.0 < 64 = omega (arith, f.1, all_64 b ids lens) in
           place f.0 l f.2 (waits_where f.0 l (and_left (waits (at v f.0)) _ f.2))
@@ -171,17 +171,17 @@ module _ (b : struct.Board) (ids lens : List ℕ) (w : Ordered b ids lens) where
           (and_both (waits (at v q)) (eqb k (block_class (at v q))) (queued_waits q l (and_left (is_queued (at v q).stand) _ e))
           (and_right (is_queued (at v q).stand) (eqb k (block_class (at v q))) e))
 
-      by-mark : (s : ℕ) → b.slot ≡ s → not (eqb s 0) && (leb s 64 && of_class k (get_or b.shares (s - 1) 0)) ≡ true → active v k ≡ true
-      by-mark zero e f = absurd (false≢true f)
-      by-mark (suc p) e f =
+      by_mark : (s : ℕ) → b.slot ≡ s → not (eqb s 0) && (leb s 64 && of_class k (get_or b.shares (s - 1) 0)) ≡ true → active v k ≡ true
+      by_mark zero e f = absurd (false≢true f)
+      by_mark (suc p) e f =
           let l = w.slot p e in
           let c : of_class k (get_or b.shares p 0) ≡ true =
           rw (less p) at (and_right (leb (suc p) 64) (of_class k (get_or b.shares (suc p - 1) 0)) (and_right (not (eqb (suc p) 0)) _ f)) in
           active_here k p v.places (omega (arith, l.0, all_64 b ids lens))
           (and_both (waits (at v p)) (eqb k (block_class (at v p))) (count_waits p l.0 l.1) (sym (class_at_lem k p l.0 l.1) ∙ c))
 
-      from : (t : Bool) → eqb h 0 ≡ t → not t || slotIn ≡ true → active v k ≡ true
-      from true f e = by-mark b.slot refl e
+      from : (t : Bool) → eqb h 0 ≡ t → not t || slot_in ≡ true → active v k ≡ true
+      from true f e = by_mark b.slot refl e
       from false f e = let q = first_some (v.orders k) (λ z. eqb-false h 0 f (sym (head_is k) ∙ z)) in first q.0 q.1
 
   -- PENDING
@@ -190,21 +190,21 @@ module _ (b : struct.Board) (ids lens : List ℕ) (w : Ordered b ids lens) where
   clock_is = refl
 
   module _ (k q : ℕ) (qs : List ℕ) (hk : k < 17) (first : (view b ids lens).orders k ≡ q ∷ qs) where
-    first-met : 1 ≤ count q (v.orders k)
-    first-met = rw first (in_head q qs)
+    first_met : 1 ≤ count q (v.orders k)
+    first_met = rw first (in_head q qs)
 
-    first-in : q < 64
-    first-in = w.inside k hk q first-met
+    first_in : q < 64
+    first_in = w.inside k hk q first_met
 
-    first-queued : is_queued (at v q).stand ≡ true
-    first-queued = and_left (is_queued (at v q).stand) _ (one_if_true (in_class k (at v q)) (omega (arith, w.listed k hk q first-in, first-met)))
+    first_queued : is_queued (at v q).stand ≡ true
+    first_queued = and_left (is_queued (at v q).stand) _ (one_if_true (in_class k (at v q)) (omega (arith, w.listed k hk q first_in, first_met)))
 
-    first-ready : ready v.places q ≡ get_or b.ready q 0
-    first-ready = ap (λ (x : Place). ready_num x.stand) (inner b ids lens q first-in) ∙ ready-is b ids lens q
-        ∙ ap (λ (t : Bool). cond t (get_or b.ready q 0) 0) (sym (queued-at b ids lens q first-in) ∙ first-queued)
+    first_ready : ready v.places q ≡ get_or b.ready q 0
+    first_ready = ap (λ (x : Place). ready_num x.stand) (inner b ids lens q first_in) ∙ ready_is b ids lens q
+        ∙ ap (λ (t : Bool). cond t (get_or b.ready q 0) 0) (sym (queued_at b ids lens q first_in) ∙ first_queued)
 
-    first-pending : any_due v.places v.clock (q ∷ qs) ≡ leb (get_or b.ready q 0) b.clock
-    first-pending = due_first v.places v.clock q qs (rw first at (w.rising k hk)) first-queued ∙ ap₂ leb first-ready clock_is
+    first_pending : any_due v.places v.clock (q ∷ qs) ≡ leb (get_or b.ready q 0) b.clock
+    first_pending = due_first v.places v.clock q qs (rw first at (w.rising k hk)) first_queued ∙ ap₂ leb first_ready clock_is
 
   pub pending_is : (k : ℕ) → k < 17 → pending v k ≡ class_pending b.clock b.ready b.heads k
   unfolding class_pending any_due
@@ -215,10 +215,10 @@ module _ (b : struct.Board) (ids lens : List ℕ) (w : Ordered b ids lens) where
 
       go : (qs : List ℕ) → v.orders k ≡ qs → pending v k ≡ test (get_or b.heads k 0)
       go [] e = ap (any_due v.places v.clock) e ∙ ap test (sym (ap first_link e) ∙ head_is k)
-      go (q ∷ qs) e = ap (any_due v.places v.clock) e ∙ first-pending k q qs hk e ∙ sym is ∙ ap test (sym (ap first_link e) ∙ head_is k)
+      go (q ∷ qs) e = ap (any_due v.places v.clock) e ∙ first_pending k q qs hk e ∙ sym is ∙ ap test (sym (ap first_link e) ∙ head_is k)
         where
           is : test (suc q) ≡ leb (get_or b.ready q 0) b.clock
-          is = rw (ne_eqb (suc q) 0 (λ z. omega arith), le-leb (suc q) 64 (omega (arith, first-in k q qs hk e)), less q)
+          is = rw (ne_eqb (suc q) 0 (λ z. omega arith), le-leb (suc q) 64 (omega (arith, first_in k q qs hk e)), less q)
 
   -- NONE WAITS
   waiting_active : (p : ℕ) → p < 64 → waits (at v p) ≡ true → active v (block_class (at v p)) ≡ true
@@ -242,17 +242,17 @@ module _ (b : struct.Board) (ids lens : List ℕ) (w : Ordered b ids lens) where
   quiet_none : is_none v.slot ≡ true → is_none (least_ready v.places) ≡ true → (k p : ℕ) → is_active k (at v p) ≡ false
   quiet_none s m k p = go (split 64 p)
     where
-      not-waits : p < 64 → (t : Bool) → waits (at v p) ≡ t → t ≡ false
-      not-waits l false e = refl
-      not-waits l true e = absurd (no-where (waits_where p l e))
+      not_waits : p < 64 → (t : Bool) → waits (at v p) ≡ t → t ≡ false
+      not_waits l false e = refl
+      not_waits l true e = absurd (no_where (waits_where p l e))
         where
-          no-where : (is_queued (at v p).stand ≡ true) ⊎ (b.slot ≡ p + 1) → ⊥
-          no-where (inl q) = true≢false (sym q ∙ no_order_lem (least_ready v.places) (least_is v.places) m p)
-          no-where (inr q) = absurd (omega (arith, no_slot s))
+          no_where : (is_queued (at v p).stand ≡ true) ⊎ (b.slot ≡ p + 1) → ⊥
+          no_where (inl q) = true≢false (sym q ∙ no_order_lem (least_ready v.places) (least_is v.places) m p)
+          no_where (inr q) = absurd (omega (arith, no_slot s))
 
       go : (64 ≤ p) ⊎ (p < 64) → is_active k (at v p) ≡ false
       go (inl l) = ap (is_active k) (beyond b ids lens p l)
-      go (inr l) = rw (not-waits l (waits (at v p)) refl)
+      go (inr l) = rw (not_waits l (waits (at v p)) refl)
 
   quiet_zero : is_none v.slot ≡ true → is_none (least_ready v.places) ≡ true → set_below 17 (active v) ≡ 0
   unfolding set_below
@@ -269,18 +269,18 @@ module _ (b : struct.Board) (ids lens : List ℕ) (w : Ordered b ids lens) where
     none_waits : (p : ℕ) → p < 64 → waits (at v p) ≡ true → ⊥
     none_waits p h e = true≢false (sym (waiting_active p h e) ∙ none_active (block_class (at v p)) (omega (arith, class_le (at v p).share)))
 
-    zero-slot : is_none v.slot ≡ true
+    zero_slot : is_none v.slot ≡ true
     unfolding view
-    zero-slot = go b.slot refl
+    zero_slot = go b.slot refl
       where
         go : (s : ℕ) → b.slot ≡ s → is_none (slot_by s) ≡ true
         go zero e = refl
         go (suc p) e = absurd (none_waits p (w.slot p e).0 (count_waits p (w.slot p e).0 (w.slot p e).1))
 
-    zero-order : (m : Option ℕ) → LeastIs v.places m → is_none m ≡ true
+    zero_order : (m : Option ℕ) → LeastIs v.places m → is_none m ≡ true
     unfolding LeastIs
-    zero-order none l = refl
-    zero-order (some r) l =
+    zero_order none l = refl
+    zero_order (some r) l =
         let h : l.1.0 < 64 = omega (arith, queued_in v.places l.1.0 l.1.1, all_64 b ids lens) in
         absurd (none_waits l.1.0 h (queued_waits l.1.0 h l.1.1))
 
@@ -290,4 +290,4 @@ module _ (b : struct.Board) (ids lens : List ℕ) (w : Ordered b ids lens) where
       (λ e. eqb_yes (set_below 17 (active v)) 0
       (quiet_zero (and_left (is_none v.slot) _ e) (and_right (is_none v.slot) (is_none (least_ready v.places)) e)))
       (λ e. let z = eqb_true (set_below 17 (active v)) 0 e in
-      and_both (is_none v.slot) (is_none (least_ready v.places)) (zero-slot z) (zero-order z (least_ready v.places) (least_is v.places)))
+      and_both (is_none v.slot) (is_none (least_ready v.places)) (zero_slot z) (zero_order z (least_ready v.places) (least_is v.places)))

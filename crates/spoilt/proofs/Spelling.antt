@@ -34,7 +34,7 @@ use Rattle.spoilt_places.specs.Ranges.{in_order, free_is_zero, share_in_range, u
 use Rattle.spoilt_orders.specs.Walks.{class_active, class_pending, blocks_in_order}
 use Rattle.spoilt.proofs.Counts.{all_listed}
 use Rattle.spoilt.proofs.Walk.{rises_from, last_from, Walked, walked, order_of, length_of}
-use Rattle.spoilt.proofs.Places.{inner, lane-long, ready-is, share_at, queued-at}
+use Rattle.spoilt.proofs.Places.{inner, lane_long, ready_is, share_at, queued_at}
 use Rattle.spoilt.proofs.Sets.{in_class_lem, Ordered, active_is, pending_is}
 use Rattle.spoilt.proofs.Rules.{Rules, belong_at, Belongs, d_belongs, SlotAsks, d_serves}
 
@@ -121,7 +121,7 @@ module _ (b : struct.Board) (ids lens : List ℕ) (r : Rules b lens) where
   member k h q c = (d_belongs b k q).yes (belong_at b k (order_of b k) q (walk! k h).belong c)
 
   pub ready_at : (p : ℕ) → p < 64 → in_order p (get_or b.counts p 0) b.slot ≡ true → ready v.places p ≡ get_or b.ready p 0
-  ready_at p h e = ap (λ (x : Place). ready_num x.stand) (inner b ids lens p h) ∙ ready-is b ids lens p ∙ ap (λ (t : Bool). cond t (get_or b.ready p 0) 0) e
+  ready_at p h e = ap (λ (x : Place). ready_num x.stand) (inner b ids lens p h) ∙ ready_is b ids lens p ∙ ap (λ (t : Bool). cond t (get_or b.ready p 0) 0) e
 
   pub member_ready : (k : ℕ) → k < 17 → (q : ℕ) → 1 ≤ count q (order_of b k) → ready v.places q ≡ get_or b.ready q 0
   member_ready k h q c = let m = member k h q c in ready_at q m.inside m.listed
@@ -140,7 +140,7 @@ module _ (b : struct.Board) (ids lens : List ℕ) (r : Rules b lens) where
   class_of_lem : (k : ℕ) → k < 17 → (q : ℕ) → 1 ≤ count q (order_of b k) → in_class k (at v q) ≡ true
   class_of_lem k h q c =
       let m = member k h q c in
-      and_both (is_queued (at v q).stand) (eqb k (block_class (at v q))) (queued-at b ids lens q m.inside ∙ m.listed)
+      and_both (is_queued (at v q).stand) (eqb k (block_class (at v q))) (queued_at b ids lens q m.inside ∙ m.listed)
       (ap (λ (s : ℕ). eqb k (class_of s)) (share_at b ids lens q m.inside)
       ∙ sym (in_class_lem (get_or b.shares q 0) k (open_at q m.inside (in_order_count q m.listed)) (shares_in q m.inside)) ∙ m.class)
 
@@ -155,7 +155,7 @@ module _ (b : struct.Board) (ids lens : List ℕ) (r : Rules b lens) where
   unfolding blocks_in_order
   lists_all = all_listed v.places (order_of b) none_outside (λ k h q. ends_once b.next 64 (get_or b.heads k 0) (walk! k h).ends! q) class_of_lem
       (below_ext (λ k. length (order_of b k)) (length_of b) 17 (λ k h. sym (walk! k h).long) ∙ r.listed
-      ∙ below_ext _ _ 64 (λ p h. ap one_if (sym (queued-at b ids lens p h))))
+      ∙ below_ext _ _ 64 (λ p h. ap one_if (sym (queued_at b ids lens p h))))
 
   pub slot_serves : (p : ℕ) → b.slot ≡ suc p
       → SlotAsks b.largest b.clock b.left.0 (get_or b.counts p 0) (get_or lens (lane_entry p (get_or b.starts p 0) 0) 0)
@@ -183,7 +183,7 @@ module _ (b : struct.Board) (ids lens : List ℕ) (r : Rules b lens) where
   unused p h e = (d_and (d_eqb (get_or b.ready p 0) 0) (d_eqb (get_or b.next p 0) 0)).yes (rw e at (r.places p h).1.1.1.1.1.0)
 
   ready_field : (p : ℕ) → p < 64 → get_or b.ready p 0 ≡ ready_num (place_of b ids lens p).stand
-  ready_field p h = go (in_order p (get_or b.counts p 0) b.slot) refl ∙ sym (ready-is b ids lens p)
+  ready_field p h = go (in_order p (get_or b.counts p 0) b.slot) refl ∙ sym (ready_is b ids lens p)
     where
       go : (t : Bool) → in_order p (get_or b.counts p 0) b.slot ≡ t
           → get_or b.ready p 0 ≡ cond (in_order p (get_or b.counts p 0) b.slot) (get_or b.ready p 0) 0
@@ -200,7 +200,7 @@ module _ (b : struct.Board) (ids lens : List ℕ) (r : Rules b lens) where
       hk = omega (arith, class_le (at v p).share)
 
       own : (t : Bool) → in_order p (get_or b.counts p 0) b.slot ≡ t → count p (order_of b k) ≡ one_if t
-      own t e = lists_all k hk p h ∙ ap one_if (ap₂ (λ (s u : Bool). s && u) (queued-at b ids lens p h ∙ e) (eqb_yes k k refl) ∙ and_true t)
+      own t e = lists_all k hk p h ∙ ap one_if (ap₂ (λ (s u : Bool). s && u) (queued_at b ids lens p h ∙ e) (eqb_yes k k refl) ∙ and_true t)
         where
           and_true : (t : Bool) → t && true ≡ t
           and_true true = refl
@@ -233,14 +233,14 @@ module _ (b : struct.Board) (ids lens : List ℕ) (r : Rules b lens) where
     pending_field : set_below 17 (pending v) ≡ b.pending
     pending_field = set_ext (pending v) (class_pending b.clock b.ready b.heads) 17 (pending_is b ids lens ordered) ∙ sym r.pending
 
-    pub spells-is : encode (view b ids lens) ≡ b
+    pub spells_is : encode (view b ids lens) ≡ b
     unfolding encode view place_of bare_of
-    spells-is = same (record {
+    spells_is = same (record {
       numbers = field (λ x. x.number) b.numbers z.numbers (λ i h. refl);
       shares = field (λ x. x.share) b.shares z.shares (λ i h. refl);
       deficits = field (λ x. x.deficit) b.deficits z.deficits (λ i h. refl);
       starts = field (λ x. x.start) b.starts z.starts (λ i h. refl);
-      counts = field (λ x. length x.lane) b.counts z.counts (λ i h. sym (lane-long b ids lens i));
+      counts = field (λ x. length x.lane) b.counts z.counts (λ i h. sym (lane_long b ids lens i));
       ready = field (λ x. ready_num x.stand) b.ready z.ready ready_field;
       next = sym (tab_of 0 b.next 64 _ z.next next_field);
       heads = sym (tab_of 0 b.heads 17 _ z.heads (λ k h. sym (first_follow b.next (get_or b.heads k 0))));

@@ -47,9 +47,9 @@ module _ (k start slot tail : ℕ) (shares counts ready next : List ℕ) (met h 
   walk_long n e ne = rw (e, ne_eqb h 0 ne)
 
   module _ (l : met < 64) (ne : h ≢ 0) where
-    pub walk-far : 64 < h → from (64 - met) ≡ no_order
+    pub walk_far : 64 < h → from (64 - met) ≡ no_order
     unfolding walk
-    walk-far g = rw (down met l, ne_eqb h 0 ne, lt-leb h 64 g)
+    walk_far g = rw (down met l, ne_eqb h 0 ne, lt-leb h 64 g)
 
     module _ (g : h ≤ 64) where
       abbrev good : Bool
@@ -59,10 +59,10 @@ module _ (k start slot tail : ℕ) (shares counts ready next : List ℕ) (met h 
       unfolding walk
       walk_refused f = rw (down met l, ne_eqb h 0 ne, le-leb h 64 g, f)
 
-      pub walk-on : good ≡ true
+      pub walk_on : good ≡ true
           → from (64 - met) ≡ walk k start slot tail shares counts ready next (64 - (met + 1)) (met + 1) (get_or next (h - 1) 0) (get_or ready (h - 1) 0) h
       unfolding walk
-      walk-on f = rw (down met l, ne_eqb h 0 ne, le-leb h 64 g, f)
+      walk_on f = rw (down met l, ne_eqb h 0 ne, le-leb h 64 g, f)
 
 -- the length that the walk of class k gives, from its next start
 pub length_as : (clock slot : ℕ) (heads tails shares counts ready next : List ℕ) (k start r : ℕ) → start ≡ next_start k clock

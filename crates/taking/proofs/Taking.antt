@@ -116,10 +116,10 @@ module _ (m : Board.Board) (g : Tidy m) (p : ℕ) (x : Record) (p64 : p < 64) (b
     gone : (j : ℕ) → count p (m.orders j) ≡ 0
     gone j = listed_out m.places m.orders g.shape.listed j p (ap is_queued was)
 
-    take-joins : with_taking (encode m) (taken_at (encode m).shares (encode m).clock p (taking_of (encode m)))
+    take_joins : with_taking (encode m) (taken_at (encode m).shares (encode m).clock p (taking_of (encode m)))
         ≡ encode (joining m p (joins m.clock (at m p) x))
     unfolding encode
-    take-joins =
+    take_joins =
         ap (with_taking (encode m))
         (taken_eq (encode m).shares m.clock p (taking_of (encode m)) (length (at m p).lane) (at m p).share (count_is m p) (share_is m p) ∙ goes)
         ∙ same (record {
@@ -138,7 +138,7 @@ module _ (m : Board.Board) (g : Tidy m) (p : ℕ) (x : Record) (p64 : p < 64) (b
           held = refl;
           largest = refl;
           clock = refl;
-          active = set_more (λ j. any_waits j l) (λ j. any_waits j (set l p y)) 17 k k17 now-active (λ j ne. active_set j p l y (others j ne));
+          active = set_more (λ j. any_waits j l) (λ j. any_waits j (set l p y)) 17 k k17 now_active (λ j ne. active_set j p l y (others j ne));
           pending = set_ext _ _ 17 (λ j h. sym (due j (ℕ_discrete j k)));
           slot = refl;
           left = sym (left_away l p y m.slot (sym (g.one p) ∙ ap is_serving was));
@@ -172,8 +172,8 @@ module _ (m : Board.Board) (g : Tidy m) (p : ℕ) (x : Record) (p64 : p < 64) (b
         here : pl (set l p y) p ≡ y
         here = get_or-set_same l p y free_place in_l
 
-        now-active : any_waits k (set l p y) ≡ true
-        now-active = active_here k p (set l p y) (omega (arith, length-set l p y, in_l)) (ap (is_active k) here ∙ eqb_yes k k refl)
+        now_active : any_waits k (set l p y) ≡ true
+        now_active = active_here k p (set l p y) (omega (arith, length-set l p y, in_l)) (ap (is_active k) here ∙ eqb_yes k k refl)
 
         others : (j : ℕ) → j ≢ k → is_active j y ≡ is_active j (at m p)
         others j ne = eqb_no j k ne ∙ sym (ap (λ (n : ℕ). ltb 0 n && eqb j k) none!)
@@ -193,5 +193,5 @@ module _ (m : Board.Board) (g : Tidy m) (p : ℕ) (x : Record) (p64 : p < 64) (b
       go : (t : Bool) → leb (length (at m p).lane) 0 ≡ t
           → with_taking (encode m) (taken_at (encode m).shares (encode m).clock p (taking_of (encode m)))
           ≡ encode (cond t (joining m p (joins m.clock (at m p) x)) (go_on m p (more (at m p) x)))
-      go true e = take-joins (omega (arith, true_le (length (at m p).lane) 0 e))
+      go true e = take_joins (omega (arith, true_le (length (at m p).lane) 0 e))
       go false e = take_more (false_lt (length (at m p).lane) 0 e)

@@ -69,7 +69,7 @@ class_hi s h = rw (← power_up 17 (class_of s) (omega (arith, class_le s))) (mu
 
 -- a share of class k has k + 15 of them: with the 17 - k bits from its highest 1 on they make 32
 pub class_zeros : (k s : ℕ) → IsClass k s → count_leading_zeros 32 s ≡ k + 15
-class_zeros k s c = sym (leading_unique 32 s (k + 15) (17 - k) (omega (arith, c.within)) c.high reaches-top)
+class_zeros k s c = sym (leading_unique 32 s (k + 15) (17 - k) (omega (arith, c.within)) c.high reaches_top)
   where
-    reaches-top : 2 ^ (17 - k) ≤ 2 * s + 1
-    reaches-top = let up : 17 - k ≡ suc (16 - k) = omega (arith, c.within) in rw (up, pow-suc) (omega (arith, c.low))
+    reaches_top : 2 ^ (17 - k) ≤ 2 * s + 1
+    reaches_top = let up : 17 - k ≡ suc (16 - k) = omega (arith, c.within) in rw (up, pow-suc) (omega (arith, c.low))

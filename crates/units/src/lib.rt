@@ -1,6 +1,7 @@
 // The units of the rules: parts and bytes, the class of a share, the starts of a class, the charge of a record and the
 // credit of a slot.
 #![tactic(auto)]
+
 ghost use Rattle.std.specs.Prelude.{◌≡◌, ◌^◌, ◌<◌, ◌≤◌};
 ghost use Rattle.units.specs.Classes.{class_of, next_start};
 ghost use Rattle.units.specs.Credit.{charged, largest_charge, charge_of, credit_of};

@@ -7,7 +7,7 @@ use lib.ListN.{length, length-set}
 use Rattle.board.specs.declared.Board.{Board}
 use Rattle.board.specs.Memory.{engine_now, with_engine}
 use Rattle.serving.proofs.Known.{can_known, sent_index}
-use Rattle.calls.proofs.Promises.{burst_start, burst_stop, burst-on, on_room, on_fits, on-known}
+use Rattle.calls.proofs.Promises.{burst_start, burst_stop, burst_on, on_room, on_fits, on_known}
 use borrow.Author.Rules.{scaled_Fits}
 use Rattle.calls.proofs.burst_board.Goals.{At-loop-bytes, Else-s-ne-DONE}
 use Rattle.calls.proofs.burst_board.Goals as goal
@@ -101,6 +101,6 @@ loop-bytes-preserved c =
     let r = c.loop-bytes in
     let x = c.args in
     let b = board_in (goal.at.loop-bytes-preserved c).At-loop-bytes in
-    let known = on-known b x.ids.now x.lens.now r.invariant.1.1.1.0 x.bytes.0 r.count r.total.0 r.list _ served left in
-    let on = burst-on b x.ids.now x.lens.now r.invariant.1.1.1.0 x.bytes.0 r.count r.total.0 r.list _ served left in
+    let known = on_known b x.ids.now x.lens.now r.invariant.1.1.1.0 x.bytes.0 r.count r.total.0 r.list _ served left in
+    let on = burst_on b x.ids.now x.lens.now r.invariant.1.1.1.0 x.bytes.0 r.count r.total.0 r.list _ served left in
     (omega (arith, room (goal.at.loop-bytes-preserved c).Else-s-ne-DONE, r.invariant.1.0), (rw length-set r.invariant.1.0, (omega (arith, fits (goal.at.loop-bytes-preserved c).Else-s-ne-DONE, r.invariant.1.1.0), (known, r.invariant.1.1.1.1 ∙ on))))

@@ -2,7 +2,7 @@
 use Prim.Native.Nat.{◌<◌}
 use native.Mathlib.Omega.{arith}
 use Rattle.serving.proofs.Known.{can_known, sent_index}
-use Rattle.calls.proofs.Promises.{serve-stops, serve-goes}
+use Rattle.calls.proofs.Promises.{serve_stops, serve_goes}
 use Rattle.calls.proofs.serve_board.Goals.{Else-s-ne-DONE}
 use Rattle.calls.proofs.serve_board.Goals as goal
 
@@ -15,7 +15,7 @@ serve_within-s-requires c = can_known _ _ _ c.requires
 
 pub returns-then-s-ne-DONE : goal.returns-then-s-ne-DONE
 returns-then-s-ne-DONE c =
-    serve-stops _ _ _ c.requires 65536 (omega arith) _ c.serve_within-s.ensures c.if-s-ne-DONE.true
+    serve_stops _ _ _ c.requires 65536 (omega arith) _ c.serve_within-s.ensures c.if-s-ne-DONE.true
 
 pub offset_bounds-b-place : goal.offset_bounds-b-place
 offset_bounds-b-place c = omega (arith, (sent (goal.at.offset_bounds-b-place c).Else-s-ne-DONE).0)
@@ -39,4 +39,4 @@ bounds-lens-entry c =
 
 pub returns : goal.returns
 returns c =
-    serve-goes _ _ _ c.requires 65536 (omega arith) _ c.serve_within-s.ensures c.if-s-ne-DONE.false _ c.packed-board.ensures
+    serve_goes _ _ _ c.requires 65536 (omega arith) _ c.serve_within-s.ensures c.if-s-ne-DONE.false _ c.packed-board.ensures

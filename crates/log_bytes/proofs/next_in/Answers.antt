@@ -2,8 +2,8 @@
 use mathlib.Core.Path.{sym, ◌∙◌}
 use mathlib.Core.Logic.{⊎_elim}
 use native.Mathlib.Omega.{arith}
-use Rattle.log_bytes.proofs.Fields.{read_only, right_room, event_fits, found_none, found-tag, found_part, found-length, found-cut}
-use Rattle.log_bytes.proofs.Fields.{found_turn, found-whole}
+use Rattle.log_bytes.proofs.Fields.{read_only, right_room, event_fits, found_none, found_tag, found_part, found_length, found_cut}
+use Rattle.log_bytes.proofs.Fields.{found_turn, found_whole}
 use Rattle.log_bytes.proofs.next_in.Goals as goal
 
 pub returns-then-not-is_read : goal.returns-then-not-is_read
@@ -17,7 +17,7 @@ bounds-bytes-0 c =
 
 pub returns-then-not-right_tag : goal.returns-then-not-right_tag
 returns-then-not-right_tag c =
-    found-tag _ _ _ _ (sym c.is_read.ensures ∙ c.if-not-is_read.false)
+    found_tag _ _ _ _ (sym c.is_read.ensures ∙ c.if-not-is_read.false)
     (sym c.right_tag.ensures ∙ c.if-not-right_tag.true)
 
 pub returns-then-not-is_read-2 : goal.returns-then-not-is_read-2
@@ -36,7 +36,7 @@ returns-then-not-right_length c =
     let a = sym c.is_read.ensures ∙ c.if-not-is_read.false in
     let t = sym c.right_tag.ensures ∙ c.if-not-right_tag.false in
     let b = sym c.is_read-2.ensures ∙ c.if-not-is_read-2.false in
-    found-length _ _ _ _ a t b _ c.length_in-n.ensures.0 (sym c.right_length.ensures ∙ c.if-not-right_length.true)
+    found_length _ _ _ _ a t b _ c.length_in-n.ensures.0 (sym c.right_length.ensures ∙ c.if-not-right_length.true)
 
 pub overflow_add-n : goal.overflow_add-n
 overflow_add-n c =
@@ -49,7 +49,7 @@ returns-then-not-is_read-3 c =
     let b = sym c.is_read-2.ensures ∙ c.if-not-is_read-2.false in
     let r = sym c.right_length.ensures ∙ c.if-not-right_length.false in
     c.not_known-then-not-is_read-3.ensures
-    ∙ found-cut _ _ _ _ a t b _ c.length_in-n.ensures.0 r (sym c.is_read-3.ensures ∙ c.if-not-is_read-3.true)
+    ∙ found_cut _ _ _ _ a t b _ c.length_in-n.ensures.0 r (sym c.is_read-3.ensures ∙ c.if-not-is_read-3.true)
 
 pub event_at-event-requires : goal.event_at-event-requires
 event_at-event-requires c =
@@ -74,5 +74,5 @@ returns c =
     let b = sym c.is_read-2.ensures ∙ c.if-not-is_read-2.false in
     let r = sym c.right_length.ensures ∙ c.if-not-right_length.false in
     let last = sym c.is_read-3.ensures ∙ c.if-not-is_read-3.false in
-    found-whole _ _ _ _ a t b _ c.length_in-n.ensures.0 r last _ c.event_at-event.ensures
+    found_whole _ _ _ _ a t b _ c.length_in-n.ensures.0 r last _ c.event_at-event.ensures
     (sym c.in_turn.ensures ∙ c.if-not-in_turn.false)

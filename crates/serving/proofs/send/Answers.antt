@@ -1,8 +1,8 @@
 -- `serving::send` meets its contract: each return is the case of a send for the tests that led there (sent_last,
--- sent-on, sent-waits), and so is what is lost (lost_last, lost_none). Assumes nothing.
+-- sent_on, sent_waits), and so is what is lost (lost_last, lost_none). Assumes nothing.
 use Prim.Native.Nat.{◌+◌}
 use Rattle.board.specs.Memory.{Engine, engine_now, numbers_now}
-use Rattle.serving.proofs.Cases.{sent_last, sent-on, sent-waits, lost_last, lost_none}
+use Rattle.serving.proofs.Cases.{sent_last, sent_on, sent_waits, lost_last, lost_none}
 use Rattle.units.proofs.Classes.{class_le}
 use lib.ListN.{get_or}
 use native.Mathlib.Omega.{arith}
@@ -71,7 +71,7 @@ charge-need-requires c =
 pub returns-then-need-rest : goal.returns-then-need-rest
 returns-then-need-rest c =
     let x = c.args in (
-      sent-on x.shares.now x.lens.now x.place (entering (goal.at.returns-then-need-rest c).Start) c.entry-entry.result c.charge-charge.result.0 c.onward-on.result
+      sent_on x.shares.now x.lens.now x.place (entering (goal.at.returns-then-need-rest c).Start) c.entry-entry.result c.charge-charge.result.0 c.onward-on.result
           c.class_of-k.result c.entry-entry.ensures.0 c.charge-charge.ensures c.onward-on.ensures
           c.class_of-k.ensures c.entry-following.result c.charge-need.result.0 c.if-count-eq0.false c.entry-following.ensures.0
           c.charge-need.ensures c.if-need-rest.true,
@@ -90,7 +90,7 @@ end_waiting-after-requires c = (
 pub returns : goal.returns
 returns c =
     let x = c.args in (
-      sent-waits x.shares.now x.lens.now x.place (entering (goal.at.returns c).Start) c.entry-entry.result c.charge-charge.result.0
+      sent_waits x.shares.now x.lens.now x.place (entering (goal.at.returns c).Start) c.entry-entry.result c.charge-charge.result.0
           c.onward-on.result c.class_of-k.result c.entry-entry.ensures.0 c.charge-charge.ensures c.onward-on.ensures
           c.class_of-k.ensures c.entry-following.result c.charge-need.result.0 c.if-count-eq0.false c.entry-following.ensures.0
           c.charge-need.ensures c.if-need-rest.false _ c.end_waiting-after.ensures,

@@ -1,5 +1,5 @@
 -- `serving::serve_within` meets its contract: each return is the case of a serve for the tests that led there
--- (within_stop, within-full, within-long, within-done), and the lane that is read lies in the table (can_read).
+-- (within_stop, within_full, within_long, within_done), and the lane that is read lies in the table (can_read).
 -- Assumes nothing.
 use Prim.Native.Nat.{ℕ, ◌<◌}
 use lib.ListN.{length}
@@ -7,7 +7,7 @@ use Rattle.board.specs.Memory.{Engine, engine_now, numbers_now}
 use Rattle.slots.specs.declared.Choice.TheVariants.{Go}
 use Rattle.slots.specs.Slots.{choice_of}
 use Rattle.serving.specs.Serving.{CanEnact}
-use Rattle.serving.proofs.Cases.{within_stop, within-full, within-long, within-done, can_read}
+use Rattle.serving.proofs.Cases.{within_stop, within_full, within_long, within_done, can_read}
 use native.Mathlib.Omega.{arith}
 use mathlib.Core.Path.{◌≡◌, sym, ◌∙◌}
 use borrow.Author.Rules.{rules}
@@ -35,7 +35,7 @@ in_table s place time goes =
 pub returns-then-room-eq0 : goal.returns-then-room-eq0
 returns-then-room-eq0 c =
     let x = (goal.at.returns-then-room-eq0 c).Start.args in
-    within-full x.shares.now x.lens.now x.largest x.bytes.0 x.room (entering (goal.at.returns-then-room-eq0 c).Start) c.in-Go.place c.in-Go.time
+    within_full x.shares.now x.lens.now x.largest x.bytes.0 x.room (entering (goal.at.returns-then-room-eq0 c).Start) c.in-Go.place c.in-Go.time
     (sym c.choose-chosen.ensures ∙ c.in-Go.is) c.stay-then-room-eq0.result c.if-room-eq0.true c.stay-then-room-eq0.ensures
 
 pub offset_bounds-starts-place : goal.offset_bounds-starts-place
@@ -65,7 +65,7 @@ charged-charge-requires c =
 pub returns-then-bytes-charge : goal.returns-then-bytes-charge
 returns-then-bytes-charge c =
     let x = (goal.at.returns-then-bytes-charge c).Start.args in
-    within-long x.shares.now x.lens.now x.largest x.bytes.0 x.room (entering (goal.at.returns-then-bytes-charge c).Start) c.in-Go.place c.in-Go.time
+    within_long x.shares.now x.lens.now x.largest x.bytes.0 x.room (entering (goal.at.returns-then-bytes-charge c).Start) c.in-Go.place c.in-Go.time
     (sym c.choose-chosen.ensures ∙ c.in-Go.is) c.entry-entry.result c.charged-charge.result.0 c.if-room-eq0.false c.entry-entry.ensures.0
     c.charged-charge.ensures c.stay-then-bytes-charge.result c.if-bytes-charge.true c.stay-then-bytes-charge.ensures
 
@@ -82,6 +82,6 @@ returns-in-Stop c =
 pub returns-else-bytes-charge : goal.returns-else-bytes-charge
 returns-else-bytes-charge c =
     let x = (goal.at.returns-else-bytes-charge c).Start.args in
-    within-done x.shares.now x.lens.now x.largest x.bytes.0 x.room (entering (goal.at.returns-else-bytes-charge c).Start) c.in-Go.place c.in-Go.time
+    within_done x.shares.now x.lens.now x.largest x.bytes.0 x.room (entering (goal.at.returns-else-bytes-charge c).Start) c.in-Go.place c.in-Go.time
     (sym c.choose-chosen.ensures ∙ c.in-Go.is) c.entry-entry.result c.charged-charge.result.0 c.if-room-eq0.false c.entry-entry.ensures.0
     c.charged-charge.ensures c.if-bytes-charge.false _ c.enact-sent.result.lost.0 c.enact-sent.ensures

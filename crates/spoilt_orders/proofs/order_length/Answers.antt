@@ -1,11 +1,11 @@
 -- `spoilt_orders::order_length` meets its contract: the loop keeps that the walk from here, with the steps that are
--- left, gives what the walk from the head gives; a step and each end by its law (walk-on, walk_end, walk_long,
--- walk-far, walk_refused). Assumes nothing.
+-- left, gives what the walk from the head gives; a step and each end by its law (walk_on, walk_end, walk_long,
+-- walk_far, walk_refused). Assumes nothing.
 use mathlib.Core.Bool.{Bool, cond}
 use mathlib.Core.Path.{◌∙◌, ap, refl, sym}
 use native.Mathlib.Omega.{arith}
 use borrow.Author.Tests.{eq-eqb, ne_eqb}
-use Rattle.spoilt_orders.proofs.Steps.{walk_end, walk-far, walk_long, walk-on, walk_refused}
+use Rattle.spoilt_orders.proofs.Steps.{walk_end, walk_far, walk_long, walk_on, walk_refused}
 use Rattle.spoilt_orders.proofs.order_length.Goals as goal
 
 pub loop-h-init : goal.loop-h-init
@@ -21,7 +21,7 @@ returns-then-met-ge-LONGEST_ORDER c =
 pub returns-then-h-gt-LAST_LINK : goal.returns-then-h-gt-LAST_LINK
 returns-then-h-gt-LAST_LINK c =
     sym (c.loop-h.invariant.1
-    ∙ walk-far c.args.k c.args.start c.args.slot c.args.tail c.args.shares.now
+    ∙ walk_far c.args.k c.args.start c.args.slot c.args.tail c.args.shares.now
     c.args.counts.now c.args.ready.now c.args.next.now c.loop-h.met c.loop-h.h c.loop-h.least
     c.loop-h.last c.if-met-ge-LONGEST_ORDER.false c.loop-h-test.true c.if-h-gt-LAST_LINK.true)
 
@@ -37,7 +37,7 @@ pub loop-h-preserved : goal.loop-h-preserved
 loop-h-preserved c = (
   omega arith,
   c.loop-h.invariant.1
-      ∙ walk-on c.args.k c.args.start c.args.slot c.args.tail c.args.shares.now
+      ∙ walk_on c.args.k c.args.start c.args.slot c.args.tail c.args.shares.now
       c.args.counts.now c.args.ready.now c.args.next.now c.loop-h.met c.loop-h.h
       c.loop-h.least
       c.loop-h.last c.if-met-ge-LONGEST_ORDER.false c.loop-h-test.true c.if-h-gt-LAST_LINK.false
