@@ -104,26 +104,26 @@ module _ (log before : List ℕ) (s : State) (ids lens : List ℕ) (taken end : 
   -- what is written so far is the front of the listing
   pub stopped : Line before (take end (listing_of log)) end out
   stopped =
-      subst-line (sym (ap (take end) (sym f.joined) ∙ take_at f.text left end text_length))
+      subst_line (sym (ap (take end) (sym f.joined) ∙ take_at f.text left end text_length))
       (from_front before f.text out end (omega (arith, text_length, f.fits)) f.written)
     where
-      subst-line : {x y : List ℕ} → x ≡ y → Line before x end out → Line before y end out
-      subst-line e l = record { counts = l.counts ∙ ap length e; text = l.text ∙ e; rest = l.rest }
+      subst_line : {x y : List ℕ} → x ≡ y → Line before x end out → Line before y end out
+      subst_line e l = record { counts = l.counts ∙ ap length e; text = l.text ∙ e; rest = l.rest }
 
   module _ (piece : List ℕ) (r : Piece) (ids' lens' piece' : List ℕ) (d : Moved s ids lens (drop taken log) piece r ids' lens' piece')
       (same! : length piece' ≡ length piece) where
     abbrev after : List ℕ
     after = rest_of (held r.state ids' lens') (drop r.taken (drop taken log))
 
-    used-length : length (take r.used piece') ≡ r.used
-    used-length = length-take-le r.used piece' (omega (arith, d.fits, same!))
+    used_length : length (take r.used piece') ≡ r.used
+    used_length = length-take-le r.used piece' (omega (arith, d.fits, same!))
 
-    left-length : length left ≡ r.used + length after
-    left-length = ap length (sym d.joined) ∙ length-append (take r.used piece') after ∙ ap (λ (n : ℕ). n + length after) used-length
+    left_length : length left ≡ r.used + length after
+    left_length = ap length (sym d.joined) ∙ length-append (take r.used piece') after ∙ ap (λ (n : ℕ). n + length after) used_length
 
-    listing-length : length (listing_of log) ≡ end + (r.used + length after)
-    listing-length =
-        ap length (sym f.joined) ∙ length-append f.text left ∙ ap (λ (n : ℕ). n + length left) text_length ∙ ap (λ (n : ℕ). end + n) left-length
+    listing_length : length (listing_of log) ≡ end + (r.used + length after)
+    listing_length =
+        ap length (sym f.joined) ∙ length-append f.text left ∙ ap (λ (n : ℕ). n + length left) text_length ∙ ap (λ (n : ℕ). end + n) left_length
 
     -- the piece has no room: the listing is longer than the buffer
     pub too_long : length out - end < r.used → (piece₀ : List ℕ) → Listed log piece₀ before end out
@@ -131,16 +131,16 @@ module _ (log before : List ℕ) (s : State) (ids lens : List ℕ) (taken end : 
         record {
           front = stopped;
           whole =
-              λ (a : 64 ≤ length piece₀) (b : length (listing_of log) ≤ length before). omega (arith, h, b, listing-length, f.same);
+              λ (a : 64 ≤ length piece₀) (b : length (listing_of log) ≤ length before). omega (arith, h, b, listing_length, f.same);
         }
 
-    pub piece-room : r.used ≤ length out - end → end + length (take r.used piece') ≤ length out
-    piece-room h = omega (arith, h, used-length, f.fits, f.same)
+    pub piece_room : r.used ≤ length out - end → end + length (take r.used piece') ≤ length out
+    piece_room h = omega (arith, h, used_length, f.fits, f.same)
 
     module _ (h : r.used ≤ length out - end) (end' : ℕ) (out' : List ℕ) (w : Written out end (take r.used piece') end' out')
         (same' : length out' ≡ length out) where
       ends : end' ≡ end + r.used
-      ends = w.ends ∙ ap (λ (n : ℕ). end + n) used-length
+      ends = w.ends ∙ ap (λ (n : ℕ). end + n) used_length
 
       pub one_more : SoFar log before r.state ids' lens' (taken + r.taken) end' out'
       one_more = record {
@@ -153,8 +153,8 @@ module _ (log before : List ℕ) (s : State) (ids lens : List ℕ) (taken end : 
         same = same' ∙ f.same;
       }
 
-      pub all-written : r.state.over ≡ true → (piece₀ : List ℕ) → Listed log piece₀ before end' out'
-      all-written e piece₀ = record { front = front!; whole = λ (a : 64 ≤ length piece₀) (b : length (listing_of log) ≤ length before). end-length }
+      pub all_written : r.state.over ≡ true → (piece₀ : List ℕ) → Listed log piece₀ before end' out'
+      all_written e piece₀ = record { front = front!; whole = λ (a : 64 ≤ length piece₀) (b : length (listing_of log) ≤ length before). end_length }
         where
           text! : f.text ++ take r.used piece' ≡ listing_of log
           text! =
@@ -166,13 +166,13 @@ module _ (log before : List ℕ) (s : State) (ids lens : List ℕ) (taken end : 
           wrote : Written before 0 (f.text ++ take r.used piece') end' out'
           wrote = then f.text (take r.used piece') f.written w
 
-          end-length : end' ≡ length (listing_of log)
-          end-length = omega (arith, wrote.ends, ap length text!)
+          end_length : end' ≡ length (listing_of log)
+          end_length = omega (arith, wrote.ends, ap length text!)
 
-          whole-text : f.text ++ take r.used piece' ≡ take end' (listing_of log)
-          whole-text = text! ∙ sym (ap (λ (n : ℕ). take n (listing_of log)) end-length ∙ take-length (listing_of log))
+          whole_text : f.text ++ take r.used piece' ≡ take end' (listing_of log)
+          whole_text = text! ∙ sym (ap (λ (n : ℕ). take n (listing_of log)) end_length ∙ take-length (listing_of log))
 
           front! : Line before (take end' (listing_of log)) end' out'
           front! =
               let l = from_front before (f.text ++ take r.used piece') out' end' (omega (arith, wrote.ends, ends, h, f.fits, f.same)) wrote in
-              record { counts = l.counts ∙ ap length whole-text; text = l.text ∙ whole-text; rest = l.rest }
+              record { counts = l.counts ∙ ap length whole_text; text = l.text ∙ whole_text; rest = l.rest }
