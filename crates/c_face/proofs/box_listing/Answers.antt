@@ -6,7 +6,7 @@ use mathlib.Core.Path.{refl, sym, ◌∙◌}
 use lib.ListN.{replicate}
 use lib.Seq.{length-take-le}
 use Rattle.player.proofs.Ends.{before_first_ready}
-use Rattle.c_face.proofs.Whole.{nothing_yet, no_room, too_long, piece-room, one_more, all-written, must_move}
+use Rattle.c_face.proofs.Whole.{nothing_yet, no_room, too_long, piece_room, one_more, all_written, must_move}
 use Rattle.c_face.proofs.box_listing.Goals as goal
 
 pub returns-then-piece-lt-LINE_ROOM : goal.returns-then-piece-lt-LINE_ROOM
@@ -64,7 +64,7 @@ slice_bounds-put_text-end-in-loop-out c =
 
 pub put_text-end-requires : goal.put_text-end-requires
 put_text-end-requires c =
-    piece-room _ _ _ _ _ _ _ _ c.loop-out.invariant.so_far _ _ _ _ _ c.next_piece-listed.ensures c.next_piece-listed.auto.piece
+    piece_room _ _ _ _ _ _ _ _ c.loop-out.invariant.so_far _ _ _ _ _ c.next_piece-listed.ensures c.next_piece-listed.auto.piece
     c.if-out-end.false
 
 pub shape_of-piece-then-after : goal.shape_of-piece-then-after
@@ -77,7 +77,7 @@ shape_of-out-then-after c =
 
 pub returns-then-after : goal.returns-then-after
 returns-then-after c =
-    all-written _ _ _ _ _ _ _ _ c.loop-out.invariant.so_far _ _ _ _ _ c.next_piece-listed.ensures c.next_piece-listed.auto.piece
+    all_written _ _ _ _ _ _ _ _ c.loop-out.invariant.so_far _ _ _ _ _ c.next_piece-listed.ensures c.next_piece-listed.auto.piece
     c.if-out-end.false _ _ c.put_text-end.ensures c.put_text-end.auto.out c.if-after.true _
 
 pub overflow_add-taken : goal.overflow_add-taken
