@@ -9,7 +9,6 @@ use lib.Dec.{eqb}
 use Rattle.log_bytes.specs.declared.Stage.{Stage}
 use Rattle.log_bytes.specs.declared.Stage.TheVariants.{BeforeL, AfterL}
 use Rattle.log_bytes.specs.Format.{past_l}
-use Rattle.player.specs.declared.State.{State}
 use Rattle.player.specs.declared.Piece.{Piece}
 use Rattle.player.specs.Feeding.{FeedOf, CloseOf}
 use Rattle.c_calls.specs.declared.Feeder.{Feeder}

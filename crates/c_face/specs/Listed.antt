@@ -1,5 +1,5 @@
 -- THE LISTING OF A LOG IN A BUFFER
-use Rattle.std.specs.Prelude.{◌≡◌, true, false, ◌⊎◌, List, ◌++◌, ℕ, ◌≤◌, ◌<◌, length, take, drop}
+use Rattle.std.specs.Prelude.{◌≡◌, true, ◌⊎◌, List, ◌++◌, ℕ, ◌≤◌, ◌<◌, length, take, drop}
 use Rattle.lines.specs.Text.{Line}
 use Rattle.listing_rules.specs.Listing.{listing_of}
 use Rattle.player.specs.declared.State.{State}

@@ -1,8 +1,7 @@
-// The box for programs in C: a board is one pointer, and so is each table. Each function promises what the call or the
-// player below it promises, and asks nothing of a caller but what the types say.
-// A function for C passes what it is given and the value of the board or feeder to one function, stores the reply's
-// structs whole and returns the code. Its proof is a walk of these steps (tools/walks), so whatever is more stands in
-// the function of `c_calls` below it.
+// The box with each board behind one reference, and so each table: what `c_face_c` exports for programs in C. Each
+// function promises what the call or the player below it promises, and asks nothing of a caller but what the types say.
+// It passes what it is given and the value of the board or feeder to one function, stores the reply's structs whole and
+// returns the code; whatever is more stands in the function of `c_calls` below it, most of whose proofs need no file.
 #![tactic(auto)]
 
 ghost use Rattle.std.specs.Prelude.{◌≡◌, ◌≤◌, length, drop};

@@ -1,6 +1,5 @@
 // The numbers and fragments of a feed case. Where the input ends in one, the case is not whole, and the error says so.
-ghost use Rattle.std.specs.Prelude.{IfOk, IfSome};
-ghost use Rattle.io.specs.Counts.{IsPrefixLen};
+ghost use Rattle.std.specs.Prelude.{◌≡◌, ◌≤◌, length, take, IfOk, IfSome};
 
 use std::io;
 use std::io::{ErrorKind, Read};
@@ -44,7 +43,7 @@ pub fn short<R: Read>(cases: &mut R) -> io::Result<usize> {
 
 // The next fragment, and how many bytes it has. Where the log has ended there is none.
 pub fn fragment<R: Read>(cases: &mut R, bytes: &mut [u8]) -> io::Result<Option<usize>>
-    ensures { IfOk result (λ next. IfSome next (λ n. IsPrefixLen n bytes.new)) }
+    ensures { IfOk result (λ next. IfSome next (λ n. (n ≤ length bytes.new) × (n ≡ length (take n bytes.new)))) }
 {
     let n = short(cases)?;
     if n == END {

@@ -3,11 +3,10 @@
 use borrow.Author.Rules.{rules}
 use native.Mathlib.Omega.{arith}
 use mathlib.Core.Path.{refl, sym, ◌∙◌}
-use Prim.Native.Nat.{◌-◌}
-use lib.ListN.{length, replicate}
+use lib.ListN.{replicate}
 use lib.Seq.{length-take-le}
 use Rattle.player.proofs.Ends.{before_first_ready}
-use Rattle.c_face.proofs.Whole.{Going, nothing_yet, no_room, too_long, piece_room, one_more, all_written, must_move}
+use Rattle.c_face.proofs.Whole.{nothing_yet, no_room, too_long, piece_room, one_more, all_written, must_move}
 use Rattle.c_face.proofs.box_listing.Goals as goal
 
 pub returns-then-piece-lt-LINE_ROOM : goal.returns-then-piece-lt-LINE_ROOM

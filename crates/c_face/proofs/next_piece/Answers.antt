@@ -1,5 +1,4 @@
 -- `c_face::next_piece` meets its contract: it is the player's feeding, or its finishing. Assumes nothing.
-use borrow.Author.Rules.{rules}
 use mathlib.Core.Path.{refl}
 use native.Mathlib.Omega.{arith}
 use lib.ListN.{length-drop}
