@@ -90,7 +90,8 @@ module _ (m : Board.Board) (f : Fit m) (ids lens : List ℕ) (o : Opening) where
   abbrev by_open : Turn → Returned Reply
   by_open = turned (encode m) ids lens m (open! (meant o))
 
-  opened_at_lem : leb 64 (free_at m) ≡ false → with_blocks (encode m) (open_at (free_at m) o (blocks_of (encode m))) ≡ encode (go_on m (free_at m) (opened (meant o)))
+  opened_at_lem : leb 64 (free_at m) ≡ false
+      → with_blocks (encode m) (open_at (free_at m) o (blocks_of (encode m))) ≡ encode (go_on m (free_at m) (opened (meant o)))
   opened_at_lem e = go (f.tidy.shape.place_ok p).named
     where
       p : ℕ

@@ -153,7 +153,8 @@ module _ (o : ℕ → List ℕ) (kj : ℕ → ℕ) (p k : ℕ) (ps : List ℕ) (
 
   pub heads_leave : set (heads o kj) k (first_link ps) ≡ heads (upd o k ps) kj
   unfolding o_left
-  heads_leave = tab_set 17 (λ j. first_link (o j)) (λ j. first_link (o_left j)) k (first_link ps) k17 (ap first_link left_k) (λ j l e. ap first_link (left_off j e))
+  heads_leave =
+      tab_set 17 (λ j. first_link (o j)) (λ j. first_link (o_left j)) k (first_link ps) k17 (ap first_link left_k) (λ j l e. ap first_link (left_off j e))
 
   pub tails_leave : cond (eqb (first_link ps) 0) (set (tails o kj) k 0) (tails o kj) ≡ tails (upd o k ps) kj
   unfolding o_left last_link

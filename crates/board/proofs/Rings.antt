@@ -79,7 +79,8 @@ pub lane_away : (ids lens : List ℕ) (i : ℕ) (x : Place) (c e id len : ℕ) �
     → lane_of (set ids e id) (set lens e len) i x c ≡ lane_of ids lens i x c
 unfolding lane_of
 lane_away ids lens i x c e id len h =
-    tab_ext c _ _ (λ j l k. record { number = get_or-set_other ids e (entry i x j) id 0 (h j l) k; bytes = get_or-set_other lens e (entry i x j) len 0 (h j l) k })
+    tab_ext c _ _ (λ j l k. record
+    { number = get_or-set_other ids e (entry i x j) id 0 (h j l) k; bytes = get_or-set_other lens e (entry i x j) len 0 (h j l) k })
 
 -- a record is put behind the last
 pub lane_put : LanePut

@@ -4,7 +4,8 @@ use Rattle.std.specs.Prelude.{◌≡◌, cond, List, ℕ, eqb, length, set, repl
 use Rattle.std.proofs.Math.Option.{Option, none, some}
 use Rattle.rules.specs.Board
 use Rattle.rules.specs.Board.{table_length}
-use Rattle.rules.specs.Calls.{Single, one, Answer, gives, takes, sends, bursts, code_of, Entries, kept, cleared, one_set}
+use Rattle.rules.specs.Calls.{Single, one, Answer, gives, takes, sends, bursts, code_of, Entries, kept, cleared}
+use Rattle.rules.specs.Calls.{one_set}
 use Rattle.rules.specs.Calls.{Outcome, done! }
 use Rattle.board.specs.declared.Board as struct
 use Rattle.board.specs.declared.Reply.{Reply}

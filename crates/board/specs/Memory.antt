@@ -13,7 +13,8 @@ abbrev pub numbers_of : Board → After
 numbers_of b = numbers_now b.clock b.active b.pending b.slot b.left.0
 
 -- the board whose arrays and numbers these are
-abbrev pub board_now : (numbers shares starts counts deficits ready next heads tails held : List ℕ) (largest : ℕ) → After
+abbrev pub board_now : (numbers shares starts counts deficits ready next heads tails held : List ℕ) (largest : ℕ)
+    → After
     → Board
 board_now numbers shares starts counts deficits ready next heads tails held largest now =
     record {

@@ -1,5 +1,5 @@
-// The functions of `c_face` for a program in C: each export calls the function of its name there, with the same clauses.
-// tests/walks holds the two side by side.
+// The functions of `c_face` for a program in C: each export calls the function of its name there, with the same
+// clauses. tests/walks holds the two side by side.
 #![tactic(auto)]
 
 ghost use Rattle.std.specs.Prelude.{◌≡◌};

@@ -14,7 +14,8 @@ use Rattle.base.proofs.Numbers.{split, eqb_yes}
 use Rattle.base.proofs.Tests.{and_left, and_right}
 use Rattle.rules.specs.Board
 use Rattle.rules.specs.Board.{table_length, Record, Stand, out, queued, serving, at, depth, waits, used_share, Has}
-use Rattle.rules.specs.Choice.{Out, refused, done, taken, sent, Turn, refuse, where_is, number_outside, none_has, some_has, length_outside, lane_full, take_record}
+use Rattle.rules.specs.Choice.{Out, refused, done, taken, sent, Turn, refuse, where_is, number_outside, none_has, some_has, length_outside, lane_full}
+use Rattle.rules.specs.Choice.{take_record}
 use Rattle.rules.specs.Choice.{is_none, least_ready, send, serve}
 use Rattle.rules.specs.Blocks.{Opening, share_outside, all_taken, over_free, open_block, rename_block, close_block}
 use Rattle.rules.specs.Spoilt.{is_queued, ready_num, unspoilt}
@@ -269,7 +270,8 @@ module _ (b : struct.Board) (ids lens : List ℕ) where
                 let sizes = right_tables (length ids) (length lens) e in
                 record { sound = record { spells = (spelt_decides b ids lens).yes s; keeps = u }; ids_all = sizes.0; lens_all = sizes.1 }
 
-        by_b : wrong_tables (length ids) (length lens) ≡ false → (t : Bool) → is_spelt b ids lens ≡ t → Goal (by_board (lent b ids lens) c (cond t (some m) none))
+        by_b : wrong_tables (length ids) (length lens) ≡ false → (t : Bool) → is_spelt b ids lens ≡ t
+            → Goal (by_board (lent b ids lens) c (cond t (some m) none))
         by_b e false s = inr (not_by (wrong_tables_lem ids lens) e, inl (λ z. not_by (spelt_decides b ids lens) s z.spells, alone 2))
         by_b e true s = by_s e s (unspoilt m) refl
 

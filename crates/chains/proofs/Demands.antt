@@ -15,7 +15,8 @@ use Rattle.rules.specs.Board.{Place, free_place, at, waits, some_wait, fresh, Ha
 use Rattle.rules.specs.Choice.{Out, refused, done, taken, Sending, sent, send}
 use Rattle.rules.specs.Blocks.{Opening}
 use Rattle.rules.specs.Burst.{Burst, burst}
-use Rattle.rules.specs.Calls.{Single, open!, rename!, close!, record!, serve!, step, Call, one, burst!, Sent, Answer, gives, takes, sends, bursts, told, code_of}
+use Rattle.rules.specs.Calls.{Single, open!, rename!, close!, record!, serve!, step, Call, one, burst!, Sent, Answer, gives, takes, sends, bursts, told}
+use Rattle.rules.specs.Calls.{code_of}
 use Rattle.rules.specs.Calls.{make}
 use Rattle.rules.specs.Runs
 use Rattle.rules.specs.Runs.{play, runs, answer, lane_of, class_at, is_for, is_done, record_of, clock_of, is_serve, Story, begins, goes_on, tells}

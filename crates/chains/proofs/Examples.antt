@@ -338,9 +338,11 @@ not11 : ◌≢◌ {A = ℕ} 0 11
 not11 e = omega arith
 
 computed : Computed
-unfolding added account_of worked tight filled waiting renames answers_of Runs.row said_of story last_slot Unsent NotSpent slots_in bytes_in serves_in runs play Start
+unfolding added account_of worked tight filled waiting renames answers_of Runs.row said_of story last_slot Unsent NotSpent slots_in bytes_in serves_in runs play
+    Start
     burst least
-    next_start class_of framing charged largest_charge credit_of sum below bytes_charged ring_entry ring_on lane_depth lane_first entry onward some_wait any_due used_share
+    next_start class_of framing charged largest_charge credit_of sum below bytes_charged ring_entry ring_on lane_depth lane_first entry onward some_wait any_due
+    used_share
     fresh
     where_is upd taken_in
     take_record release least_ready settle ended send_from send lowest begin serve_by serve free_at open_block rename_block quiet step

@@ -11,7 +11,8 @@ use Rattle.base.specs.Sums.{one_if}
 use Rattle.base.proofs.Numbers.{eqb_yes, eqb_no}
 use Rattle.rules.specs.Board
 use Rattle.rules.specs.Board.{at, bytes_charged, no_record, block_class, fresh}
-use Rattle.rules.specs.Choice.{Turn, is_none, upd, go_on, joining, joins, more, taken_in, emptied, short, going, ended, send_from, send, begin, chosen, left_after}
+use Rattle.rules.specs.Choice.{Turn, is_none, upd, go_on, joining, joins, more, taken_in, emptied, short, going, ended, send_from, send, begin, chosen}
+use Rattle.rules.specs.Choice.{left_after}
 use Rattle.rules.specs.Blocks.{closed}
 use Rattle.rules.specs.Calls.{Single, step, takes, told}
 use Rattle.rules.specs.Runs

@@ -1,6 +1,7 @@
 -- WHAT EACH GROWER BOUGHT AND GOT, OVER A CHAIN'S OWN ANSWERS (document 02, Item 1): the account of a block in words of
 -- the calls that were made, the answers that they gave and the values that they left.
-use Rattle.std.specs.Prelude.{◌≡◌, Bool, false, cond, ◌≢◌, List, [], ◌∷◌, map, ℕ, suc, ◌+◌, ◌*◌, ◌-◌, ◌^◌, ◌≤◌, eqb, get_or}
+use Rattle.std.specs.Prelude.{◌≡◌, Bool, false, cond, ◌≢◌, List, [], ◌∷◌, map, ℕ, suc, ◌+◌, ◌*◌, ◌-◌, ◌^◌, ◌≤◌, eqb}
+use Rattle.std.specs.Prelude.{get_or}
 use Rattle.std.proofs.Math.Option.{Option}
 use Rattle.base.specs.Sums.{one_if, sum}
 use Rattle.units.specs.Credit.{charged, credit_of}

@@ -1,6 +1,7 @@
 -- THE DEMANDS OVER A CHAIN'S OWN ANSWERS: documents 00 and 01 in words of the calls that were made, the answers that
 -- they gave and the values that they left. A chain may hold bursts anywhere.
-use Rattle.std.specs.Prelude.{◌≡◌, Bool, true, false, cond, not, ◌&&◌, ◌⊎◌, ◌≢◌, List, [], ◌∷◌, ◌++◌, map, ℕ, ◌+◌, ◌*◌, ◌-◌, ◌^◌, ◌≤◌, ◌<◌, leb, ltb, eqb, length, drop, get_or}
+use Rattle.std.specs.Prelude.{◌≡◌, Bool, true, false, cond, not, ◌&&◌, ◌⊎◌, ◌≢◌, List, [], ◌∷◌, ◌++◌, map, ℕ, ◌+◌, ◌*◌}
+use Rattle.std.specs.Prelude.{◌-◌, ◌^◌, ◌≤◌, ◌<◌, leb, ltb, eqb, length, drop, get_or}
 use Rattle.std.proofs.Math.Option.{Option, none, some}
 use Rattle.base.specs.Sums.{one_if, sum}
 use Rattle.units.specs.Classes.{Start, class_of}

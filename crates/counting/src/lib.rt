@@ -4,7 +4,8 @@
 
 ghost use Rattle.std.specs.Prelude.{◌≡◌, ◌^◌, ◌<◌, ltb, false, cond};
 ghost use Rattle.accounts.specs.Accounts.{no_counts, fits_with};
-ghost use Rattle.counting.specs.Counting.{tallies_now, account_with, read_counts, zero_counts, hand_now, counts_fit_now};
+ghost use Rattle.counting.specs.Counting.{tallies_now, account_with, read_counts, zero_counts, hand_now};
+ghost use Rattle.counting.specs.Counting.{counts_fit_now};
 ghost use Rattle.counting.specs.Steps.{tallied, sent_in, CanCount, vanished_in, SmallHand, SmallHands};
 
 use board::Board;

@@ -42,7 +42,8 @@ pub record FieldPlayed
 -- the line of a serve, by its code: the record sent stands at a place and an entry
 abbrev pub shown_line : (numbers ids lens : List ℕ) (code place entry clock : ℕ) → List ℕ
 shown_line numbers ids lens code place entry clock =
-    cond (eqb code 0) (out_line (get_or numbers place 0) (get_or ids entry 0) (get_or lens entry 0) clock) (refused_line code)
+    cond (eqb code 0) (out_line (get_or numbers place 0) (get_or ids entry 0) (get_or lens entry 0) clock)
+    (refused_line code)
 
 -- of any field
 abbrev pub event_line : (numbers ids lens : List ℕ) → Event → (code place entry clock : ℕ) → List ℕ

@@ -15,7 +15,8 @@ found_at true p = OpenAt p
 found_at false p = Unknown
 
 unfoldable pub found_in : (numbers : List ℕ) (number : ℕ) → Found
-found_in numbers number = found_at (not (eqb number 0 || eqb (place_with numbers number) 64)) (place_with numbers number)
+found_in numbers number =
+    found_at (not (eqb number 0 || eqb (place_with numbers number) 64)) (place_with numbers number)
 
 -- by what is known of a number
 abbrev pub by_found : {A : Type 0} → Found → (is_open : ℕ → A) (isUnknown : A) → A

@@ -8,7 +8,8 @@ use native.Mathlib.Omega.{arith}
 use borrow.Author.Tests.{lt-ltb, le-ltb, le-leb, leb-true}
 use lib.Dec.{ltb, leb}
 use lib.ListN.{length, drop, get_or, set, replicate, length-append, length-replicate, length-set}
-use lib.Seq.{length-take-le, get_or-take, take-append_seam, drop-append_seam, drop-append-le, drop-append-add, get_or-append-add, get_or-set_same, get_or-set_other}
+use lib.Seq.{length-take-le, get_or-take, take-append_seam, drop-append_seam, drop-append-le, drop-append-add, get_or-append-add, get_or-set_same}
+use lib.Seq.{get_or-set_other}
 use Rattle.base.proofs.Numbers.{split}
 use Rattle.base.proofs.Tests.{and_left, and_right, and_both}
 use Rattle.log_bytes.specs.declared.Stage.{Stage}

@@ -36,7 +36,8 @@ alike_read at a b came stage l h d p =
     read_step at a stage ∙ go (next_of at a stage) refl ∙ ap (follow read_from at b stage) (alike_next at a b stage l h) ∙ sym (read_step at b stage)
   where
     go : (x : Next) → next_of at a stage ≡ x → follow read_from at a stage x ≡ follow read_from at b stage x
-    go (GoesOn e size) q = ap (λ (z : List ℕ). and_then (record { offset = at; event = e; next = at + size }) (read_from (at + size) z (stage_after stage e))) rest
+    go (GoesOn e size) q =
+        ap (λ (z : List ℕ). and_then (record { offset = at; event = e; next = at + size }) (read_from (at + size) z (stage_after stage e))) rest
       where
         beyond : came ≤ size
         beyond = omega (arith, (whole_is at a (length a) stage e size q).size, (part_is at a came stage came p).has)

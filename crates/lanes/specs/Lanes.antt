@@ -1,5 +1,5 @@
--- LANES (document 01, 'Numbers'): a row of entries in the two tables, used as a ring. Only `lane_depth` and `lane_first`
--- know how deep a lane is and where it lies; rings are of any depth.
+-- LANES (document 01, 'Numbers'): a row of entries in the two tables, used as a ring. Only `lane_depth` and
+-- `lane_first` know how deep a lane is and where it lies; rings are of any depth.
 use Rattle.std.specs.Prelude.{ℕ, ◌+◌, ◌*◌, ◌%◌}
 
 -- ---- A ring: its first entry, its depth, and its start, where the front record is, counted from the first entry

@@ -5,7 +5,8 @@ use native.Mathlib.Omega.{arith}
 use lib.Dec.{lit≤}
 use lib.ListN.{length, length-append}
 use Rattle.lines.specs.Text.{decimal, columns, line_of}
-use Rattle.lines.specs.Listing.{open_word, close_word, name_word, in_word, out_word, refused_word, end_word, broken_word, long_word, open_line, close_line, name_line}
+use Rattle.lines.specs.Listing.{open_word, close_word, name_word, in_word, out_word, refused_word, end_word, broken_word, long_word, open_line, close_line}
+use Rattle.lines.specs.Listing.{name_line}
 use Rattle.lines.specs.Listing.{in_line, out_line, refused_line, end_line, broken_line, long_line}
 use Rattle.lines.specs.Laws.{OpenFits, CloseFits, NameFits, InFits, OutFits, RefusedFits, EndFits, BrokenFits, LongFits}
 use Rattle.lines.proofs.Texts.{decimal_length, line_length}
@@ -59,7 +60,8 @@ refused_fits code h0 = fits refused_word (2 ∷ []) (code ∷ []) (omega arith, 
 
 pub end_fits : EndFits
 unfolding end_line
-end_fits clock bytes waiting h0 h1 h2 = fits end_word (19 ∷ 19 ∷ 9 ∷ []) (clock ∷ bytes ∷ waiting ∷ []) (omega arith, (omega arith, (omega arith, tt))) (lit≤ tt)
+end_fits clock bytes waiting h0 h1 h2 =
+    fits end_word (19 ∷ 19 ∷ 9 ∷ []) (clock ∷ bytes ∷ waiting ∷ []) (omega arith, (omega arith, (omega arith, tt))) (lit≤ tt)
 
 pub broken_fits : BrokenFits
 unfolding broken_line

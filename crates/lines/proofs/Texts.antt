@@ -89,7 +89,8 @@ decimal_length (suc w) n h = go (ltb n 10) refl (decimal_length w (n / 10) (omeg
 
 -- ---- a text byte by byte
 
-pub text_more : (l m text : List ℕ) (at i : ℕ) → i < length text → m ≡ sets l at (take i text) → set m (at + i) (get_or text i 0) ≡ sets l at (take (i + 1) text)
+pub text_more : (l m text : List ℕ) (at i : ℕ) → i < length text → m ≡ sets l at (take i text)
+    → set m (at + i) (get_or text i 0) ≡ sets l at (take (i + 1) text)
 text_more l m text at i h e =
     let k : length (take i text) ≡ i = length-take-le i text (omega arith) in
     rw (add-one i, take-suc text i 0 h)

@@ -24,7 +24,8 @@ abbrev pub CloseFits : Type 0
 CloseFits = (block code : ℕ) → block < 2 ^ 32 → code < 2 ^ 8 → length (Listing.close_line block code) ≤ 64
 
 abbrev pub NameFits : Type 0
-NameFits = (old new code : ℕ) → old < 2 ^ 32 → new < 2 ^ 32 → code < 2 ^ 8 → length (Listing.name_line old new code) ≤ 64
+NameFits =
+    (old new code : ℕ) → old < 2 ^ 32 → new < 2 ^ 32 → code < 2 ^ 8 → length (Listing.name_line old new code) ≤ 64
 
 abbrev pub InFits : Type 0
 InFits = (number code : ℕ) → number < 2 ^ 32 → code < 2 ^ 8 → length (Listing.in_line number code) ≤ 64

@@ -1,5 +1,6 @@
 -- Texts, and what writing one does.
-use Rattle.std.specs.Prelude.{cond, ◌≡◌, ◌⊎◌, List, [], ◌∷◌, ◌++◌, ℕ, zero, suc, ◌+◌, ◌-◌, ◌*◌, ◌/◌, ◌%◌, ◌≤◌, ◌<◌, ltb, length, take, drop}
+use Rattle.std.specs.Prelude.{cond, ◌≡◌, ◌⊎◌, List, [], ◌∷◌, ◌++◌, ℕ, zero, suc, ◌+◌, ◌-◌, ◌*◌, ◌/◌, ◌%◌, ◌≤◌, ◌<◌, ltb}
+use Rattle.std.specs.Prelude.{length, take, drop}
 use Rattle.std.proofs.lemmas.List.Edits.{sets}
 
 -- Numbers are decimal with no zero in front: the last digits of n, of which there are at most so many.

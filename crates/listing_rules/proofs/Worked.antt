@@ -17,7 +17,9 @@ use Rattle.listing_rules.specs.Listing.{unmade, lines_of, listing_of}
 use Rattle.listing_rules.specs.Laws.{WorkedLogListed}
 
 pub worked_log_listed : WorkedLogListed
-unfolding listing_of lines_of open_line in_line out_line refused_line end_line line_of columns decimal decimal_in sum below least class_of next_start framing charged
-    largest_charge credit_of bytes_charged ring_entry ring_on lane_depth lane_first entry onward some_wait any_due used_share fresh where_is upd taken_in take_record release
+unfolding listing_of lines_of open_line in_line out_line refused_line end_line line_of columns decimal decimal_in sum below least class_of next_start framing
+    charged
+    largest_charge credit_of bytes_charged ring_entry ring_on lane_depth lane_first entry onward some_wait any_due used_share fresh where_is upd taken_in
+    take_record release
     least_ready settle ended send_from send lowest begin serve_by serve free_at open_block step
 worked_log_listed = ap (λ (r : Reading). lines_of unmade r.fields r.ends) worked_reading

@@ -13,7 +13,8 @@ use Rattle.log_bytes.specs.declared.Event.TheVariants.{Largest, Open, Close, Ren
 use Rattle.log_bytes.specs.declared.End.{End}
 use Rattle.log_bytes.specs.declared.End.TheVariants.{Whole as whole, Broken as broken, Long as long}
 use Rattle.log_bytes.specs.Rows.{WholeField, read_from, read_log}
-use Rattle.lines.specs.Listing.{open_line, close_line, name_line, in_line, out_line, refused_line, end_line, broken_line}
+use Rattle.lines.specs.Listing.{open_line, close_line, name_line, in_line, out_line, refused_line, end_line}
+use Rattle.lines.specs.Listing.{broken_line}
 use Rattle.lines.specs.Listing.{long_line}
 
 -- What stands between two fields: the board, and the bytes sent so far.

@@ -214,7 +214,8 @@ bytes_back (suc w) s at b l =
     let q : (number_at s at w * 256 + get_or s (at + w) 0) / 256 ≡ number_at s at w = omega (arith, x) in
     let m : (number_at s at w * 256 + get_or s (at + w) 0) % 256 ≡ get_or s (at + w) 0 = omega (arith, x) in
     let long : w < length (drop at s) = omega (arith, length-drop at s) in
-    rw (q, m) (ap₂ (λ (d : List ℕ) (y : ℕ). d ++ (y ∷ [])) (bytes_back w s at b (omega arith)) (sym (get_or-drop at s w 0)) ∙ sym (take-suc (drop at s) w 0 long))
+    rw (q, m) (ap₂ (λ (d : List ℕ) (y : ℕ). d ++ (y ∷ [])) (bytes_back w s at b (omega arith)) (sym (get_or-drop at s w 0))
+    ∙ sym (take-suc (drop at s) w 0 long))
 
 value_of_lem : (os : List Operand) (s : List ℕ) (at : ℕ) → ((i : ℕ) → get_or s i 0 < 256) → at + width_of os ≤ length s → StandsAt s at os
     → value_of os ≡ take (width_of os) (drop at s)

@@ -1,5 +1,6 @@
 -- How each event is spelt in a log: its tag, and the numbers of its value.
-use Rattle.std.specs.Prelude.{◌≡◌, Bool, true, false, List, [], ◌∷◌, ◌++◌, ℕ, zero, suc, ◌+◌, ◌/◌, ◌%◌, ◌^◌, ◌≤◌, ◌<◌, length, take, drop}
+use Rattle.std.specs.Prelude.{◌≡◌, Bool, true, false, List, [], ◌∷◌, ◌++◌, ℕ, zero, suc, ◌+◌, ◌/◌, ◌%◌, ◌^◌, ◌≤◌, ◌<◌}
+use Rattle.std.specs.Prelude.{length, take, drop}
 use Rattle.log_bytes.specs.Format.{length_in, tag_of, is_passed, past_l, stage_after, in_turn}
 use Rattle.log_bytes.specs.Rows.{WholeField}
 use Rattle.log_bytes.specs.declared.Stage.{Stage}

@@ -41,7 +41,9 @@ fn closing_place(event: Event, numbers: &[u32; PLACES]) -> usize
 
 // The credit of one slot of the block at a place.
 fn slot_credit(place: usize, largest: u32, shares: &[u32; PLACES]) -> Parts
-    requires { (place < 64) × ((1 ≤ get_or shares.now place 0) × ((get_or shares.now place 0 ≤ 65536) × (largest ≤ 2048))) }
+    requires { (place < 64)
+        × ((1 ≤ get_or shares.now place 0)
+        × ((get_or shares.now place 0 ≤ 65536) × (largest ≤ 2048))) }
     ensures { result.0 ≡ credit_of largest (get_or shares.now place 0) }
 {
     let share = shares[place];

@@ -1,5 +1,6 @@
 -- WHAT IS PROVED of a report's lines: their room, and that each can be read back.
-use Rattle.std.specs.Prelude.{◌≡◌, cond, ◌⊎◌, List, [], ◌∷◌, ◌++◌, ℕ, ◌^◌, ◌≤◌, ◌<◌, eqb, ℤ, pos, neg_ℤ, nat_abs, length}
+use Rattle.std.specs.Prelude.{◌≡◌, cond, ◌⊎◌, List, [], ◌∷◌, ◌++◌, ℕ, ◌^◌, ◌≤◌, ◌<◌, eqb, ℤ, pos, neg_ℤ, nat_abs}
+use Rattle.std.specs.Prelude.{length}
 use Rattle.lines.specs.Text.{Digits, Plain, number_of}
 use Rattle.lines.specs.Listing.{broken_line, long_line}
 use Rattle.report_lines.specs.Text.{signed, account_line, full_line}

@@ -55,8 +55,10 @@ record Computed : Type 0 where
   goes_on : played.counts.full ≡ false
 
 computed : Computed
-unfolding place_lines place_line counted added sum below least class_of next_start framing charged largest_charge credit_of bytes_charged ring_entry ring_on lane_depth
-    lane_first entry onward some_wait any_due used_share fresh where_is upd taken_in take_record release least_ready settle ended send_from send lowest begin serve_by
+unfolding place_lines place_line counted added sum below least class_of next_start framing charged largest_charge credit_of bytes_charged ring_entry ring_on
+    lane_depth
+    lane_first entry onward some_wait any_due used_share fresh where_is upd taken_in take_record release least_ready settle ended send_from send lowest begin
+    serve_by
     serve free_at open_block step
 computed = record { line_first = refl; line_second = refl; no_others = refl; goes_on = refl }
 

@@ -195,4 +195,5 @@ before_first_rest log ids lens =
 
 pub feeds_report : FeedsReport
 feeds_report log ids lens written t =
-    tells_all Held rest_of is_over (λ h e. over_rest h e []) (held before_first ids lens) log written t ∙ before_first_rest log ids lens ∙ sym (report_first log)
+    tells_all Held rest_of is_over (λ h e. over_rest h e []) (held before_first ids lens) log written t ∙ before_first_rest log ids lens
+    ∙ sym (report_first log)

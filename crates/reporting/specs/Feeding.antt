@@ -1,5 +1,6 @@
 -- THE REPORT FROM FRAGMENTS: what a call writes, joined with what is left after it, is what was left before it.
-use Rattle.std.specs.Prelude.{◌≡◌, Bool, true, false, cond, not, ◌&&◌, ◌||◌, ◌≢◌, ◌⊎◌, List, [], ◌++◌, ℕ, ◌+◌, ◌^◌, ◌≤◌, ◌<◌, length, replicate}
+use Rattle.std.specs.Prelude.{◌≡◌, Bool, true, false, cond, not, ◌&&◌, ◌||◌, ◌≢◌, ◌⊎◌, List, [], ◌++◌, ℕ, ◌+◌, ◌^◌, ◌≤◌}
+use Rattle.std.specs.Prelude.{◌<◌, length, replicate}
 use Rattle.rules.specs.Board.{fresh}
 use Rattle.rules.specs.Calls.{wrong_tables}
 use Rattle.board.specs.Reading.{encode, is_sound}

@@ -1,6 +1,7 @@
 -- WORKING DEFINITIONS: the report's lines on the board's arrays and the counts beside them, and what showing them does.
 -- Theorems tie them to the report's definition.
-use Rattle.std.specs.Prelude.{◌≡◌, Bool, true, false, cond, ◌&&◌, ◌⊎◌, List, [], ◌++◌, ℕ, zero, suc, ◌-◌, ◌≤◌, ◌<◌, ltb, length, get_or, take, drop}
+use Rattle.std.specs.Prelude.{◌≡◌, Bool, true, false, cond, ◌&&◌, ◌⊎◌, List, [], ◌++◌, ℕ, zero, suc, ◌-◌, ◌≤◌, ◌<◌, ltb}
+use Rattle.std.specs.Prelude.{length, get_or, take, drop}
 use Rattle.board.specs.declared.Board.{Board}
 use Rattle.log_bytes.specs.declared.End.{End}
 use Rattle.log_bytes.specs.declared.End.TheVariants.{Whole as whole, Broken as broken, Long as long}

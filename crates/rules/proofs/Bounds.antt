@@ -113,7 +113,8 @@ fronted : (b : Board) (n : ℕ) (x : Single) → Tidy b → ComesToFront b n x �
 fronted b n x t (into_empty r d e) = go (took_by b t n r d)
   where
     go : (p : ℕ) × (Has b p n) × (1 ≤ length (at (step b (record! n r)).next p).lane) → (p : ℕ) × FrontAt b n p (record! n r)
-    go (p, h, l) = (p, record { has = h; after = ((follows b p n t h (record! n r)).stays refl).0; front = (l, inl (ap length (sym (has_lane b p n t h) ∙ e))) })
+    go (p, h, l) =
+        (p, record { has = h; after = ((follows b p n t h (record! n r)).stays refl).0; front = (l, inl (ap length (sym (has_lane b p n t h) ∙ e))) })
 fronted b n x t (next_up e l) = go (sent_by_lem b t (for_sent n b (step b serve!).out e))
   where
     nb : Board

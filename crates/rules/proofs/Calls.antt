@@ -107,7 +107,8 @@ pub busy_le : (s : Option ℕ) → busy s ≤ 1
 busy_le none = omega arith
 busy_le (some p) = omega arith
 
-phi_same : (L c : ℕ) (l l' : List Place) (o o' : ℕ → List ℕ) (s : Option ℕ) (H H' : ℕ → ℕ) (q : ℕ) → pl l' q ≡ pl l q → slot_bytes_left l' s ≡ slot_bytes_left l s
+phi_same : (L c : ℕ) (l l' : List Place) (o o' : ℕ → List ℕ) (s : Option ℕ) (H H' : ℕ → ℕ) (q : ℕ) → pl l' q ≡ pl l q
+    → slot_bytes_left l' s ≡ slot_bytes_left l s
     → phi (lit L c l' o' s H') q ≡ phi (lit L c l o s H) q
 unfolding phi
 phi_same L c l l' o o' s H H' q e f = rw (e, f)

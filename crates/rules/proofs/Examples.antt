@@ -115,7 +115,8 @@ pub record Computed : Type 0 where
   pub worked_clock : (play (fresh 100) worked).clock ≡ 9
   pub worked_bytes : bytes_in (fresh 100) worked ≡ 460
   -- the open at 12 is refused, and at 13; at 16 it is granted
-  pub holds_four : ((play (fresh 100) emptied).clock ≡ 12) × ((play (fresh 100) emptied).held 3 ≡ 32768) × (sum (held_of 3) (holds [] (fresh 100) emptied) ≡ 32768)
+  pub holds_four : ((play (fresh 100) emptied).clock ≡ 12) × ((play (fresh 100) emptied).held 3 ≡ 32768)
+      × (sum (held_of 3) (holds [] (fresh 100) emptied) ≡ 32768)
   pub hold_answers : answers (play (fresh 100) emptied) then_opened
       ≡ gives 8 ∷ out 5 1 100 12 ∷ gives 8 ∷ out 6 1 100 13 ∷ out 7 1 100 14 ∷ out 8 1 100 15 ∷ gives 0 ∷ []
   -- a lane that empties leaves no deficit
@@ -148,8 +149,10 @@ pub record Computed : Type 0 where
 
 pub computed : Computed
 unfolding answers worked emptied then_opened fraction filled tight waiting renames story all_below numbers_apart lengths_in count all_places orders_listed
-    never_falling unspoilt Start play bytes_in slots_in holds still_held Unsent NotSpent serves_in least next_start class_of framing charged largest_charge credit_of sum
-    below bytes_charged ring_entry ring_on lane_depth lane_first entry onward some_wait any_due used_share fresh where_is upd taken_in take_record release least_ready
+    never_falling unspoilt Start play bytes_in slots_in holds still_held Unsent NotSpent serves_in least next_start class_of framing charged largest_charge
+    credit_of sum
+    below bytes_charged ring_entry ring_on lane_depth lane_first entry onward some_wait any_due used_share fresh where_is upd taken_in take_record release
+    least_ready
     settle
     ended
     send_from send lowest begin serve_by serve free_at open_block rename_block quiet closed close_block step

@@ -48,7 +48,8 @@ pub record Fine (L c d : ℕ) (l : List Place) (o : ℕ → List ℕ) (H : ℕ �
   pub in_time : InTime (seats l) H c d
 
 -- a change that the orders and the clock don't see
-pub fine_same : {L c d : ℕ} {l : List Place} {o : ℕ → List ℕ} {H : ℕ → ℕ} (p : ℕ) (x : Place) → p < length l → seat_of x ≡ seat_of (pl l p) → Distinct (set l p x)
+pub fine_same : {L c d : ℕ} {l : List Place} {o : ℕ → List ℕ} {H : ℕ → ℕ} (p : ℕ) (x : Place) → p < length l → seat_of x ≡ seat_of (pl l p)
+    → Distinct (set l p x)
     → PlaceOk L x
     → Fine L c d l o H → Fine L c d (set l p x) o H
 fine_same {L} {c} {d} {l} {o} {H} p x h e dis new f =

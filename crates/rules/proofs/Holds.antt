@@ -91,7 +91,8 @@ module _ (c s j : ℕ) where
         where
           by : (next_start j c ≤ d) ⊎ (d < next_start j c) → cond (leb (next_start j c) d) 0 (H j) ≡ sum (live d j) hs
               → cond (leb (next_start j c) d) 0 (H j + s) ≡ sum (live d j) hs + cond (ltb d (next_start j c)) s 0
-          by (inl l) q = rw (leb_yes (next_start j c) d l, leb_no (suc d) (next_start j c) (omega arith)) (omega (arith, rw (leb_yes (next_start j c) d l) at q))
+          by (inl l) q =
+              rw (leb_yes (next_start j c) d l, leb_no (suc d) (next_start j c) (omega arith)) (omega (arith, rw (leb_yes (next_start j c) d l) at q))
           by (inr l) q = rw (leb_no (next_start j c) d l, leb_yes (suc d) (next_start j c) l) (omega (arith, rw (leb_no (next_start j c) d l) at q))
       go (no e) = rw (upd_other H j (H j + s) k e, eqb_no k j e) (a d h k ∙ none! (ltb d (next_start j c)))
         where

@@ -92,7 +92,8 @@ listed_leave l o k p ps x h first is li j q = go (ℕ_discrete j k) (ℕ_discret
 
     go : Dec (j ≡ k) → Dec (q ≡ p) → count q (upd o k ps j) ≡ one_if (in_class j (pl (set l p x) q))
     go (yes a) (yes b) =
-        rw (a, b, upd_same o k ps, get_or-set_same l p x free_place h, is) (omega (arith, whole p, ap one_if (eqb_yes p p refl), one_if_le (in_class k (pl l p))))
+        rw (a, b, upd_same o k ps, get_or-set_same l p x free_place h, is)
+        (omega (arith, whole p, ap one_if (eqb_yes p p refl), one_if_le (in_class k (pl l p))))
     go (yes a) (no b) = rw (a, upd_same o k ps, get_or-set_other l p q x free_place b) (omega (arith, whole q, ap one_if (eqb_no q p b)))
     go (no a) (yes b) = rw (upd_other o k ps j a, b, get_or-set_same l p x free_place h, is) (rw (other a) at (li j p))
       where

@@ -147,7 +147,8 @@ pub refused_making_lem : (numbers lengths L : ℕ) → code_of (make numbers len
 unfolding make
 refused_making_lem numbers lengths L no0 = go (wrong_tables numbers lengths) (not (leb 64 L && leb L 2048)) no0
   where
-    go : (t u : Bool) → code_of (make_by t u L).answer ≢ 0 → ((make_by t u L).entries ≡ kept) × ((make_by t u L).board ≡ some (fresh 0)) × (spoilt (fresh 0) ≡ true)
+    go : (t u : Bool) → code_of (make_by t u L).answer ≢ 0
+        → ((make_by t u L).entries ≡ kept) × ((make_by t u L).board ≡ some (fresh 0)) × (spoilt (fresh 0) ≡ true)
     go true u n = (refl, refl, zero_spoilt)
     go false true n = (refl, refl, zero_spoilt)
     go false false n = absurd (n refl)

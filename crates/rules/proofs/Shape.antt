@@ -182,7 +182,8 @@ both true k m e = (refl, eqb_true k m e)
 both false k m e = absurd (false≢true e)
 
 -- what an order lists is waiting, in its class
-pub listed_in : (l : List Place) (o : ℕ → List ℕ) → InOrders l o → (k q : ℕ) → 1 ≤ count q (o k) → (is_queued (pl l q).stand ≡ true) × (k ≡ block_class (pl l q))
+pub listed_in : (l : List Place) (o : ℕ → List ℕ) → InOrders l o → (k q : ℕ) → 1 ≤ count q (o k)
+    → (is_queued (pl l q).stand ≡ true) × (k ≡ block_class (pl l q))
 listed_in l o li k q h = both (is_queued (pl l q).stand) k (block_class (pl l q)) (one_if_true (in_class k (pl l q)) (omega (arith, li k q)))
 
 pub listed_out : (l : List Place) (o : ℕ → List ℕ) → InOrders l o → (k q : ℕ) → is_queued (pl l q).stand ≡ false → count q (o k) ≡ 0

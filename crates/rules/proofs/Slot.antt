@@ -118,7 +118,8 @@ module _ (L c : ℕ) (l : List Place) (o : ℕ → List ℕ) (H : ℕ → ℕ) (
     unfolding StandOk
     short_ok = record {
       items = rest;
-      owed = omega (arith, lacks, (fit_charge L (get_or (drop 1 (pl l p).lane) 0 no_record) (all_front (InSize L) no_record (drop 1 (pl l p).lane) long rest)).1);
+      owed =
+          omega (arith, lacks, (fit_charge L (get_or (drop 1 (pl l p).lane) 0 no_record) (all_front (InSize L) no_record (drop 1 (pl l p).lane) long rest)).1);
       most = (sh.place_ok p).most;
       stand_ok = (long, facts.1);
       brief = rw (length-drop 1 (pl l p).lane) (omega (arith, (sh.place_ok p).brief));

@@ -1,5 +1,6 @@
 -- THE BOARD (document 01, 'Numbers' and 'Classes, starts and credit').
-use Rattle.std.specs.Prelude.{◌≡◌, Bool, false, ◌&&◌, ◌||◌, List, [], ◌∷◌, ℕ, ◌+◌, ◌-◌, ◌≤◌, ◌<◌, leb, ltb, eqb, length, get_or, replicate}
+use Rattle.std.specs.Prelude.{◌≡◌, Bool, false, ◌&&◌, ◌||◌, List, [], ◌∷◌, ℕ, ◌+◌, ◌-◌, ◌≤◌, ◌<◌, leb, ltb, eqb, length}
+use Rattle.std.specs.Prelude.{get_or, replicate}
 use Rattle.std.proofs.Math.Option.{Option, none}
 use Rattle.base.specs.Sums.{sum, below}
 use Rattle.units.specs.Classes.{class_of}

@@ -1,5 +1,6 @@
 -- HOW THE NEXT RECORD IS CHOSEN (document 01, under that heading, rules 1 to 5).
-use Rattle.std.specs.Prelude.{Bool, true, false, not, cond, ◌&&◌, ◌||◌, List, [], ◌∷◌, ◌++◌, ℕ, suc, ◌+◌, ◌*◌, ◌-◌, ◌^◌, min, max, leb, ltb, eqb, length, get_or, set, drop}
+use Rattle.std.specs.Prelude.{Bool, true, false, not, cond, ◌&&◌, ◌||◌, List, [], ◌∷◌, ◌++◌, ℕ, suc, ◌+◌, ◌*◌, ◌-◌, ◌^◌}
+use Rattle.std.specs.Prelude.{min, max, leb, ltb, eqb, length, get_or, set, drop}
 use Rattle.std.proofs.Math.Option.{Option, none, some}
 use Rattle.base.specs.Tests.{least}
 use Rattle.units.specs.Classes.{next_start}

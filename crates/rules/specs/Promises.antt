@@ -1,6 +1,7 @@
 -- THE PROMISES: demands 1 to 3, each a named proposition over every run and any class.
 -- Their proofs stand in proofs/, and proofs/Promises.antt gathers one theorem for each.
-use Rattle.std.specs.Prelude.{◌≡◌, true, false, cond, ◌⊎◌, ◌≢◌, List, [], ◌∷◌, ◌++◌, map, ℕ, suc, ◌+◌, ◌*◌, ◌-◌, ◌^◌, ◌≤◌, ◌<◌, max, length, replicate}
+use Rattle.std.specs.Prelude.{◌≡◌, true, false, cond, ◌⊎◌, ◌≢◌, List, [], ◌∷◌, ◌++◌, map, ℕ, suc, ◌+◌, ◌*◌, ◌-◌, ◌^◌}
+use Rattle.std.specs.Prelude.{◌≤◌, ◌<◌, max, length, replicate}
 use Rattle.std.proofs.Math.Option.{none, some}
 use Rattle.base.specs.Sums.{sum}
 use Rattle.base.specs.Tests.{least}
@@ -174,7 +175,8 @@ DeficitsSmall = (L : ℕ) (b : Board) → OfRun L b → (p : ℕ) → (at b p).d
 -- A slot sends at most 3L - 1 bytes.
 abbrev pub SlotsSmall : Type 0
 SlotsSmall =
-    (L : ℕ) (b : Board) → OfRun L b → (t : ℕ) (after : List Single) → Runs.slot_bytes t b after ≤ 3 * largest_charge L - 1
+    (L : ℕ) (b : Board) → OfRun L b → (t : ℕ) (after : List Single)
+    → Runs.slot_bytes t b after ≤ 3 * largest_charge L - 1
 
 -- If none is pending, the least ready time equals the next start of the lowest active class, on every board that is not
 -- spoilt.

@@ -1,6 +1,7 @@
 -- RUNS: a done making, then any row of the other calls, each given what the one before left; and the words in which the
 -- demands speak of a run.
-use Rattle.std.specs.Prelude.{◌≡◌, Bool, true, false, cond, ◌&&◌, List, [], ◌∷◌, ◌++◌, ℕ, ◌+◌, ◌≤◌, leb, ltb, eqb, length, replicate}
+use Rattle.std.specs.Prelude.{◌≡◌, Bool, true, false, cond, ◌&&◌, List, [], ◌∷◌, ◌++◌, ℕ, ◌+◌, ◌≤◌, leb, ltb, eqb}
+use Rattle.std.specs.Prelude.{length, replicate}
 use Rattle.base.specs.Sums.{one_if}
 use Rattle.units.specs.Classes.{class_of, next_start}
 use Rattle.units.specs.Credit.{charged}
@@ -174,7 +175,8 @@ Unsent n b (x ∷ xs) = (is_for n (answer b x) ≡ false) × Unsent (number_afte
 -- The call brings a record to the front of the lane of the block that has n: it comes into the empty lane, or the one
 -- before it is sent.
 pub data ComesToFront (b : Board) (n : ℕ) : Single → Type 0 where
-  into_empty : (r : Record) → is_done (answer b (record! n r)) ≡ true → lane_of b n ≡ [] → ComesToFront b n (record! n r)
+  into_empty : (r : Record) → is_done (answer b (record! n r)) ≡ true → lane_of b n ≡ []
+      → ComesToFront b n (record! n r)
   next_up : is_for n (answer b serve!) ≡ true → 1 ≤ length (lane_of (step b serve!).next n) → ComesToFront b n serve!
 
 -- ---- Slots of a block

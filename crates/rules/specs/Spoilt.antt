@@ -1,7 +1,8 @@
 -- SPOILT (document 01, the last paragraph of 'Codes the box gives'): each clause is a test, in the paper's order.
 -- What makes a value spell a board at all, and with it the class sets, the links and every zero of a field that is not
 -- in use, is told beside the value itself; here are the clauses on the board that it spells.
-use Rattle.std.specs.Prelude.{Bool, true, false, not, ◌&&◌, ◌||◌, List, [], ◌∷◌, ℕ, ◌+◌, ◌*◌, ◌%◌, ◌^◌, leb, ltb, eqb, length, get_or}
+use Rattle.std.specs.Prelude.{Bool, true, false, not, ◌&&◌, ◌||◌, List, [], ◌∷◌, ℕ, ◌+◌, ◌*◌, ◌%◌, ◌^◌, leb, ltb, eqb}
+use Rattle.std.specs.Prelude.{length, get_or}
 use Rattle.std.proofs.Math.Option.{Option, none, some}
 use Rattle.base.specs.Sums.{one_if}
 use Rattle.base.specs.Tests.{every, alike, all_below}

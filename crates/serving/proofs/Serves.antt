@@ -23,7 +23,8 @@ use Rattle.lanes.specs.Lanes.{lane_depth, lane_first, lane_entry, lane_on}
 use Rattle.lanes.proofs.Rings.{ring_moved}
 use Rattle.rules.specs.Board
 use Rattle.rules.specs.Board.{Record, no_record, Place, free_place, block_class, at, entry, bytes_charged, front, onward}
-use Rattle.rules.specs.Choice.{is_none, Out, refused, done, taken, Sending, sending, sent, Turn, left_of, left_after, lost_at, least_ready, upd, started, emptied}
+use Rattle.rules.specs.Choice.{is_none, Out, refused, done, taken, Sending, sending, sent, Turn, left_of, left_after, lost_at, least_ready, upd, started}
+use Rattle.rules.specs.Choice.{emptied}
 use Rattle.rules.specs.Choice.{short, going, ended, go_on, send_from, send, begin, lowest, chosen, serve}
 use Rattle.rules.specs.Spoilt.{count, in_class}
 use Rattle.rules.proofs.Orders.{pl, upd_other, in_head, count_head}

@@ -1,6 +1,7 @@
 -- WORKING DEFINITIONS: the front record is sent, on the board's lists. Theorems tie them to the rules; no
 -- promise of a call cites one.
-use Rattle.std.specs.Prelude.{◌≡◌, Bool, false, cond, List, ℕ, ◌+◌, ◌-◌, ◌^◌, ◌≤◌, ◌<◌, ltb, leb, eqb, get_or, set, length}
+use Rattle.std.specs.Prelude.{◌≡◌, Bool, false, cond, List, ℕ, ◌+◌, ◌-◌, ◌^◌, ◌≤◌, ◌<◌, ltb, leb, eqb, get_or, set}
+use Rattle.std.specs.Prelude.{length}
 use Rattle.units.specs.Classes.{class_of}
 use Rattle.units.specs.Credit.{charged, charge_of}
 use Rattle.lanes.specs.Lanes.{lane_entry, lane_on}

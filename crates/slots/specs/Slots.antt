@@ -1,6 +1,7 @@
 -- WORKING DEFINITIONS: the clock, the choice, and a slot's beginning and end, on the board's lists. Theorems tie them
 -- to the rules; no promise of a call cites one.
-use Rattle.std.specs.Prelude.{◌≡◌, cond, List, ℕ, zero, suc, ◌+◌, ◌-◌, ◌/◌, ◌^◌, ◌≤◌, ◌<◌, ltb, leb, eqb, get_or, set, replicate}
+use Rattle.std.specs.Prelude.{◌≡◌, cond, List, ℕ, zero, suc, ◌+◌, ◌-◌, ◌/◌, ◌^◌, ◌≤◌, ◌<◌, ltb, leb, eqb, get_or, set}
+use Rattle.std.specs.Prelude.{replicate}
 use Rattle.bits.specs.Sets.{with_bit, without_bit, lowest_bit}
 use Rattle.units.specs.Classes.{class_of, next_start}
 use Rattle.units.specs.Credit.{credit_of}
@@ -48,7 +49,8 @@ unfoldable pub choice : (clock active pending slot : ℕ) (heads : List ℕ) →
 choice clock active pending slot heads =
     let k = chosen_class active pending in
     let time = slot_clock clock pending k in
-    cond (eqb slot 0) (cond (eqb active 0) (Stop 1) (cond (leb (2 ^ 62) time) (Stop 11) (Go (get_or heads k 0 - 1) time)))
+    cond (eqb slot 0) (cond (eqb active 0) (Stop 1)
+    (cond (leb (2 ^ 62) time) (Stop 11) (Go (get_or heads k 0 - 1) time)))
     (Go (slot - 1) clock)
 
 abbrev pub choice_of : Engine → Choice

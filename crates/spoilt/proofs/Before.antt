@@ -26,7 +26,8 @@ pub test_is : (b : struct.Board) (ids lens : List ℕ) → Sized b → length id
 test_is b ids lens z i l = decided_alike (sound_decides b ids lens z i l) (is_sound_decides b ids lens)
 
 -- what is found by it, with tables of 2,048 entries
-pub early_by : (b : struct.Board) (ids lens : List ℕ) → Sized b → length ids ≡ table_length → length lens ≡ table_length → (t : Bool) → sound_test b ids lens ≡ t
+pub early_by : (b : struct.Board) (ids lens : List ℕ) → Sized b → length ids ≡ table_length → length lens ≡ table_length → (t : Bool)
+    → sound_test b ids lens ≡ t
     → cond t 0 2 ≡ early_code b ids lens
 unfolding early_code
 early_by b ids lens z i l t e = rw (i, l, sym (test_is b ids lens z i l), e)

@@ -26,7 +26,8 @@ use Rattle.lanes.specs.Lanes.{lane_entry}
 use Rattle.rules.specs.Board
 use Rattle.rules.specs.Board.{Record, bytes_charged, out, queued, serving, Place, at, front, block_class, is_open, waits, used_share}
 use Rattle.rules.specs.Spoilt
-use Rattle.rules.specs.Spoilt.{every_place, is_queued, is_serving, lengths_in, stands_by_lane, is_at, count, in_class, all_places, slot_at_place, orders_listed, ready_num}
+use Rattle.rules.specs.Spoilt.{every_place, is_queued, is_serving, lengths_in, stands_by_lane, is_at, count, in_class, all_places, slot_at_place, orders_listed}
+use Rattle.rules.specs.Spoilt.{ready_num}
 use Rattle.rules.specs.Spoilt.{never_falling, slot_of, slot_in_time, clauses, unspoilt}
 use Rattle.board.specs.declared.Board as struct
 use Rattle.board.specs.Reading.{tab, bare_of, place_of, slot_by, view, Sized}

@@ -102,7 +102,8 @@ module _ (b : struct.Board) (ids lens : List ℕ) (w : Ordered b ids lens) where
   head_is k = first_follow b.next (get_or b.heads k 0)
 
   class_at_lem : (k p : ℕ) → p < 64 → eqb (get_or b.counts p 0) 0 ≡ false → of_class k (get_or b.shares p 0) ≡ eqb k (block_class (at v p))
-  class_at_lem k p h c = in_class_lem (get_or b.shares p 0) k (w.is_open p h c) (w.share p h) ∙ ap (λ (s : ℕ). eqb k (class_of s)) (sym (share_at b ids lens p h))
+  class_at_lem k p h c =
+      in_class_lem (get_or b.shares p 0) k (w.is_open p h c) (w.share p h) ∙ ap (λ (s : ℕ). eqb k (class_of s)) (sym (share_at b ids lens p h))
 
   -- a block that is in an order waits
   queued_waits : (p : ℕ) → p < 64 → is_queued (at v p).stand ≡ true → waits (at v p) ≡ true

@@ -1,7 +1,8 @@
 -- WORKING DEFINITIONS: the spoilt test as it is computed, each rule on what is read from the arrays and the tables,
 -- named after its clause of document 01. No promise of a call rests on it: SoundDecides says that it is passed
 -- exactly by the values that are not spoilt.
-use Rattle.std.specs.Prelude.{◌≡◌, Bool, cond, not, ◌&&◌, List, [], ◌∷◌, ℕ, ◌*◌, ◌-◌, ◌^◌, leb, ltb, eqb, length, get_or}
+use Rattle.std.specs.Prelude.{◌≡◌, Bool, cond, not, ◌&&◌, List, [], ◌∷◌, ℕ, ◌*◌, ◌-◌, ◌^◌, leb, ltb, eqb, length}
+use Rattle.std.specs.Prelude.{get_or}
 use Rattle.base.specs.Tests.{Decides, every, all_below}
 use Rattle.units.specs.Credit.{charge_of}
 use Rattle.lanes.specs.Lanes.{lane_entry}
@@ -22,7 +23,8 @@ unfoldable pub length_in_range : (largest len : ℕ) → Bool
 length_in_range largest len = leb 1 len && leb len largest
 
 unfoldable pub lane_in_range : (lens : List ℕ) (largest p start count : ℕ) → Bool
-lane_in_range lens largest p start count = all_below count (λ j. length_in_range largest (get_or lens (lane_entry p start j) 0))
+lane_in_range lens largest p start count =
+    all_below count (λ j. length_in_range largest (get_or lens (lane_entry p start j) 0))
 
 unfoldable pub lanes_in_range : (lens : List ℕ) (largest : ℕ) (starts counts : List ℕ) → Bool
 lanes_in_range lens largest starts counts =

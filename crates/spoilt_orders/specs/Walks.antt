@@ -1,7 +1,8 @@
 -- WORKING DEFINITIONS: the rules of the class orders and sets, as they are computed from the arrays, each named after
 -- its clause of document 01. Lists stand for the arrays; a link to place p is p + 1 and 0 is none. `SoundDecides`
 -- ties them to the rules; no promise of a call cites one.
-use Rattle.std.specs.Prelude.{Bool, cond, not, ◌&&◌, ◌||◌, List, ℕ, zero, suc, ◌+◌, ◌*◌, ◌-◌, ◌/◌, ◌^◌, leb, ltb, eqb, get_or}
+use Rattle.std.specs.Prelude.{Bool, cond, not, ◌&&◌, ◌||◌, List, ℕ, zero, suc, ◌+◌, ◌*◌, ◌-◌, ◌/◌, ◌^◌, leb, ltb, eqb}
+use Rattle.std.specs.Prelude.{get_or}
 use Rattle.base.specs.Sums.{one_if, below}
 use Rattle.base.specs.Tests.{all_below}
 use Rattle.bits.specs.Sets.{set_below}
@@ -41,7 +42,8 @@ walk k start slot tail shares counts ready next (suc n) met h least last =
     let p = h - 1 in
     let on = walk k start slot tail shares counts ready next n (met + 1) (get_or next p 0) (get_or ready p 0) h in
     cond (eqb h 0) (cond (eqb last tail) met no_order)
-    (cond (leb h 64 && block_in_range k start slot least p (get_or shares p 0) (get_or counts p 0) (get_or ready p 0)) on
+    (cond (leb h 64 && block_in_range k start slot least p (get_or shares p 0) (get_or counts p 0) (get_or ready p 0))
+    on
     no_order)
 
 unfoldable pub order_length : (clock slot : ℕ) (heads tails shares counts ready next : List ℕ) (k : ℕ) → ℕ

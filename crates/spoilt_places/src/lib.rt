@@ -5,7 +5,8 @@
 ghost use Rattle.std.specs.Prelude.{◌≡◌};
 ghost use Rattle.base.specs.Sums.{one_if};
 ghost use Rattle.spoilt_places.specs.Ranges.{size_in_range, times_found, number_apart, numbers_apart};
-ghost use Rattle.spoilt_places.specs.Ranges.{number_in_range, share_in_range, ring_in_range, in_order, deficit_in_range};
+ghost use Rattle.spoilt_places.specs.Ranges.{number_in_range, share_in_range, ring_in_range, in_order};
+ghost use Rattle.spoilt_places.specs.Ranges.{deficit_in_range};
 ghost use Rattle.spoilt_places.specs.Ranges.{free_is_zero, unused_is_zero, place_in_range, places_in_range};
 ghost use Rattle.spoilt_places.specs.Ranges.{shares_fit, none_held, held_while_waiting};
 

@@ -44,7 +44,8 @@ taken_eq shares clock p t c s e f = rw (e, f, add-one c)
 
 joined_eq : (next heads tails ready : List ℕ) (active p k time t : ℕ) → get_or tails k 0 ≡ t
     → joined_orders (orders_now next heads tails ready active) p k time
-    ≡ orders_now (set (cond (eqb t 0) next (set next (t - 1) (suc p))) p 0) (cond (eqb t 0) (set heads k (suc p)) heads) (set tails k (suc p)) (set ready p time)
+    ≡ orders_now (set (cond (eqb t 0) next (set next (t - 1) (suc p))) p 0) (cond (eqb t 0) (set heads k (suc p)) heads) (set tails k (suc p))
+    (set ready p time)
     (with_bit active k)
 unfolding joined_orders
 joined_eq next heads tails ready active p k time t e = rw (e, add-one p)

@@ -102,5 +102,10 @@ loop-bytes-preserved c =
     let x = c.args in
     let b = board_in (goal.at.loop-bytes-preserved c).At-loop-bytes in
     let known = on_known b x.ids.now x.lens.now r.invariant.1.1.1.0 x.bytes.0 r.count r.total.0 r.list _ served left in
-    let on = burst_on b x.ids.now x.lens.now r.invariant.1.1.1.0 x.bytes.0 r.count r.total.0 r.list _ served left in
-    (omega (arith, room (goal.at.loop-bytes-preserved c).Else-s-ne-DONE, r.invariant.1.0), (rw length-set r.invariant.1.0, (omega (arith, fits (goal.at.loop-bytes-preserved c).Else-s-ne-DONE, r.invariant.1.1.0), (known, r.invariant.1.1.1.1 ∙ on))))
+    let on = burst_on b x.ids.now x.lens.now r.invariant.1.1.1.0 x.bytes.0 r.count r.total.0 r.list _ served left in (
+      omega (arith, room (goal.at.loop-bytes-preserved c).Else-s-ne-DONE, r.invariant.1.0),
+      (
+        rw length-set r.invariant.1.0,
+        (omega (arith, fits (goal.at.loop-bytes-preserved c).Else-s-ne-DONE, r.invariant.1.1.0), (known, r.invariant.1.1.1.1 ∙ on)),
+      ),
+    )

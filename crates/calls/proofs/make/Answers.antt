@@ -22,15 +22,28 @@ returns-then-lens-ne-TABLE_ENTRIES c =
 pub returns-then-largest-lt-LEAST_LARGEST : goal.returns-then-largest-lt-LEAST_LARGEST
 unfolding made make
 returns-then-largest-lt-LEAST_LARGEST c =
-    rw (none_wrong _ _ c.if-ids-ne-TABLE_ENTRIES.false c.if-lens-ne-TABLE_ENTRIES.false, lt-leb _ _ c.if-largest-lt-LEAST_LARGEST.true, c.blank-then-largest-lt-LEAST_LARGEST.ensures)
+    rw (
+      none_wrong _ _ c.if-ids-ne-TABLE_ENTRIES.false c.if-lens-ne-TABLE_ENTRIES.false,
+      lt-leb _ _ c.if-largest-lt-LEAST_LARGEST.true,
+      c.blank-then-largest-lt-LEAST_LARGEST.ensures,
+    )
 
 pub returns-then-largest-gt-GREATEST_LARGEST : goal.returns-then-largest-gt-GREATEST_LARGEST
 unfolding made make
 returns-then-largest-gt-GREATEST_LARGEST c =
-    rw (none_wrong _ _ c.if-ids-ne-TABLE_ENTRIES.false c.if-lens-ne-TABLE_ENTRIES.false, le-leb _ _ c.if-largest-lt-LEAST_LARGEST.false, lt-leb _ _ c.if-largest-gt-GREATEST_LARGEST.true, c.blank-then-largest-gt-GREATEST_LARGEST.ensures)
+    rw (
+      none_wrong _ _ c.if-ids-ne-TABLE_ENTRIES.false c.if-lens-ne-TABLE_ENTRIES.false,
+      le-leb _ _ c.if-largest-lt-LEAST_LARGEST.false,
+      lt-leb _ _ c.if-largest-gt-GREATEST_LARGEST.true,
+      c.blank-then-largest-gt-GREATEST_LARGEST.ensures,
+    )
 
 pub returns : goal.returns
 unfolding made make
 returns c =
-    rw (none_wrong _ _ c.if-ids-ne-TABLE_ENTRIES.false c.if-lens-ne-TABLE_ENTRIES.false, le-leb _ _ c.if-largest-lt-LEAST_LARGEST.false, le-leb _ _ c.if-largest-gt-GREATEST_LARGEST.false)
+    rw (
+      none_wrong _ _ c.if-ids-ne-TABLE_ENTRIES.false c.if-lens-ne-TABLE_ENTRIES.false,
+      le-leb _ _ c.if-largest-lt-LEAST_LARGEST.false,
+      le-leb _ _ c.if-largest-gt-GREATEST_LARGEST.false,
+    )
     (ap (λ (w : Returned struct.Board). returned (replied 0 w.reply) w.ids w.lens) c.make_in.ensures)

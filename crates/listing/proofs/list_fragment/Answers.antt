@@ -31,8 +31,7 @@ loop-taken-smaller g c =
 pub loop-taken-preserved : goal.loop-taken-preserved
 loop-taken-preserved g c =
     let done = feed_next _ _ _ _ _ _ _ _ _ c.feed-piece.ensures c.loop-taken.invariant.1.1.0 in
-    let part = part_length c.args.fragment.now c.loop-taken.taken in
-    (
+    let part = part_length c.args.fragment.now c.loop-taken.taken in (
       omega (arith, done.told.within, part, c.loop-taken.invariant.0),
       (
         c.if-next.false,
@@ -41,8 +40,7 @@ loop-taken-preserved g c =
     )
 
 pub returns : goal.returns
-returns g c =
-    (
-      c.loop-taken.invariant.1.1.0,
-      λ e. omega (arith, c.loop-taken.invariant.0, c.loop-taken.invariant.1.1.1, c.loop-taken-test.false),
-    )
+returns g c = (
+  c.loop-taken.invariant.1.1.0,
+  λ e. omega (arith, c.loop-taken.invariant.0, c.loop-taken.invariant.1.1.1, c.loop-taken-test.false),
+)

@@ -26,9 +26,9 @@ loop-n-init g c = (
 pub loop-n-smaller : goal.loop-n-smaller
 loop-n-smaller g c =
     let next : (feed_code c.in_ok-state.state c.list_fragment.new.ids c.list_fragment.new.lens ≡ 0)
-        × (c.in_ok-state.state.over ≡ false
-        → offset_of c.in_ok-state.state
-        ≡ offset_of c.loop-n.state + length (take c.in_ok-n.n c.next_fragment.new.fragment)) = search rules in
+    × (c.in_ok-state.state.over ≡ false
+    → offset_of c.in_ok-state.state
+    ≡ offset_of c.loop-n.state + length (take c.in_ok-n.n c.next_fragment.new.fragment)) = search rules in
     let count : c.in_ok-n.n ≡ length (take c.in_ok-n.n c.next_fragment.new.fragment) = search rules in
     let low =
     code_low _ _ _ (c.list_fragment.auto.ids ∙ c.loop-n.invariant.0) (c.list_fragment.auto.lens ∙ c.loop-n.invariant.1.0)

@@ -31,15 +31,19 @@ pub returns-then-not-past_l : goal.returns-then-not-past_l
 returns-then-not-past_l c =
     let r : length c.args.s.kept ≡ 13 = search rules in
     let e = sym c.is_fit.ensures ∙ c.if-not-is_fit.false in
-    let p = sym c.past_l.ensures ∙ c.if-not-past_l.true in
-    (code_before _ _ _ c.if-ids-ne-TABLE_ENTRIES.false c.if-lens-ne-TABLE_ENTRIES.false c.if-s.false e p, λ z. can_before _ _ _ c.if-ids-ne-TABLE_ENTRIES.false c.if-lens-ne-TABLE_ENTRIES.false e r p)
+    let p = sym c.past_l.ensures ∙ c.if-not-past_l.true in (
+      code_before _ _ _ c.if-ids-ne-TABLE_ENTRIES.false c.if-lens-ne-TABLE_ENTRIES.false c.if-s.false e p,
+      λ z. can_before _ _ _ c.if-ids-ne-TABLE_ENTRIES.false c.if-lens-ne-TABLE_ENTRIES.false e r p,
+    )
 
 pub returns-then-s-sent : goal.returns-then-s-sent
 returns-then-s-sent c =
     let r : length c.args.s.kept ≡ 13 = search rules in
     let e = sym c.is_fit.ensures ∙ c.if-not-is_fit.false in
-    let p = sym c.past_l.ensures ∙ c.if-not-past_l.false in
-    (code_bytes _ _ _ c.if-ids-ne-TABLE_ENTRIES.false c.if-lens-ne-TABLE_ENTRIES.false c.if-s.false e p (lt-ltb _ _ c.if-s-sent.true), λ z. absurd (omega arith))
+    let p = sym c.past_l.ensures ∙ c.if-not-past_l.false in (
+      code_bytes _ _ _ c.if-ids-ne-TABLE_ENTRIES.false c.if-lens-ne-TABLE_ENTRIES.false c.if-s.false e p (lt-ltb _ _ c.if-s-sent.true),
+      λ z. absurd (omega arith),
+    )
 
 pub returns : goal.returns
 returns c =

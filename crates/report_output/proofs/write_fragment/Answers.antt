@@ -17,8 +17,7 @@ pub loop-taken-preserved : goal.loop-taken-preserved
 loop-taken-preserved g c =
     let on = c.goes_on.ensures c.if-not-goes_on.false in
     let fits = (feed_fits _ _ _ _ _ _ _ _ _ c.feed-piece.ensures).1 in
-    let part = part_length c.args.fragment.now c.loop-taken.taken in
-    (
+    let part = part_length c.args.fragment.now c.loop-taken.taken in (
       omega (arith, fits, part, c.loop-taken-test.true),
       (
         omega (arith, (c.feed-piece.ensures.done on.0).onward on.1, c.loop-taken.invariant.1.0),

@@ -36,15 +36,19 @@ returns-then-not-is_fit c =
 pub returns-then-not-past_l : goal.returns-then-not-past_l
 returns-then-not-past_l c =
     let e = sym c.is_fit.ensures ∙ c.if-not-is_fit.false in
-    let p = sym c.past_l.ensures ∙ c.if-not-past_l.true in
-    (code_before _ _ _ c.if-ids-ne-TABLE_ENTRIES.false c.if-lens-ne-TABLE_ENTRIES.false c.if-s.false e p, λ z. can_before _ _ _ c.if-ids-ne-TABLE_ENTRIES.false c.if-lens-ne-TABLE_ENTRIES.false e p)
+    let p = sym c.past_l.ensures ∙ c.if-not-past_l.true in (
+      code_before _ _ _ c.if-ids-ne-TABLE_ENTRIES.false c.if-lens-ne-TABLE_ENTRIES.false c.if-s.false e p,
+      λ z. can_before _ _ _ c.if-ids-ne-TABLE_ENTRIES.false c.if-lens-ne-TABLE_ENTRIES.false e p,
+    )
 
 pub returns-then-early-ne-DONE : goal.returns-then-early-ne-DONE
 returns-then-early-ne-DONE c =
     let e = sym c.is_fit.ensures ∙ c.if-not-is_fit.false in
     let p = sym c.past_l.ensures ∙ c.if-not-past_l.false in
-    let is = c.early-early.ensures.0 in
-    (is ∙ code_early _ _ _ c.if-ids-ne-TABLE_ENTRIES.false c.if-lens-ne-TABLE_ENTRIES.false c.if-s.false e p (λ z. c.if-early-ne-DONE.true (is ∙ z)), λ z. absurd (c.if-early-ne-DONE.true z))
+    let is = c.early-early.ensures.0 in (
+      is ∙ code_early _ _ _ c.if-ids-ne-TABLE_ENTRIES.false c.if-lens-ne-TABLE_ENTRIES.false c.if-s.false e p (λ z. c.if-early-ne-DONE.true (is ∙ z)),
+      λ z. absurd (c.if-early-ne-DONE.true z),
+    )
 
 pub counts_fit-requires : goal.counts_fit-requires
 counts_fit-requires c =
@@ -55,8 +59,10 @@ returns-then-not-counts_fit c =
     let e = sym c.is_fit.ensures ∙ c.if-not-is_fit.false in
     let p = sym c.past_l.ensures ∙ c.if-not-past_l.false in
     let known = c.early-early.ensures.1 c.if-early-ne-DONE.false in
-    let no = sym c.counts_fit.ensures ∙ c.if-not-counts_fit.true in
-    (code_counts _ _ _ c.if-ids-ne-TABLE_ENTRIES.false c.if-lens-ne-TABLE_ENTRIES.false c.if-s.false e p (sound_known _ _ _ known) no, λ z. absurd (omega arith))
+    let no = sym c.counts_fit.ensures ∙ c.if-not-counts_fit.true in (
+      code_counts _ _ _ c.if-ids-ne-TABLE_ENTRIES.false c.if-lens-ne-TABLE_ENTRIES.false c.if-s.false e p (sound_known _ _ _ known) no,
+      λ z. absurd (omega arith),
+    )
 
 pub returns : goal.returns
 returns c =

@@ -42,7 +42,8 @@ end_empty-after-requires c =
 pub returns-then-count-eq0 : goal.returns-then-count-eq0
 returns-then-count-eq0 c =
     let x = c.args in (
-      sent_last x.shares.now x.lens.now x.place (entering (goal.at.returns-then-count-eq0 c).Start) c.entry-entry.result c.charge-charge.result.0 c.onward-on.result
+      sent_last x.shares.now x.lens.now x.place
+          (entering (goal.at.returns-then-count-eq0 c).Start) c.entry-entry.result c.charge-charge.result.0 c.onward-on.result
           c.class_of-k.result c.entry-entry.ensures.0 c.charge-charge.ensures c.onward-on.ensures
           c.class_of-k.ensures c.if-count-eq0.true _ c.end_empty-after.ensures,
       lost_last x.lens.now x.place (entering (goal.at.returns-then-count-eq0 c).Start) c.entry-entry.result c.charge-charge.result.0 c.entry-entry.ensures.0
@@ -71,7 +72,8 @@ charge-need-requires c =
 pub returns-then-need-rest : goal.returns-then-need-rest
 returns-then-need-rest c =
     let x = c.args in (
-      sent_on x.shares.now x.lens.now x.place (entering (goal.at.returns-then-need-rest c).Start) c.entry-entry.result c.charge-charge.result.0 c.onward-on.result
+      sent_on x.shares.now x.lens.now x.place
+          (entering (goal.at.returns-then-need-rest c).Start) c.entry-entry.result c.charge-charge.result.0 c.onward-on.result
           c.class_of-k.result c.entry-entry.ensures.0 c.charge-charge.ensures c.onward-on.ensures
           c.class_of-k.ensures c.entry-following.result c.charge-need.result.0 c.if-count-eq0.false c.entry-following.ensures.0
           c.charge-need.ensures c.if-need-rest.true,

@@ -39,7 +39,8 @@ returns-then-room-eq0 c =
     (sym c.choose-chosen.ensures ∙ c.in-Go.is) c.stay-then-room-eq0.result c.if-room-eq0.true c.stay-then-room-eq0.ensures
 
 pub offset_bounds-starts-place : goal.offset_bounds-starts-place
-offset_bounds-starts-place c = let h = (in_table (goal.at.offset_bounds-starts-place c).Start c.in-Go.place c.in-Go.time (sym c.choose-chosen.ensures ∙ c.in-Go.is)).0 in search rules
+offset_bounds-starts-place c =
+    let h = (in_table (goal.at.offset_bounds-starts-place c).Start c.in-Go.place c.in-Go.time (sym c.choose-chosen.ensures ∙ c.in-Go.is)).0 in search rules
 
 pub bounds-starts-place : goal.bounds-starts-place
 bounds-starts-place c = (in_table (goal.at.bounds-starts-place c).Start c.in-Go.place c.in-Go.time (sym c.choose-chosen.ensures ∙ c.in-Go.is)).0
@@ -52,7 +53,11 @@ offset_bounds-lens-entry c = omega (arith, c.entry-entry.ensures.1)
 
 pub bounds-lens-entry : goal.bounds-lens-entry
 bounds-lens-entry c =
-    omega (arith, c.entry-entry.ensures.1, (in_table (goal.at.bounds-lens-entry c).Start c.in-Go.place c.in-Go.time (sym c.choose-chosen.ensures ∙ c.in-Go.is)).1)
+    omega (
+      arith,
+      c.entry-entry.ensures.1,
+      (in_table (goal.at.bounds-lens-entry c).Start c.in-Go.place c.in-Go.time (sym c.choose-chosen.ensures ∙ c.in-Go.is)).1,
+    )
 
 pub overflow_cast-lens : goal.overflow_cast-lens
 overflow_cast-lens c =

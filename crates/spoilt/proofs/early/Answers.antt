@@ -32,5 +32,7 @@ returns-then-sound c =
 
 pub returns : goal.returns
 returns c =
-    let z = sized (goal.at.returns c).Start in
-    (early_by _ _ _ z c.if-ids-ne-TABLE_ENTRIES.false c.if-lens-ne-TABLE_ENTRIES.false false (sym c.sound.ensures ∙ c.if-sound.false), λ z. absurd (omega arith))
+    let z = sized (goal.at.returns c).Start in (
+      early_by _ _ _ z c.if-ids-ne-TABLE_ENTRIES.false c.if-lens-ne-TABLE_ENTRIES.false false (sym c.sound.ensures ∙ c.if-sound.false),
+      λ z. absurd (omega arith),
+    )
