@@ -1,8 +1,7 @@
-use Rattle.std.proofs.Common.{◌≡◌, ℕ, ◌+◌, ◌-◌, ◌*◌, ◌<◌, ◌≤◌, length}
+-- From fragment to fragment the offset moves on, up to the end of every log.
+use Rattle.std.proofs.Common.{◌-◌, ◌^◌}
+use Rattle.report_play.specs.Playing.{offset_of}
 use Rattle.report.proofs.main.Given as goal
 
-abbrev pub invariant-loop-n : goal.invariant-loop-n
-invariant-loop-n l = ?
-
 abbrev pub decreases-loop-n : goal.decreases-loop-n
-decreases-loop-n l = ?
+decreases-loop-n l = 2 ^ 48 - offset_of l.state
