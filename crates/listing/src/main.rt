@@ -3,7 +3,7 @@
 // all the same.
 #![tactic(auto)]
 
-ghost use Rattle.std.specs.Prelude.{◌≡◌, false, ◌+◌, ◌≤◌, length, IfOk};
+ghost use Rattle.std.specs.Prelude.{◌≡◌, false, ◌+◌, ◌≤◌, length, IfOk, OnErr};
 ghost use Rattle.player.specs.Feeding.{feed_code, offset_of};
 
 use numbers::TABLE_ENTRIES;
@@ -34,8 +34,10 @@ fn list_fragment<W: Write>(
     requires { (64 ≤ length out.old)
         × ((length ids.old ≡ 2048)
         × ((length lens.old ≡ 2048) × ((s.over ≡ false) × (feed_code s ids.old lens.old ≡ 0)))) }
-    ensures { IfOk result (λ next. (feed_code next ids.new lens.new ≡ 0)
+    ensures played { IfOk result (λ next. (feed_code next ids.new lens.new ≡ 0)
         × (next.over ≡ false → offset_of next ≡ offset_of s + length fragment.now)) }
+    ensures failed { OnErr result ((length ids.new ≡ 2048)
+        × ((length lens.new ≡ 2048) × (length out.new ≡ length out.old))) }
 {
     let mut state = s;
     let mut taken: usize = 0;

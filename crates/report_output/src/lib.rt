@@ -1,7 +1,7 @@
 // A report as it is written, for the programs that report on a log.
 #![tactic(auto)]
 
-ghost use Rattle.std.specs.Prelude.{◌≡◌, true, false, ◌+◌, ◌^◌, ◌≤◌, ◌<◌, length, IfOk};
+ghost use Rattle.std.specs.Prelude.{◌≡◌, true, false, ◌+◌, ◌^◌, ◌≤◌, ◌<◌, length, IfOk, OnErr};
 ghost use Rattle.report_play.specs.Playing.{offset_of};
 
 use numbers::codes;
@@ -27,7 +27,7 @@ fn goes_on(code: u8, over: bool) -> bool
 }
 
 // Feeds a fragment to a report, and writes what there is to write of it. A write that fails ends it, so that what was
-// written is always the report's beginning.
+// written is always the report's beginning; its error is the only one, and the tables and the buffer keep their lengths.
 pub fn write_fragment<W: Write>(
     report: &mut W,
     fragment: &[u8],
@@ -37,8 +37,10 @@ pub fn write_fragment<W: Write>(
     s: State,
 ) -> io::Result<Fed>
     requires { 128 ≤ length out.old }
-    ensures { IfOk result (λ fed. fed.goes ≡ true → 0 < length fragment.now
+    ensures fed { IfOk result (λ fed. fed.goes ≡ true → 0 < length fragment.now
         → (offset_of fed.state ≡ offset_of s + length fragment.now) × (offset_of fed.state ≤ 2 ^ 48)) }
+    ensures failed { OnErr result ((length ids.new ≡ length ids.old)
+        × ((length lens.new ≡ length lens.old) × (length out.new ≡ length out.old))) }
 {
     let mut state = s;
     let mut taken: usize = 0;
@@ -62,7 +64,8 @@ pub fn write_fragment<W: Write>(
     })
 }
 
-// Writes what is left of a report where its log has ended, a piece at a time.
+// Writes what is left of a report where its log has ended, a piece at a time. The error of a write that fails is the
+// only one.
 pub fn write_end<W: Write>(
     report: &mut W,
     ids: &[u32],
@@ -71,6 +74,7 @@ pub fn write_end<W: Write>(
     s: State,
 ) -> io::Result<()>
     requires { 128 ≤ length out.old }
+    ensures { OnErr result (length out.new ≡ length out.old) }
 {
     let mut state = s;
     loop {

@@ -4,7 +4,7 @@ use Rattle.std.proofs.Common.{arith, sym, ◌∙◌, ◌≡◌, ℕ, List, ◌-�
 use Rattle.std.proofs.lemmas.Bool.{true≢false}
 use Rattle.std.proofs.lemmas.List.{length-drop}
 use Rattle.std.proofs.Math.Seq.{length-take-le}
-use Rattle.player.proofs.Ends.{feed_fits, feed_next}
+use Rattle.player.proofs.Ends.{feed_next}
 use Rattle.listing.proofs.list_fragment.Goals as goal
 
 part_length : (fragment : List ℕ) (taken : ℕ)
@@ -15,8 +15,8 @@ part_length fragment taken =
 pub loop-taken-init : goal.loop-taken-init
 loop-taken-init g c = (omega arith, (c.requires.1.1.1.0, (c.requires.1.1.1.1, omega arith)))
 
-pub returns-then-next : goal.returns-then-next
-returns-then-next g c =
+pub returns-then-next-clause-played : goal.returns-then-next-clause-played
+returns-then-next-clause-played g c =
     let done = feed_next _ _ _ _ _ _ _ _ _ c.feed-piece.ensures c.loop-taken.invariant.1.1.0 in
     (done.goes_on, λ e. absurd (true≢false (sym c.if-next.true ∙ e)))
 
@@ -39,8 +39,8 @@ loop-taken-preserved g c =
       ),
     )
 
-pub returns : goal.returns
-returns g c = (
+pub returns-clause-played : goal.returns-clause-played
+returns-clause-played g c = (
   c.loop-taken.invariant.1.1.0,
   λ e. omega (arith, c.loop-taken.invariant.0, c.loop-taken.invariant.1.1.1, c.loop-taken-test.false),
 )

@@ -1,8 +1,8 @@
 -- `listing::list_log` is safe and ends. From fragment to fragment the state is not refused, and its offset rises, which
 -- is at most 2^48.
-use Rattle.std.proofs.Common.{◌≡◌, false, ℕ, ◌≤◌, ◌^◌, ◌+◌, take, List, length, rules, arith, refl, sym, ◌∙◌, replicate}
+use Rattle.std.proofs.Common.{◌≡◌, false, ◌+◌, take, length, rules, arith, refl, ◌∙◌, replicate}
 use Rattle.player.proofs.Ends.{before_first_ready, code_low}
-use Rattle.player.specs.Feeding.{before_first, feed_code, offset_of}
+use Rattle.player.specs.Feeding.{feed_code, offset_of}
 use Rattle.listing.proofs.list_log.Goals as goal
 
 pub loop-n-init : goal.loop-n-init
