@@ -208,7 +208,8 @@ fn stage_of(mark: u8) -> Stage
     Stage::AfterL
 }
 
-// The player's state; every value of a feeder is one.
+// The player's state; every value of a feeder is one. It is kept apart, since its caller then holds less on the stack.
+#[inline(never)]
 fn state_of(f: Feeder) -> State
     ensures { result ≡ state_of f }
 {

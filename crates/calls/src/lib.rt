@@ -35,8 +35,10 @@ pub struct Bursted {
 }
 
 // ---- The calls on a board that is known to be good and isn't tested again
+// Most are kept apart from the call, so that what they hold on the stack is not there while the board is tested.
 
 // A record comes for the block with this number.
+#[inline(never)]
 fn take_record(
     ids: &mut [u32],
     lens: &mut [u16],
@@ -89,6 +91,7 @@ fn take_record(
 }
 
 // The block with the old number takes the new one.
+#[inline(never)]
 fn rename_block(ids: &[u32], lens: &[u16], old: u32, new: u32, b: Board) -> Reply
     requires { Known b ids.now lens.now }
     ensures { returned result ids.now lens.now
@@ -105,6 +108,7 @@ fn rename_block(ids: &[u32], lens: &[u16], old: u32, new: u32, b: Board) -> Repl
 }
 
 // A block opens, with the number and the share that it is given.
+#[inline(never)]
 fn open_block(ids: &[u32], lens: &[u16], opening: Opening, b: Board) -> Reply
     requires { Known b ids.now lens.now }
     ensures { returned result ids.now lens.now
@@ -124,6 +128,7 @@ fn open_block(ids: &[u32], lens: &[u16], opening: Opening, b: Board) -> Reply
 }
 
 // The block with this number closes.
+#[inline(never)]
 fn close_block(ids: &[u32], lens: &[u16], block: u32, b: Board) -> Reply
     requires { Known b ids.now lens.now }
     ensures { returned result ids.now lens.now
@@ -218,6 +223,7 @@ fn serve_board(ids: &[u32], lens: &[u16], b: Board) -> Served
 }
 
 // Serves as long as the next record is no longer than what remains of the bytes and the list has room.
+#[inline(never)]
 fn burst_board(bytes: Bytes, list: &mut [u32], ids: &[u32], lens: &[u16], b: Board) -> Bursted
     requires { Known b ids.now lens.now }
     ensures { burst_now result list.new
