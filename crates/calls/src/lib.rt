@@ -242,7 +242,7 @@ fn burst_board(bytes: Bytes, list: &mut [u32], ids: &[u32], lens: &[u16], b: Boa
     let mut now = board::numbers_of(b);
     let mut count: usize = 0;
     let mut total = Bytes(0);
-    loop {
+    'rounds: loop {
         let left = now.left;
         let s = serving::serve_within(
             Bytes(bytes.0 - total.0),

@@ -7,8 +7,8 @@ use Rattle.calls.specs.Contract.{good_burst}
 use Rattle.calls.proofs.Promises.{burst_from}
 use Rattle.calls.proofs.burst_board.Given as goal
 
-abbrev pub invariant-loop-bytes : goal.invariant-loop-bytes
-invariant-loop-bytes l =
+abbrev pub invariant-rounds : goal.invariant-rounds
+invariant-rounds l =
     let board = with_engine l.b (engine_now l.starts l.counts l.deficits l.ready l.next l.heads l.tails l.held l.now) in
     (l.count ≤ length l.initial.list)
     × ((length l.list ≡ length l.initial.list)
@@ -17,5 +17,5 @@ invariant-loop-bytes l =
     × (good_burst l.b l.ids l.lens l.bytes.0 l.initial.list
     ≡ burst_from board l.ids l.lens l.bytes.0 l.count l.total.0 l.list))))
 
-abbrev pub decreases-loop-bytes : goal.decreases-loop-bytes
-decreases-loop-bytes l = length l.initial.list - l.count
+abbrev pub decreases-rounds : goal.decreases-rounds
+decreases-rounds l = length l.initial.list - l.count
