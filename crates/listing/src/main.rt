@@ -5,6 +5,7 @@
 
 ghost use Rattle.std.specs.Prelude.{◌≡◌, false, ◌+◌, ◌≤◌, length, IfOk, OnErr};
 ghost use Rattle.player.specs.Feeding.{feed_code, offset_of};
+ghost use Rattle.player.specs.declared.State.{State};
 
 use numbers::TABLE_ENTRIES;
 use player::State;
@@ -22,7 +23,7 @@ enum Failure {
 }
 
 // Writes the lines of a fragment, a full buffer at a time, and answers the state behind it. A write that fails ends it,
-// so that what was written is always the listing's beginning.
+// so that what was written is always the listing's beginning; then the tables fit the state of the piece that failed.
 fn list_fragment<W: Write>(
     listing: &mut W,
     fragment: &[u8],
@@ -36,8 +37,7 @@ fn list_fragment<W: Write>(
         × ((length lens.old ≡ 2048) × ((s.over ≡ false) × (feed_code s ids.old lens.old ≡ 0)))) }
     ensures played { IfOk result (λ next. (feed_code next ids.new lens.new ≡ 0)
         × (next.over ≡ false → offset_of next ≡ offset_of s + length fragment.now)) }
-    ensures failed { OnErr result ((length ids.new ≡ 2048)
-        × ((length lens.new ≡ 2048) × (length out.new ≡ length out.old))) }
+    ensures failed { OnErr result ((there : State) × (feed_code there ids.new lens.new ≡ 0)) }
 {
     let mut state = s;
     let mut taken: usize = 0;
