@@ -27,7 +27,7 @@ fn goes_on(code: u8, over: bool) -> bool
 }
 
 // Feeds a fragment to a report, and writes what there is to write of it. A write that fails ends it, so that what was
-// written is always the report's beginning; its error is the only one, and the tables and the buffer keep their lengths.
+// written is always the report's beginning; its error is the only one, and tables and buffer keep their lengths.
 pub fn write_fragment<W: Write>(
     report: &mut W,
     fragment: &[u8],
