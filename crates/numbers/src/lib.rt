@@ -1,8 +1,9 @@
-// The numbers of document 01 by name, and the codes in a file of their own; no code, so that all code can stand on it.
+// The numbers of document 01 by name, and the codes in a file of their own.
 // A name means one thing, in the width of what it is held against; a number that means two things has two names.
 #![tactic(auto)]
 
 pub mod codes;
+pub mod refusal;
 
 // Places for blocks.
 pub const PLACES: usize = 64;

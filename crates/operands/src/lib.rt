@@ -1,4 +1,4 @@
-// What a call is given.
+// What a call is given, and what it tells of a fragment.
 #![tactic(auto)]
 
 // What an opening is given: the block's number and its share.
@@ -6,4 +6,13 @@
 pub struct Opening {
     pub number: u32,
     pub share: u32,
+}
+
+// What a call did with a fragment of a log: how many bytes of it were taken, and how many were written. C is told it as
+// it stands here.
+#[repr(C)]
+#[derive(Clone, Copy)]
+pub struct Fed {
+    pub taken: usize,
+    pub used: usize,
 }
