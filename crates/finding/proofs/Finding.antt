@@ -3,12 +3,13 @@
 use mathlib.Core.Path.{◌≡◌, refl, sym, ap, ap₂, subst, ◌∙◌}
 use mathlib.Core.Bool.{Bool, true, false, not, cond, ◌&&◌, ◌||◌, true≢false}
 use mathlib.Core.Logic.{◌⊎◌, inl, inr, ◌≢◌}
-use mathlib.Core.List.{List}
-use Prim.Native.Nat.{ℕ, zero, suc, ◌≤◌, ◌<◌}
+use mathlib.Core.List.{List, [], ◌∷◌}
+use Prim.Native.Nat.{ℕ, zero, suc, ◌+◌, ◌≤◌, ◌<◌}
+use native.Mathlib.Nat.{add-zero, zero-add}
 use native.Mathlib.Omega.{arith}
 use native.Mathlib.Decide.{ℕ_discrete}
 use lib.Dec.{eqb, leb, ltb}
-use lib.ListN.{get_or}
+use lib.ListN.{length, get_or}
 use borrow.Author.Tests.{eq-eqb, ne_eqb}
 use Rattle.base.specs.Tests.{least}
 use Rattle.base.proofs.Numbers.{split, leb_yes, leb_no, true_le, eqb_true}
@@ -21,9 +22,9 @@ use Rattle.rules.proofs.Cases.{not_zero, or_left, or_right, where_has}
 use Rattle.rules.proofs.Shape.{named_num}
 use Rattle.rules.proofs.Tidy.{Tidy}
 use Rattle.board.specs.Reading.{encode}
-use Rattle.finding.specs.declared.Found.{Found}
-use Rattle.finding.specs.declared.Found.TheVariants.{OpenAt, Unknown}
-use Rattle.finding.specs.Finding.{place_with, found_at, found_in, by_found, lowest_free}
+use Rattle.std.specs.Prelude.{Option, Some, None}
+use Rattle.std.specs.List.{position_from}
+use Rattle.finding.specs.Finding.{place_with, found_at, place_at, found_in, by_found, lowest_free}
 use Rattle.board.proofs.Fields.{number_is}
 
 place_le : (numbers : List ℕ) (n : ℕ) → place_with numbers n ≤ 64
@@ -42,18 +43,34 @@ not_64 i h ne = go (split 64 i)
     go (inl k) = absurd (ne (omega arith))
     go (inr k) = k
 
-pub free_in : (numbers : List ℕ) (i : ℕ) → i ≡ lowest_free numbers → i ≢ 64 → i < 64
+-- a variant's place
+some_place : (i j : ℕ) → Some i ≡ Some j → i ≡ j
+some_place i j e = cc
+
+none_not : (j : ℕ) → None ≡ Some j → ⊥
+none_not j e = let z : ◌≡◌ {A = ℕ} 1 0 = cc in omega arith
+
+-- a place that is found among the 64 is one of them
+placed : (p i : ℕ) → p ≤ 64 → place_at p ≡ Some i → (i ≡ p) × (i < 64)
+placed p i h e = go (ℕ_discrete p 64) e
+  where
+    go : Dec (p ≡ 64) → place_at p ≡ Some i → (i ≡ p) × (i < 64)
+    go (yes z) f = absurd (none_not i (rw (eq-eqb p 64 z) at f))
+    go (no ne) f = let same = some_place p i (rw (ne_eqb p 64 ne) at f) in (sym same, omega (arith, same, not_64 p h ne))
+
+pub free_in : (numbers : List ℕ) (i : ℕ) → place_at (lowest_free numbers) ≡ Some i → (i ≡ lowest_free numbers) × (i < 64)
 unfolding lowest_free
-free_in numbers i e ne = not_64 i (omega (arith, place_le numbers 0)) ne
+free_in numbers i e = placed (place_with numbers 0) i (place_le numbers 0) e
+
+pub free_none : (numbers : List ℕ) → place_at (lowest_free numbers) ≡ None → lowest_free numbers ≡ 64
+unfolding lowest_free
+free_none numbers e = go (ℕ_discrete (place_with numbers 0) 64) e
+  where
+    go : Dec (place_with numbers 0 ≡ 64) → place_at (place_with numbers 0) ≡ None → place_with numbers 0 ≡ 64
+    go (yes z) f = z
+    go (no ne) f = absurd (none_not (place_with numbers 0) (sym (rw (ne_eqb (place_with numbers 0) 64 ne) at f)))
 
 -- ---- what is found
-
--- a variant's place
-open_place : (i j : ℕ) → OpenAt i ≡ OpenAt j → i ≡ j
-open_place i j e = cc
-
-unknown_not : (j : ℕ) → Unknown ≡ OpenAt j → ⊥
-unknown_not j e = let z : ◌≡◌ {A = ℕ} 1 0 = cc in omega arith
 
 named_at : (numbers : List ℕ) (n : ℕ) → place_with numbers n < 64 → get_or numbers (place_with numbers n) 0 ≡ n
 unfolding place_with
@@ -67,14 +84,14 @@ pub record FoundAt (numbers : List ℕ) (n i : ℕ) : Type 0 where
   pub number : n ≢ 0
   pub named : get_or numbers i 0 ≡ n
 
-pub found_at_lem : (numbers : List ℕ) (n i : ℕ) → found_in numbers n ≡ OpenAt i → FoundAt numbers n i
+pub found_at_lem : (numbers : List ℕ) (n i : ℕ) → found_in numbers n ≡ Some i → FoundAt numbers n i
 unfolding found_in
 found_at_lem numbers n i e = go (eqb n 0 || eqb (place_with numbers n) 64) refl e
   where
-    go : (t : Bool) → eqb n 0 || eqb (place_with numbers n) 64 ≡ t → found_at (not t) (place_with numbers n) ≡ OpenAt i
+    go : (t : Bool) → eqb n 0 || eqb (place_with numbers n) 64 ≡ t → found_at (not t) (place_with numbers n) ≡ Some i
         → FoundAt numbers n i
-    go true q f = absurd (unknown_not i f)
-    go false q f = subst (FoundAt numbers n) (open_place (place_with numbers n) i f) (record {
+    go true q f = absurd (none_not i f)
+    go false q f = subst (FoundAt numbers n) (some_place (place_with numbers n) i f) (record {
       inside = inside;
       number = not_zeroth n (eqb (place_with numbers n) 64) q;
       named = named_at numbers n inside;
@@ -85,25 +102,54 @@ found_at_lem numbers n i e = go (eqb n 0 || eqb (place_with numbers n) 64) refl 
             (λ z. true≢false (sym (eq-eqb (place_with numbers n) 64 z) ∙ or_right (eqb n 0) _ q))
 
 -- it has a share
-pub found_bought : (numbers shares : List ℕ) (n i : ℕ) → found_in numbers n ≡ OpenAt i
+pub found_bought : (numbers shares : List ℕ) (n i : ℕ) → found_in numbers n ≡ Some i
     → ((j : ℕ) → 1 ≤ get_or numbers j 0 → 1 ≤ get_or shares j 0) → 1 ≤ get_or shares i 0
 found_bought numbers shares n i e low =
     let f = found_at_lem numbers n i e in
     low i (rw f.named (not_zero n (ne_eqb n 0 f.number)))
 
--- what find answers, by its tests
-pub find_none : (numbers : List ℕ) (n : ℕ) → n ≡ 0 → Unknown ≡ found_in numbers n
+-- ---- the first place with a number is the first at which the test passes
+
+not_at_end : (later : ℕ) (xs : List ℕ) → eqb (suc later) (suc (length xs)) ≡ eqb later (length xs)
+not_at_end later xs = go (ℕ_discrete later (length xs))
+  where
+    go : Dec (later ≡ length xs) → eqb (suc later) (suc (length xs)) ≡ eqb later (length xs)
+    go (yes e) = eq-eqb (suc later) (suc (length xs)) (ap suc e) ∙ sym (eq-eqb later (length xs) e)
+    go (no e) = ne_eqb (suc later) (suc (length xs)) (λ f. e (omega arith)) ∙ sym (ne_eqb later (length xs) e)
+
+abbrev has : List ℕ → ℕ → ℕ → Bool
+has xs n j = eqb (get_or xs j 0) n
+
+first_from : (n i : ℕ) (xs : List ℕ)
+    → position_from (λ (x : ℕ). eqb x n) i xs ≡ found_at (not (eqb (least (has xs n) (length xs)) (length xs))) (i + least (has xs n) (length xs))
+unfolding least
+first_from n i [] = refl
+first_from n i (x ∷ xs) = go (eqb x n) refl (first_from n (i + 1) xs)
+  where
+    later : ℕ
+    later = least (has xs n) (length xs)
+
+    go : (t : Bool) → eqb x n ≡ t
+        → position_from (λ (y : ℕ). eqb y n) (i + 1) xs ≡ found_at (not (eqb later (length xs))) (i + 1 + later)
+        → cond t (Some i) (position_from (λ (y : ℕ). eqb y n) (i + 1) xs)
+        ≡ found_at (not (eqb (cond t 0 (suc later)) (suc (length xs)))) (i + cond t 0 (suc later))
+    go true e on = rw (ne_eqb 0 (suc (length xs)) (λ z. omega arith), add-zero i)
+    go false e on = let moved : i + 1 + later ≡ i + suc later = omega arith in on ∙ rw (not_at_end later xs, moved)
+
+pub first_place : (n : ℕ) (numbers : List ℕ) → length numbers ≡ 64
+    → position_from (λ (x : ℕ). eqb x n) 0 numbers ≡ place_at (place_with numbers n)
+unfolding place_with
+first_place n numbers e =
+    first_from n 0 numbers ∙ rw e (ap (found_at (not (eqb (least (has numbers n) 64) 64))) (zero-add (least (has numbers n) 64)))
+
+-- what find answers, by its test
+pub find_none : (numbers : List ℕ) (n : ℕ) → n ≡ 0 → None ≡ found_in numbers n
 unfolding found_in
 find_none numbers n e = rw (eq-eqb n 0 e)
 
-module _ (numbers : List ℕ) (n i : ℕ) (ne : n ≢ 0) (i-is : i ≡ place_with numbers n) where
-  pub find_unknown : i ≡ 64 → Unknown ≡ found_in numbers n
-  unfolding found_in
-  find_unknown e = rw (ne_eqb n 0 ne, ← i-is, eq-eqb i 64 e)
-
-  pub find_open : i ≢ 64 → OpenAt i ≡ found_in numbers n
-  unfolding found_in
-  find_open e = rw (ne_eqb n 0 ne, ← i-is, ne_eqb i 64 e)
+pub find_first : (numbers : List ℕ) (n : ℕ) → n ≢ 0 → place_at (place_with numbers n) ≡ found_in numbers n
+unfolding found_in
+find_first numbers n ne = rw (ne_eqb n 0 ne)
 
 -- ---- the rules
 
@@ -179,7 +225,7 @@ module _ (m : Board.Board) (g : Tidy m) where
       → left isUnknown ≡ came (refuse m 6) → (where_is m n < 64 → left (is_open (where_is m n)) ≡ came u)
       → left (by_found (found_in (encode m).numbers n) is_open isUnknown) ≡ came (cond (none_has m n) (refuse m 6) u)
   known_by left came n is_open isUnknown u stopped later =
-      ap (λ (x : Found). left (by_found x is_open isUnknown)) (found_is m g n) ∙ go (some_has m n) refl
+      ap (λ (x : Option ℕ). left (by_found x is_open isUnknown)) (found_is m g n) ∙ go (some_has m n) refl
     where
       go : (t : Bool) → some_has m n ≡ t
           → left (by_found (found_at t (where_is m n)) is_open isUnknown) ≡ came (cond (not t) (refuse m 6) u)
@@ -191,7 +237,7 @@ module _ (m : Board.Board) (g : Tidy m) where
       → left (is_open (where_is m n)) ≡ came (refuse m 5) → left isUnknown ≡ came u
       → left (by_found (found_in (encode m).numbers n) is_open isUnknown) ≡ came (cond (some_has m n) (refuse m 5) u)
   unknown_by left came n is_open isUnknown u stopped later =
-      ap (λ (x : Found). left (by_found x is_open isUnknown)) (found_is m g n) ∙ go (some_has m n)
+      ap (λ (x : Option ℕ). left (by_found x is_open isUnknown)) (found_is m g n) ∙ go (some_has m n)
     where
       go : (t : Bool) → left (by_found (found_at t (where_is m n)) is_open isUnknown) ≡ came (cond t (refuse m 5) u)
       go true = stopped

@@ -3,48 +3,31 @@
 #![tactic(auto)]
 
 ghost use Rattle.std.specs.Prelude.{◌≡◌, ◌||◌, ◌+◌, ◌-◌, ◌<◌, eqb, ltb};
-ghost use Rattle.finding.specs.Finding.{place_with, found_in, lowest_free};
+ghost use Rattle.finding.specs.Finding.{place_at, found_in, lowest_free};
+ghost use Rattle.std.specs.List.{position_from};
 
-use numbers::{NO_BLOCK, NO_PLACE, PLACES};
+use numbers::{NO_BLOCK, PLACES};
 
-// What is known of a number: an open block has it, at this place; or it is unknown.
-#[derive(Clone, Copy)]
-pub enum Found {
-    OpenAt(usize),
-    Unknown,
-}
-
-// The first place with this number, or NO_PLACE.
-fn place_with(numbers: &[u32; PLACES], number: u32) -> usize
-    ensures { result ≡ place_with numbers.now number }
+// The first place with this number.
+fn place_with(numbers: &[u32; PLACES], number: u32) -> Option<usize>
+    ensures { result ≡ position_from (λ n. eqb n number) 0 numbers.now }
 {
-    let mut i: usize = 0;
-    while i < PLACES {
-        if numbers[i] == number {
-            return i;
-        }
-        i += 1;
-    }
-    i
+    numbers.iter().position(|&n| n == number)
 }
 
 // The open block with this number. A free place has NO_BLOCK, which is no block's number.
-pub fn find(numbers: &[u32; PLACES], number: u32) -> Found
+pub fn find(numbers: &[u32; PLACES], number: u32) -> Option<usize>
     ensures { result ≡ found_in numbers.now number }
 {
     if number == NO_BLOCK {
-        return Found::Unknown;
+        return None;
     }
-    let i = place_with(numbers, number);
-    if i == NO_PLACE {
-        return Found::Unknown;
-    }
-    Found::OpenAt(i)
+    place_with(numbers, number)
 }
 
-// The lowest free place, or NO_PLACE where all are taken.
-pub fn lowest_free(numbers: &[u32; PLACES]) -> usize
-    ensures { result ≡ lowest_free numbers.now }
+// The lowest free place; there is none where all are taken.
+pub fn lowest_free(numbers: &[u32; PLACES]) -> Option<usize>
+    ensures { result ≡ place_at (lowest_free numbers.now) }
 {
     place_with(numbers, NO_BLOCK)
 }
@@ -53,11 +36,5 @@ pub fn lowest_free(numbers: &[u32; PLACES]) -> usize
 pub fn outside(number: u32, amount: u32, most: u32) -> bool
     ensures { result ≡ eqb number 0 || (eqb amount 0 || ltb most amount) }
 {
-    if number == NO_BLOCK {
-        return true;
-    }
-    if amount == 0 {
-        return true;
-    }
-    most < amount
+    number == NO_BLOCK || amount == 0 || most < amount
 }

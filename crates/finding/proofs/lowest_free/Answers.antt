@@ -1,9 +1,10 @@
--- `finding::lowest_free` meets its contract: by definition the lowest free place is the first one with the number 0.
+-- `finding::lowest_free` meets its contract: the lowest free place is the first one with the number 0 (first_place).
 -- Assumes nothing.
+use mathlib.Core.Path.{◌∙◌}
+use Rattle.finding.proofs.Finding.{first_place}
 use Rattle.finding.specs.Finding.{lowest_free}
-use borrow.Author.Rules.{rules}
 use Rattle.finding.proofs.lowest_free.Goals as goal
 
 pub returns : goal.returns
 unfolding lowest_free
-returns c = c.place_with.ensures
+returns c = c.place_with.ensures ∙ first_place _ _ c.told-numbers
