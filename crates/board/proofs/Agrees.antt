@@ -8,9 +8,8 @@ use Rattle.rules.specs.Board
 use Rattle.rules.specs.Choice.{Turn, refuse}
 use Rattle.rules.specs.Calls.{Single, one, told, writes, done! }
 use Rattle.board.specs.declared.Board as struct
-use Rattle.board.specs.declared.Reply.{Reply}
 use Rattle.board.specs.Reading.{encode, view}
-use Rattle.board.specs.Leaving.{Returned, written, Known, ruled}
+use Rattle.board.specs.Leaving.{Reply, Returned, written, Known, ruled}
 
 -- what a turn of the rules leaves in memory
 abbrev pub turned : struct.Board → List ℕ → List ℕ → Board.Board → Single → Turn → Returned Reply

@@ -2,6 +2,7 @@
 pub mod Lists
 pub mod Rings
 pub mod Walks
+pub mod Parts
 pub mod Same
 pub mod Reading
 pub mod Moves

@@ -26,8 +26,7 @@ use Rattle.board.specs.Reading.{lane_of, encode, view, Holds}
 use Rattle.board.proofs.Rings.{lane_by, lane_put, lane_away, entry_apart, empty_lane}
 use Rattle.board.proofs.Reading.{Fit, view_encode}
 use Rattle.board.proofs.Sound.{sound_encode, fit_view, holds_view}
-use Rattle.board.specs.declared.Reply.{Reply}
-use Rattle.board.specs.Leaving.{Returned, returned, NoSecondAnswer, replied, Known, ruled}
+use Rattle.board.specs.Leaving.{Reply, Returned, returned, NoSecondAnswer, replied, Known, ruled}
 use Rattle.board.proofs.Agrees.{turned}
 
 -- ---- THE TABLES HOLD THE LANES after it

@@ -8,7 +8,6 @@ use Rattle.rules.specs.Calls.{Single, one, Answer, gives, takes, sends, bursts, 
 use Rattle.rules.specs.Calls.{one_set}
 use Rattle.rules.specs.Calls.{Outcome, done! }
 use Rattle.board.specs.declared.Board as struct
-use Rattle.board.specs.declared.Reply.{Reply}
 use Rattle.board.specs.Reading.{encode, view, Sound}
 
 -- what a call gives back to its caller: its reply, and both tables
@@ -25,6 +24,11 @@ abbrev pub NoSecondAnswer : Type 0 → Type 0
 NoSecondAnswer A =
     (promised : Returned A) (r s : A) (ids lens ids' lens' : List ℕ)
     → returned r ids lens ≡ promised → returned s ids' lens' ≡ promised → (r ≡ s) × (ids ≡ ids') × (lens ≡ lens')
+
+-- what a single call replies: its code, and the board
+pub record Reply : Type 0 where
+  pub code : ℕ
+  pub board : struct.Board
 
 abbrev pub replied : (code : ℕ) → struct.Board → Reply
 replied code b = record { code = code; board = b }

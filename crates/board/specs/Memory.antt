@@ -3,7 +3,15 @@
 -- the spelling of a board (Reading).
 use Rattle.std.specs.Prelude.{List, ℕ}
 use Rattle.board.specs.declared.Board.{Board}
-use Rattle.board.specs.declared.After.{After}
+use Rattle.units.specs.declared.Parts.{Parts}
+
+-- the numbers that serving changes
+pub record After : Type 0 where
+  pub clock : ℕ
+  pub active : ℕ
+  pub pending : ℕ
+  pub slot : ℕ
+  pub left : Parts
 
 abbrev pub numbers_now : (clock active pending slot left : ℕ) → After
 numbers_now clock active pending slot left =
@@ -79,6 +87,9 @@ abbrev pub queues_now : (deficits ready next heads tails held : List ℕ) → Qu
 queues_now deficits ready next heads tails held =
     record { deficits = deficits; ready = ready; next = next; heads = heads; tails = tails; held = held }
 
+abbrev pub queues_of : Board → Queues
+queues_of b = queues_now b.deficits b.ready b.next b.heads b.tails b.held
+
 -- all its arrays, and its numbers
 pub record Engine : Type 0 where
   pub starts : List ℕ
@@ -131,6 +142,13 @@ with_taking b t =
     let now = numbers_now b.clock o.active b.pending b.slot b.left.0 in
     with_engine b (engine_now b.starts t.counts b.deficits o.ready o.next o.heads o.tails
     b.held now)
+
+-- the orders of a board, and a board with these alone changed
+abbrev pub orders_of : Board → Orders
+orders_of b = (taking_of b).orders
+
+abbrev pub with_orders : Board → Orders → Board
+with_orders b o = with_taking b (taking b.counts o)
 
 -- what it sees and leaves as it is
 pub record Seen : Type 0 where
