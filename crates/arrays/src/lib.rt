@@ -1,34 +1,50 @@
-// Arrays of any length, lent: the sum of one, and one set to zeros.
+// Arrays of any length, lent: the sum of one.
 #![tactic(auto)]
 
-ghost use Rattle.std.specs.Prelude.{◌≡◌, ◌*◌, ◌^◌, ◌≤◌, length};
+ghost use Rattle.std.specs.Prelude.{◌≡◌, ℕ, ◌*◌, ◌^◌, ◌<◌, ◌≤◌, length, map};
 ghost use Rattle.arrays.specs.Lists.{total_of, zeroed};
 
-// The sum of an array's numbers; of 2^31 and fewer it fits.
-pub fn sum(row: &[u32]) -> u64
-    requires { length row.now ≤ 2 ^ 31 }
-    ensures { (result ≡ total_of row.now)
-        × (result ≤ length row.now * 2 ^ 32) }
-{
-    let mut sum: u64 = 0;
-    let mut i: usize = 0;
-    while i < row.len() {
-        sum += row[i] as u64;
-        i += 1;
-    }
-    sum
+// A number below a limit, whatever its width: a bound `Into<u64>` would say nothing of its value.
+pub trait Word: Copy {
+    ghost value: { Self → ℕ };
+
+    ghost limit: { ℕ };
+
+    // The same number in the widest type.
+    fn wide(self) -> u64
+        ensures value { result ≡ value self }
+        ensures limited { result < limit };
 }
 
-// The same of short numbers; of 65,535 and fewer it fits.
-pub fn sum_shorts(row: &[u16]) -> u32
-    requires { length row.now ≤ 65535 }
-    ensures { result ≡ total_of row.now }
+impl Word for u32 {
+    ghost value = { λ n. n };
+
+    ghost limit = { 2 ^ 32 };
+
+    fn wide(self) -> u64 {
+        u64::from(self)
+    }
+}
+
+impl Word for u16 {
+    ghost value = { λ n. n };
+
+    ghost limit = { 2 ^ 16 };
+
+    fn wide(self) -> u64 {
+        u64::from(self)
+    }
+}
+
+// The sum of an array's numbers, where so many of them fit.
+pub fn sum<T: Word>(row: &[T]) -> u64
+    requires { length row.now * T.limit < 2 ^ 64 }
+    ensures total { result ≡ total_of (map T.value row.now) }
+    ensures limited { result ≤ length row.now * T.limit }
 {
-    let mut sum: u32 = 0;
-    let mut i: usize = 0;
-    while i < row.len() {
-        sum += row[i] as u32;
-        i += 1;
+    let mut sum = 0;
+    for n in row {
+        sum += n.wide();
     }
     sum
 }
@@ -37,20 +53,12 @@ pub fn sum_shorts(row: &[u16]) -> u32
 pub fn clear_words(row: &mut [u32])
     ensures { row.new ≡ zeroed row.old }
 {
-    let mut i: usize = 0;
-    while i < row.len() {
-        row[i] = 0;
-        i += 1;
-    }
+    row.fill(0);
 }
 
 // The same of shorter numbers.
 pub fn clear_shorts(row: &mut [u16])
     ensures { row.new ≡ zeroed row.old }
 {
-    let mut i: usize = 0;
-    while i < row.len() {
-        row[i] = 0;
-        i += 1;
-    }
+    row.fill(0);
 }

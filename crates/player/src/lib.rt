@@ -48,7 +48,7 @@ pub struct Piece {
 fn waiting(counts: &[u16; PLACES]) -> u32
     ensures { result ≡ total_of counts.now }
 {
-    arrays::sum_shorts(counts)
+    arrays::sum(counts) as u32
 }
 
 // Whether a call may go on from a state: TABLE_LENGTH for the tables, SPOILT for an offset, kept bytes, a sum or a

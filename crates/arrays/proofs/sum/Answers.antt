@@ -1,28 +1,15 @@
--- `arrays::sum` meets its contract: the loop keeps the sum of the first i numbers, which is i x 2^32 at most (Summed).
--- Assumes nothing.
-use Rattle.arrays.proofs.Loops.{summed_none, summed_more, summed_all}
+-- `arrays::sum` meets its contract: the loop keeps the sum of the first numbers (Summed). Assumes nothing.
 use native.Mathlib.Omega.{arith}
+use Rattle.arrays.proofs.Loops.{summed_none, summed_more, summed_all}
 use Rattle.arrays.proofs.sum.Goals as goal
 
-pub loop-i-init : goal.loop-i-init
-loop-i-init c = summed_none _ _
+pub loop-n-init : goal.loop-n-init
+loop-n-init g c = summed_none _ _
 
-pub overflow_cast-sum : goal.overflow_cast-sum
-overflow_cast-sum c =
-    let at-loop = c.before.before in
-    omega (arith, c.shared_slice_known-1.given at-loop.loop-i.i)
+pub loop-n-preserved : goal.loop-n-preserved
+loop-n-preserved g c =
+    rw (c.wide-sum.ensures.value)
+    (summed_more _ _ _ _ _ c.n-item.result c.loop-n.invariant c.loop-n-test.true c.n-item.is (omega arith))
 
-pub overflow_add-sum : goal.overflow_add-sum
-overflow_add-sum c =
-    let at-loop = c.before.before in
-    omega (arith, c.shared_slice_known-1.given at-loop.loop-i.i, at-loop.loop-i.invariant.fits)
-
-pub loop-i-preserved : goal.loop-i-preserved
-loop-i-preserved c =
-    let at-loop = c.before.before in
-    summed_more _ _ _ _ at-loop.loop-i.invariant (omega arith) (omega (arith, c.shared_slice_known-1.given at-loop.loop-i.i))
-
-pub returns : goal.returns
-returns c =
-    let at-loop = c.before in
-    (summed_all _ _ _ _ at-loop.loop-i.invariant (omega arith), omega (arith, at-loop.loop-i.invariant.fits, at-loop.loop-i.invariant.inside))
+pub returns-clause-total : goal.returns-clause-total
+returns-clause-total g c = summed_all _ _ _ _ _ c.loop-n.invariant (omega arith)
