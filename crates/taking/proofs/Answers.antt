@@ -14,9 +14,8 @@ use Rattle.rules.specs.Choice.{Taken, Out, refused, taken, Turn, refuse, where_i
 use Rattle.rules.specs.Calls.{record!, step, one, done! }
 use Rattle.rules.proofs.Cases.{where_has}
 use Rattle.board.specs.declared.Board as struct
-use Rattle.board.specs.declared.Reply.{Reply}
 use Rattle.board.specs.Reading.{encode, view}
-use Rattle.board.specs.Leaving.{Returned, returned, replied, written, Known, ruled}
+use Rattle.board.specs.Leaving.{Reply, Returned, returned, replied, written, Known, ruled}
 use Rattle.board.proofs.Reading.{Fit}
 use Rattle.board.proofs.Sound.{fit_view}
 use Rattle.board.proofs.Fields.{count_is, start_is}

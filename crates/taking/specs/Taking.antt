@@ -1,13 +1,14 @@
 -- WORKING DEFINITIONS: joining an order and taking a record, on the board's lists. Theorems tie them to the rules; no
 -- promise of a call cites one.
-use Rattle.std.specs.Prelude.{cond, ◌||◌, ◌≡◌, List, ℕ, ◌+◌, ◌-◌, ◌^◌, ◌≤◌, ◌<◌, ltb, leb, eqb, get_or, set, length}
+use Rattle.std.specs.Prelude.{cond, ◌||◌, ◌≡◌, List, ℕ, ◌+◌, ◌-◌, ◌^◌, ◌≤◌, ◌<◌, ltb, leb, eqb, get_or, set, length, Result, Ok, Err}
 use Rattle.bits.specs.Sets.{with_bit}
 use Rattle.units.specs.Classes.{class_of, next_start}
 use Rattle.lanes.specs.Lanes.{lane_depth, lane_entry}
 use Rattle.board.specs.Memory.{Orders, Taking, taking, Seen}
 use Rattle.rules.specs.Choice.{Taken}
 use Rattle.finding.specs.Finding.{found_in, by_found}
-use Rattle.taking.specs.declared.AfterTaking.{AfterTaking}
+use Rattle.numbers.specs.declared.refusal.Refusal.{Refusal}
+use Rattle.taking.specs.declared.Taken as struct
 
 -- ---- JOINING
 
@@ -62,15 +63,14 @@ pub record Recording : Type 0 where
 abbrev pub recording : (code : ℕ) → Taken → Taking → (ids lens : List ℕ) → Recording
 recording code tells t ids lens = record { code = code; tells = tells; taking = t; ids = ids; lens = lens }
 
-abbrev pub took_tells : AfterTaking → Taken
-took_tells t = record { place = t.place; entry = t.entry; before = t.before }
-
 -- a refusal tells of no record
 abbrev pub no_taken : Taken
 no_taken = record { place = 0; entry = 0; before = 0 }
 
-abbrev pub not_taken : (code active : ℕ) → AfterTaking
-not_taken code active = record { code = code; active = active; place = 0; entry = 0; before = 0 }
+-- what the answer of the code tells
+abbrev pub tells_in : Result struct.Taken Refusal → Taken
+tells_in (Ok t) = record { place = t.place; entry = t.entry; before = t.before }
+tells_in (Err refusal) = no_taken
 
 -- it comes for the block at this place, and goes to the entry behind the last record there
 abbrev pub recorded_at : Seen → (clock id len : ℕ) → Taking → (ids lens : List ℕ) (place : ℕ) → Recording
