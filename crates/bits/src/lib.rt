@@ -9,7 +9,7 @@ pub fn with_bit(set: u32, k: u32) -> u32
     requires { k < 32 }
     ensures { result ≡ with_bit set k }
 {
-    set | 1u32 << k
+    set | 1 << k
 }
 
 // The set without class k.
@@ -17,12 +17,12 @@ pub fn without_bit(set: u32, k: u32) -> u32
     requires { k < 32 }
     ensures { result ≡ without_bit set k }
 {
-    set - (set & 1u32 << k)
+    set & !(1 << k)
 }
 
 // The lowest class of the set, and 32 where it has none: the zero bits below its lowest 1.
 pub fn lowest(set: u32) -> u32
     ensures { result ≡ lowest_bit set }
 {
-    u32::trailing_zeros(set)
+    set.trailing_zeros()
 }
