@@ -22,10 +22,9 @@ use Rattle.rules.proofs.Cases.{or_right, in_range, free_found, CanClose, can_clo
 use Rattle.rules.proofs.Calls.{in_places, empty_out}
 use Rattle.operands.specs.declared.Opening.{Opening}
 use Rattle.board.specs.declared.Board as struct
-use Rattle.board.specs.declared.Reply.{Reply}
 use Rattle.board.specs.Reading.{encode, tab, view}
 use Rattle.board.specs.Memory.{blocks_of, with_blocks}
-use Rattle.board.specs.Leaving.{Returned, returned, replied, written, Known, ruled}
+use Rattle.board.specs.Leaving.{Reply, Returned, returned, replied, written, Known, ruled}
 use Rattle.board.proofs.Lists.{length_tab, get_d_tab}
 use Rattle.board.proofs.Reading.{Fit}
 use Rattle.board.proofs.Sound.{fit_view}

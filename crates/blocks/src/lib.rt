@@ -1,16 +1,16 @@
-// Blocks: a board made with both tables cleared, and a block that is renamed, opened or closed. Arrays are lent one by
-// one, so that no board is copied.
+// Blocks: a board made with both tables cleared, and a block that is renamed, opened or closed.
 #![tactic(auto)]
 
-ghost use Rattle.std.specs.Prelude.{◌≡◌, ℕ, ◌+◌, ◌-◌, ◌<◌, ◌≤◌, List, get_or};
-ghost use Rattle.board.specs.Memory.{blocks_now};
+ghost use Rattle.std.specs.Prelude.{◌≡◌, ℕ, ◌+◌, ◌-◌, ◌<◌, ◌≤◌, get_or};
+ghost use Rattle.numbers.specs.Codes.{outcome_code};
+ghost use Rattle.board.specs.Memory.{blocks_of, with_blocks};
 ghost use Rattle.board.specs.Leaving.{returned};
 ghost use Rattle.blocks.specs.Blocks.{fresh_in, renaming, renamed_in, answered, opened_in};
 ghost use Rattle.blocks.specs.Blocks.{held_with, closed_in, CloseNeeds};
 
 use board::Board;
-use finding::Found;
-use numbers::{CLASSES, GREATEST_SHARE, NO_BLOCK, NO_PLACE, PLACES, WHOLE_LINE, codes};
+use numbers::refusal::Refusal;
+use numbers::{GREATEST_SHARE, NO_BLOCK, WHOLE_LINE};
 use operands::Opening;
 
 // ---- making
@@ -20,99 +20,81 @@ pub fn make_in(ids: &mut [u32], lens: &mut [u16], largest: u32) -> Board
     ensures { returned result ids.new lens.new
         ≡ fresh_in ids.old lens.old largest }
 {
-    arrays::clear_words(ids);
-    arrays::clear_shorts(lens);
-    board::blank(largest)
+    ids.fill(0);
+    lens.fill(0);
+    Board::blank(largest)
 }
 
 // ---- renaming, opening, closing
 
-// A block takes another number; the answer is the code.
-pub fn rename_in(old: u32, new: u32, numbers: &mut [u32; PLACES]) -> u8
-    ensures { renaming result numbers.new ≡ renamed_in numbers.old old new }
+// A block takes another number.
+pub fn rename_in(b: &mut Board, old: u32, new: u32) -> Result<(), Refusal>
+    ensures renamed { renaming (outcome_code result) b.new.numbers ≡ renamed_in b.old.numbers old new }
+    ensures rest { b.new ≡ record b.old { numbers = b.new.numbers } }
 {
     if new == NO_BLOCK {
-        return codes::OUT_OF_RANGE;
+        return Err(Refusal::OutOfRange);
     }
-    let Found::OpenAt(i) = finding::find(numbers, old) else {
-        return codes::UNKNOWN_BLOCK;
+    let Some(place) = finding::find(&b.numbers, old) else {
+        return Err(Refusal::UnknownBlock);
     };
-    let Found::Unknown = finding::find(numbers, new) else {
-        return codes::NUMBER_IS_OPEN;
-    };
-    numbers[i] = new;
-    codes::DONE
+    if finding::find(&b.numbers, new).is_some() {
+        return Err(Refusal::NumberIsOpen);
+    }
+    b.numbers[place] = new;
+    Ok(())
 }
 
-// A block opens at the lowest free place; the answer is the code.
-pub fn open_in(
-    opening: Opening,
-    numbers: &mut [u32; PLACES],
-    shares: &mut [u32; PLACES],
-    held: &[u32; CLASSES],
-) -> u8
-    ensures { (starts : List ℕ)
-        → answered result (blocks_now numbers.new shares.new starts held.now)
-        ≡ opened_in (blocks_now numbers.old shares.old starts held.now) opening }
+// A block opens at the lowest free place.
+pub fn open_in(b: &mut Board, opening: Opening) -> Result<(), Refusal>
+    ensures opened { answered (outcome_code result) (blocks_of b.new) ≡ opened_in (blocks_of b.old) opening }
+    ensures rest { b.new ≡ with_blocks b.old (blocks_of b.new) }
 {
-    let block = opening.number;
-    let share = opening.share;
-    if finding::outside(block, share, GREATEST_SHARE) {
-        return codes::OUT_OF_RANGE;
+    if finding::outside(opening.number, opening.share, GREATEST_SHARE) {
+        return Err(Refusal::OutOfRange);
     }
-    let Found::Unknown = finding::find(numbers, block) else {
-        return codes::NUMBER_IS_OPEN;
+    if finding::find(&b.numbers, opening.number).is_some() {
+        return Err(Refusal::NumberIsOpen);
+    }
+    let Some(place) = finding::lowest_free(&b.numbers) else {
+        return Err(Refusal::NoFreePlace);
     };
-    let i = finding::lowest_free(numbers);
-    if i == NO_PLACE {
-        return codes::NO_FREE_PLACE;
+    if WHOLE_LINE < arrays::sum(&b.shares) + arrays::sum(&b.held) + opening.share as u64 {
+        return Err(Refusal::ShareNotFree);
     }
-    if WHOLE_LINE < arrays::sum(shares) + arrays::sum(held) + share as u64 {
-        return codes::SHARE_NOT_FREE;
-    }
-    numbers[i] = block;
-    shares[i] = share;
-    codes::DONE
+    b.numbers[place] = opening.number;
+    b.shares[place] = opening.share;
+    Ok(())
 }
 
 // A closed block's share is held with its class's, unless no class is active.
-fn hold_in(active: u32, share: u32, held: &mut [u32; CLASSES])
-    requires { (1 ≤ share) × ((share ≤ 65536) × ((k : ℕ) → get_or held.old k 0 ≤ 65536)) }
-    ensures { held.new ≡ held_with active share held.old }
+fn hold_in(b: &mut Board, share: u32)
+    requires { (1 ≤ share) × ((share ≤ 65536) × ((k : ℕ) → get_or b.old.held k 0 ≤ 65536)) }
+    ensures { b.new ≡ record b.old { held = held_with b.old.active share b.old.held } }
 {
-    if active == 0 {
+    if b.active == 0 {
         return;
     }
     let k = units::class_of(share) as usize;
-    let sum = held[k] + share;
-    held[k] = sum;
+    b.held[k] += share;
 }
 
-// A block with an empty lane closes; the answer is the code.
-pub fn close_in(
-    block: u32,
-    active: u32,
-    counts: &[u16; PLACES],
-    numbers: &mut [u32; PLACES],
-    shares: &mut [u32; PLACES],
-    starts: &mut [u16; PLACES],
-    held: &mut [u32; CLASSES],
-) -> u8
-    requires { CloseNeeds numbers.old shares.old held.old }
-    ensures { let before =
-        blocks_now numbers.old shares.old starts.old held.old in
-        let after = blocks_now numbers.new shares.new starts.new held.new in
-        answered result after ≡ closed_in active counts.now before block }
+// A block with an empty lane closes.
+pub fn close_in(b: &mut Board, block: u32) -> Result<(), Refusal>
+    requires { CloseNeeds b.old.numbers b.old.shares b.old.held }
+    ensures closed { answered (outcome_code result) (blocks_of b.new)
+        ≡ closed_in b.old.active b.old.counts (blocks_of b.old) block }
+    ensures rest { b.new ≡ with_blocks b.old (blocks_of b.new) }
 {
-    let Found::OpenAt(i) = finding::find(numbers, block) else {
-        return codes::UNKNOWN_BLOCK;
+    let Some(place) = finding::find(&b.numbers, block) else {
+        return Err(Refusal::UnknownBlock);
     };
-    if 0 < counts[i] {
-        return codes::LANE_NOT_EMPTY;
+    if 0 < b.counts[place] {
+        return Err(Refusal::LaneNotEmpty);
     }
-    hold_in(active, shares[i], held);
-    numbers[i] = NO_BLOCK;
-    shares[i] = 0;
-    starts[i] = 0;
-    codes::DONE
+    hold_in(b, b.shares[place]);
+    b.numbers[place] = NO_BLOCK;
+    b.shares[place] = 0;
+    b.starts[place] = 0;
+    Ok(())
 }

@@ -22,7 +22,7 @@ use Rattle.rules.proofs.Cases.{not_zero, or_left, or_right, where_has}
 use Rattle.rules.proofs.Shape.{named_num}
 use Rattle.rules.proofs.Tidy.{Tidy}
 use Rattle.board.specs.Reading.{encode}
-use Rattle.std.specs.Prelude.{Option, Some, None}
+use Rattle.std.specs.Prelude.{Option, Some, None, is_some}
 use Rattle.std.specs.List.{position_from}
 use Rattle.finding.specs.Finding.{place_with, found_at, place_at, found_in, by_found, lowest_free}
 use Rattle.board.proofs.Fields.{number_is}
@@ -209,6 +209,16 @@ module _ (m : Board.Board) (g : Tidy m) where
       by_name : (x : Place) → (x ≡ free_place) ⊎ ((1 ≤ x.number) × (1 ≤ x.share)) → eqb x.number 0 ≡ eqb x.share 0
       by_name x (inl e) = rw e
       by_name x (inr h) = ne_eqb x.number 0 (λ f. omega arith) ∙ sym (ne_eqb x.share 0 (λ f. omega arith))
+
+-- ---- by what is known of a number, where the place itself does not matter
+
+pub by_some : {A : Type 0} (o : Option ℕ) (a u : A) → is_some o ≡ true → by_found o (λ j. a) u ≡ a
+by_some (Some p) a u e = refl
+by_some None a u e = absurd (true≢false (sym e))
+
+pub by_none : {A : Type 0} (o : Option ℕ) (f : ℕ → A) (u : A) → is_some o ≡ false → by_found o f u ≡ u
+by_none (Some p) f u e = absurd (true≢false e)
+by_none None f u e = refl
 
 -- 64 is no place
 pub none_is : (n : ℕ) → n ≤ 64 → eqb n 64 ≡ leb 64 n

@@ -2,7 +2,7 @@
 // with a block begins here.
 #![tactic(auto)]
 
-ghost use Rattle.std.specs.Prelude.{◌≡◌, ◌||◌, ◌+◌, ◌-◌, ◌<◌, eqb, ltb};
+ghost use Rattle.std.specs.Prelude.{◌≡◌, ◌||◌, ◌+◌, ◌-◌, ◌<◌, eqb, ltb, IfSome};
 ghost use Rattle.finding.specs.Finding.{place_at, found_in, lowest_free};
 ghost use Rattle.std.specs.List.{position_from};
 
@@ -10,14 +10,16 @@ use numbers::{NO_BLOCK, PLACES};
 
 // The first place with this number.
 fn place_with(numbers: &[u32; PLACES], number: u32) -> Option<usize>
-    ensures { result ≡ position_from (λ n. eqb n number) 0 numbers.now }
+    ensures first { result ≡ position_from (λ n. eqb n number) 0 numbers.now }
+    ensures inside { IfSome result (λ place. place < 64) }
 {
     numbers.iter().position(|&n| n == number)
 }
 
 // The open block with this number. A free place has NO_BLOCK, which is no block's number.
 pub fn find(numbers: &[u32; PLACES], number: u32) -> Option<usize>
-    ensures { result ≡ found_in numbers.now number }
+    ensures found { result ≡ found_in numbers.now number }
+    ensures inside { IfSome result (λ place. place < 64) }
 {
     if number == NO_BLOCK {
         return None;
@@ -27,7 +29,8 @@ pub fn find(numbers: &[u32; PLACES], number: u32) -> Option<usize>
 
 // The lowest free place; there is none where all are taken.
 pub fn lowest_free(numbers: &[u32; PLACES]) -> Option<usize>
-    ensures { result ≡ place_at (lowest_free numbers.now) }
+    ensures found { result ≡ place_at (lowest_free numbers.now) }
+    ensures inside { IfSome result (λ place. place < 64) }
 {
     place_with(numbers, NO_BLOCK)
 }

@@ -1,75 +1,59 @@
--- `blocks::open_in` meets its contract: each refusal by its test, in turn; a free place that is found is one of the 64
--- (free_in). Assumes nothing.
-use Rattle.finding.proofs.Finding.{free_in}
-use Rattle.blocks.specs.Blocks.{opened_in}
-use borrow.Author.Tests.{eq-eqb, ne_eqb, lt-ltb, le-ltb}
+-- `blocks::open_in` meets its contract: each refusal by its test, in turn (by_some, by_none, free_none, free_in).
+-- Assumes nothing.
+use Rattle.arrays.proofs.Totals.{total_plain}
+use Rattle.finding.proofs.Finding.{by_some, by_none, free_none, free_in}
+use Rattle.board.specs.Memory.{blocks_of}
+use Rattle.blocks.specs.Blocks.{answered, opened_in}
+use borrow.Author.Tests.{ne_eqb, lt-ltb, le-ltb}
 use mathlib.Core.Path.{sym, ◌∙◌}
-use borrow.Author.Rules.{rules}
+use native.Mathlib.Omega.{arith}
 use Rattle.blocks.proofs.open_in.Goals as goal
 
-pub returns-then-outside : goal.returns-then-outside
+pub returns-then-outside-clause-opened : goal.returns-then-outside-clause-opened
 unfolding opened_in
-returns-then-outside c starts =
-    rw (sym c.outside.ensures ∙ c.if-outside.true)
+returns-then-outside-clause-opened c = rw (sym c.outside.ensures ∙ c.if-outside.true)
 
-pub returns-in_default : goal.returns-in_default
+pub returns-then-is_some-clause-opened : goal.returns-then-is_some-clause-opened
 unfolding opened_in
-returns-in_default c starts =
-    rw (sym c.outside.ensures ∙ c.if-outside.false, ← c.find.ensures, c.in_default.is)
+returns-then-is_some-clause-opened c =
+    rw (sym c.outside.ensures ∙ c.if-outside.false, ← c.find.ensures.found, by_some _ (answered 5 (blocks_of c.args.b.now)) _ (sym c.if-is_some.ensures))
 
-pub returns-then-i-eq-NO_PLACE : goal.returns-then-i-eq-NO_PLACE
+pub returns-in_default-clause-opened : goal.returns-in_default-clause-opened
 unfolding opened_in
-returns-then-i-eq-NO_PLACE c starts =
+returns-in_default-clause-opened c =
     rw (
       sym c.outside.ensures ∙ c.if-outside.false,
-      ← c.find.ensures,
-      c.in-Unknown.is,
-      ← c.lowest_free-i.ensures,
-      eq-eqb _ _ c.if-i-eq-NO_PLACE.true,
+      ← c.find.ensures.found,
+      by_none _ _ _ (sym c.if-is_some.ensures),
+      free_none _ (sym c.in_default.ensures.found),
     )
 
-pub returns-then-sum-share-gt-WHOLE_LINE : goal.returns-then-sum-share-gt-WHOLE_LINE
+pub returns-then-sum-opening-gt-WHOLE_LINE-clause-opened : goal.returns-then-sum-opening-gt-WHOLE_LINE-clause-opened
 unfolding opened_in
-returns-then-sum-share-gt-WHOLE_LINE c starts =
+returns-then-sum-opening-gt-WHOLE_LINE-clause-opened c =
+    let free = free_in _ _ (sym c.in-Some.ensures.found) in
     rw (
       sym c.outside.ensures ∙ c.if-outside.false,
-      ← c.find.ensures,
-      c.in-Unknown.is,
-      ← c.lowest_free-i.ensures,
-      ne_eqb _ _ c.if-i-eq-NO_PLACE.false,
-      ← c.sum.ensures.0,
-      ← c.sum-2.ensures.0,
-      lt-ltb _ _ c.if-sum-share-gt-WHOLE_LINE.true,
+      ← c.find.ensures.found,
+      by_none _ _ _ (sym c.if-is_some.ensures),
+      ← free.0,
+      ne_eqb c.in-Some.place 64 (λ z. omega (arith, free.1, z)),
+      ← total_plain _ _ c.sum.ensures.total,
+      ← total_plain _ _ c.sum-2.ensures.total,
+      lt-ltb _ _ c.if-sum-opening-gt-WHOLE_LINE.true,
     )
 
-pub offset_bounds-numbers-i : goal.offset_bounds-numbers-i
-offset_bounds-numbers-i c =
-    let h = free_in _ _ c.lowest_free-i.ensures
-    c.if-i-eq-NO_PLACE.false in search rules
-
-pub bounds-numbers-i : goal.bounds-numbers-i
-bounds-numbers-i c =
-    free_in _ _ c.lowest_free-i.ensures c.if-i-eq-NO_PLACE.false
-
-pub offset_bounds-shares-i : goal.offset_bounds-shares-i
-offset_bounds-shares-i c =
-    let h = free_in _ _ c.lowest_free-i.ensures
-    c.if-i-eq-NO_PLACE.false in search rules
-
-pub bounds-shares-i : goal.bounds-shares-i
-bounds-shares-i c =
-    free_in _ _ c.lowest_free-i.ensures c.if-i-eq-NO_PLACE.false
-
-pub returns : goal.returns
+pub returns-clause-opened : goal.returns-clause-opened
 unfolding opened_in
-returns c starts =
+returns-clause-opened c =
+    let free = free_in _ _ (sym c.in-Some.ensures.found) in
     rw (
       sym c.outside.ensures ∙ c.if-outside.false,
-      ← c.find.ensures,
-      c.in-Unknown.is,
-      ← c.lowest_free-i.ensures,
-      ne_eqb _ _ c.if-i-eq-NO_PLACE.false,
-      ← c.sum.ensures.0,
-      ← c.sum-2.ensures.0,
-      le-ltb _ _ c.if-sum-share-gt-WHOLE_LINE.false,
+      ← c.find.ensures.found,
+      by_none _ _ _ (sym c.if-is_some.ensures),
+      ← free.0,
+      ne_eqb c.in-Some.place 64 (λ z. omega (arith, free.1, z)),
+      ← total_plain _ _ c.sum.ensures.total,
+      ← total_plain _ _ c.sum-2.ensures.total,
+      le-ltb _ _ c.if-sum-opening-gt-WHOLE_LINE.false,
     )

@@ -4,9 +4,9 @@ use mathlib.Core.Path.{◌∙◌}
 use Rattle.finding.proofs.Finding.{first_place, find_none, find_first}
 use Rattle.finding.proofs.find.Goals as goal
 
-pub returns-then-number-eq-NO_BLOCK : goal.returns-then-number-eq-NO_BLOCK
-returns-then-number-eq-NO_BLOCK c = find_none _ _ c.if-number-eq-NO_BLOCK.true
+pub returns-then-number-eq-NO_BLOCK-clause-found : goal.returns-then-number-eq-NO_BLOCK-clause-found
+returns-then-number-eq-NO_BLOCK-clause-found c = find_none _ _ c.if-number-eq-NO_BLOCK.true
 
-pub returns : goal.returns
-returns c =
-    c.place_with.ensures ∙ first_place _ _ c.told-numbers ∙ find_first _ _ c.if-number-eq-NO_BLOCK.false
+pub returns-clause-found : goal.returns-clause-found
+returns-clause-found c =
+    c.place_with.ensures.first ∙ first_place _ _ c.told-numbers ∙ find_first _ _ c.if-number-eq-NO_BLOCK.false

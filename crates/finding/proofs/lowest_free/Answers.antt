@@ -5,6 +5,6 @@ use Rattle.finding.proofs.Finding.{first_place}
 use Rattle.finding.specs.Finding.{lowest_free}
 use Rattle.finding.proofs.lowest_free.Goals as goal
 
-pub returns : goal.returns
+pub returns-clause-found : goal.returns-clause-found
 unfolding lowest_free
-returns c = c.place_with.ensures ∙ first_place _ _ c.told-numbers
+returns-clause-found c = c.place_with.ensures.first ∙ first_place _ _ c.told-numbers
