@@ -1,10 +1,10 @@
 -- Laws of the starts of a class, for any class.
 use mathlib.Core.Path.{◌≡◌, refl, sym, ◌∙◌}
 use mathlib.Core.Logic.{◌⊎◌, inl, inr}
-use Prim.Native.Nat.{ℕ, suc, ◌+◌, ◌*◌, ◌-◌, ◌/◌, ◌^◌, ◌≤◌, ◌<◌}
+use Prim.Native.Nat.{ℕ, suc, ◌+◌, ◌*◌, ◌/◌, ◌^◌, ◌≤◌, ◌<◌}
 use native.Mathlib.Nat.{lt-div-mul-add, div-mul-le_self, mul-le-mul_right, lt_of_mul-lt-mul_right, mul_assoc, le_dest, add_comm, le_antisymm}
 use native.Mathlib.Omega.{arith}
-use lib.Pow.{pow_pos, pow_mono, pow-add}
+use lib.Pow.{pow_pos, pow-add}
 use Rattle.base.proofs.Numbers.{split}
 use Rattle.units.specs.Classes.{Start, next_start}
 use Rattle.units.specs.Laws.{NextStartIs, NextStartOnly, StartDown, NextAlign}
@@ -80,8 +80,3 @@ start_down j k m h (q, e) = go (le_dest h)
 
 pub next_align : NextAlign
 next_align j k c h = next_least j c (next_start k c) (start_down j k (next_start k c) h (next_start_lem k c)) (next_gt k c)
-
--- ---- the numbers of the code
-
-pub next_fits : (k t : ℕ) → k ≤ 16 → t ≤ 2 ^ 62 → next_start k t < 2 ^ 64
-next_fits k t h l = omega (arith, next_le k t, pow_mono h)

@@ -4,17 +4,17 @@
 
 ghost use Rattle.std.specs.Prelude.{◌≡◌, ◌^◌, ◌<◌, ◌≤◌};
 ghost use Rattle.units.specs.Classes.{class_of, next_start};
-ghost use Rattle.units.specs.Credit.{charged, largest_charge, charge_of, credit_of};
+ghost use Rattle.units.specs.Credit.{charged, charge_of, credit_of};
 
 use numbers::PARTS_PER_BYTE;
 
 // An amount of credit: one byte is 65,536 parts. It stands in a board, which C lays out too.
 #[repr(C)]
-#[derive(Clone, Copy)]
+#[derive(Clone, Copy, Debug, PartialEq, Eq, PartialOrd, Ord)]
 pub struct Parts(pub u64);
 
 // An amount of data.
-#[derive(Clone, Copy)]
+#[derive(Clone, Copy, Debug, PartialEq, Eq, PartialOrd, Ord)]
 pub struct Bytes(pub u64);
 
 // Bytes that the line carries with each record besides its own.
@@ -28,7 +28,7 @@ pub fn class_of(share: u32) -> u32
     requires { (1 ≤ share) × (share ≤ 65536) }
     ensures { result ≡ class_of share }
 {
-    u32::leading_zeros(share) - ZEROS_OF_CLASS_0
+    share.leading_zeros() - ZEROS_OF_CLASS_0
 }
 
 // 2^k slots: the length of an interval of class k.
@@ -36,7 +36,7 @@ pub fn interval(k: u32) -> u64
     requires { k ≤ 16 }
     ensures { result ≡ 2 ^ k }
 {
-    1u64 << k
+    1 << k
 }
 
 // The next start of class k above a clock.
@@ -56,21 +56,12 @@ pub fn charged(length: Bytes) -> Bytes
     Bytes(length.0 + FRAMING)
 }
 
-// What a record of the largest length is charged.
-fn largest_charge(largest: Bytes) -> Bytes
-    requires { largest.0 ≤ 2048 }
-    ensures { result.0 ≡ largest_charge largest.0 }
-{
-    charged(largest)
-}
-
 // The charge of a record, in parts.
 pub fn charge(length: Bytes) -> Parts
     requires { length.0 < 2 ^ 32 }
     ensures { result.0 ≡ charge_of length.0 }
 {
-    let bytes = charged(length);
-    Parts(bytes.0 * PARTS_PER_BYTE)
+    Parts(charged(length).0 * PARTS_PER_BYTE)
 }
 
 // The credit of one slot of a block with this share, whose class is k.
@@ -78,7 +69,5 @@ pub fn credit(share: u32, k: u32, largest: Bytes) -> Parts
     requires { (1 ≤ share) × ((share ≤ 65536) × ((k ≡ class_of share) × (largest.0 ≤ 2048))) }
     ensures { result.0 ≡ credit_of largest.0 share }
 {
-    let most = largest_charge(largest);
-    let step = interval(k);
-    Parts((share as u64) * step * most.0)
+    Parts(u64::from(share) * interval(k) * charged(largest).0)
 }

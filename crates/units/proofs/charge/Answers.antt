@@ -2,7 +2,6 @@
 -- Assumes nothing.
 use native.Mathlib.Omega.{arith}
 use Rattle.units.specs.Credit.{framing, charged, charge_of}
-use borrow.Author.Rules.{rules}
 use Rattle.units.proofs.charge.Goals as goal
 
 pub overflow_mul-result : goal.overflow_mul-result
@@ -11,6 +10,4 @@ overflow_mul-result c = record { fits = omega arith }
 
 pub returns : goal.returns
 unfolding charge_of
-returns c =
-    let at-charged = c.before in
-    rw at-charged.charged-bytes.ensures
+returns c = rw c.charged.ensures

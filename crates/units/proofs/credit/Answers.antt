@@ -3,37 +3,27 @@
 use Prim.Native.Nat.{◌*◌, ◌^◌}
 use native.Mathlib.Omega.{arith}
 use Rattle.units.specs.Classes.{class_of}
-use Rattle.units.specs.Credit.{credit_of}
+use Rattle.units.specs.Credit.{largest_charge, credit_of}
 use Rattle.units.proofs.Classes.{class_le, class_hi}
 use Rattle.units.proofs.Credits.{charge_small, credit_fits}
-use borrow.Author.Rules.{rules}
 use Rattle.units.proofs.credit.Goals as goal
 
-pub interval-step-requires : goal.interval-step-requires
-interval-step-requires c =
-    let at-start = c.before in
-    omega (arith, class_le at-start.args.share)
+pub interval-requires : goal.interval-requires
+interval-requires c = omega (arith, class_le c.args.share)
 
 pub overflow_mul-result : goal.overflow_mul-result
 overflow_mul-result c =
-    let at-start = c.before.before in
-    record { fits = rw (c.interval-step.ensures, at-start.requires.1.1.0) (omega (arith, class_hi at-start.args.share at-start.requires.1.0)) }
+    record { fits = rw (c.from.ensures, c.interval.ensures, c.requires.1.1.0) (omega (arith, class_hi c.args.share c.requires.1.0)) }
 
 pub overflow_mul-result-2 : goal.overflow_mul-result-2
+unfolding largest_charge
 overflow_mul-result-2 c =
-    let at-interval = c.before in
-    let at-largest-charge = at-interval.before in
-    let at-start = at-largest-charge.before in
     record {
-      fits = rw (at-interval.interval-step.ensures, at-start.requires.1.1.0, at-largest-charge.largest_charge-most.ensures)
-          (credit_fits (at-start.args.share * 2 ^ class_of at-start.args.share) _ (class_hi at-start.args.share at-start.requires.1.0)
-          (charge_small at-start.args.largest.0 at-start.requires.1.1.1));
+      fits = rw (c.from.ensures, c.interval.ensures, c.requires.1.1.0, c.charged.ensures)
+          (credit_fits (c.args.share * 2 ^ class_of c.args.share) _ (class_hi c.args.share c.requires.1.0)
+          (charge_small c.args.largest.0 c.requires.1.1.1));
     }
 
 pub returns : goal.returns
-unfolding credit_of
-returns c =
-    let at-interval = c.before in
-    let at-largest-charge = at-interval.before in
-    let at-start = at-largest-charge.before in
-    rw (at-interval.interval-step.ensures, at-start.requires.1.1.0, at-largest-charge.largest_charge-most.ensures)
+unfolding credit_of largest_charge
+returns c = rw (c.from.ensures, c.interval.ensures, c.requires.1.1.0, c.charged.ensures)
