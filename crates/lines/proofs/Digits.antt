@@ -1,10 +1,10 @@
 -- A number's digits: how many there are, and writing them from the last one on. Assumes nothing.
-use mathlib.Core.Path.{◌≡◌, refl, sym, ap, ◌∙◌}
+use mathlib.Core.Path.{◌≡◌, refl, sym, ap, ap₂, ◌∙◌}
 use mathlib.Core.Bool.{Bool, true, false}
 use mathlib.Core.List.{List, [], ◌∷◌, ◌++◌, append_assoc, append-nil}
 use Prim.Native.Nat.{ℕ, zero, suc, ◌+◌, ◌-◌, ◌*◌, ◌/◌, ◌%◌, ◌^◌, ◌≤◌, ◌<◌}
 use native.Mathlib.Nat.{pow-suc}
-use native.Mathlib.Numerals.{add-one}
+use Rattle.std.specs.Prelude.{max}
 use native.Mathlib.Omega.{arith}
 use borrow.Author.Tests.{ltb-true, ltb-false}
 use lib.Dec.{ltb}
@@ -33,33 +33,19 @@ decimal_least (suc w) n h =
     let p : 10 ^ w * 10 ≤ n = omega (arith, pow-suc 10 w, h) in
     omega (arith, decimal_least w (n / 10) (omega (arith, p)), decimal_more_length n (omega (arith, p, power_some w)))
 
--- the limit is a tenth of a power of 10, and the number has at least so many digits
-abbrev pub AtLeast : (n limit count : ℕ) → Type 0
-AtLeast n limit count = (limit * 10 ≡ 10 ^ count) × ((1 ≤ count) × (count ≤ length (decimal n)))
-
-pub at_least_four : (n : ℕ) → 10 ^ 3 ≤ n → AtLeast n 1000 4
-at_least_four n h = (refl, (omega arith, decimal_least 3 n h))
-
--- one below 10 has one, and one between two powers of 10 as many as the greater says
-pub digits_one : (n : ℕ) → n < 10 → 1 ≡ length (decimal n)
-digits_one n h = sym (ap length (decimal_one n h))
-
-pub digits_between : (w n : ℕ) → 10 ^ w ≤ n → n < 10 ^ suc w → suc w ≡ length (decimal n)
-digits_between w n l h = omega (arith, decimal_least w n l, decimal_length w n h)
-
-module _ (n limit count : ℕ) (c : AtLeast n limit count) where
-  pub at_least_more : limit ≤ n / 10 → AtLeast n (limit * 10) (count + 1)
-  at_least_more h = (
-    rw (add-one count, pow-suc 10 count, ← c.0) refl,
-    (omega arith, rw (add-one count) (decimal_least count n (omega (arith, c.0)))),
-  )
-
-  pub at_least_all : n / 10 < limit → count ≡ length (decimal n)
-  at_least_all h = go count refl
-    where
-      go : (k : ℕ) → k ≡ count → count ≡ length (decimal n)
-      go zero e = absurd (omega (arith, e, c.1.0))
-      go (suc w) e = omega (arith, e, c.1.1, decimal_length w n (rw e (omega (arith, c.0))))
+-- one between two powers of 10 has as many digits as the greater says; 0 has as many as 1
+pub digits_between : (w n m : ℕ) → m ≡ max n 1 → 10 ^ w ≤ m → m < 10 * 10 ^ w → w + 1 ≡ length (decimal n)
+digits_between w zero m e l h = omega (arith, ap length (decimal_one 0 (omega arith)), none w (omega arith))
+  where
+    none : (w : ℕ) → 10 ^ w ≤ 1 → w ≡ 0
+    none zero k = refl
+    none (suc w) k = absurd (omega (arith, pow-suc 10 w, power_some w))
+digits_between w (suc n) m e l h =
+    omega (
+      arith,
+      decimal_least w (suc n) (omega arith),
+      decimal_length w (suc n) (omega (arith, pow-suc 10 w)),
+    )
 
 -- ---- writing them from the last one on
 
@@ -69,50 +55,61 @@ set_first [] l i j a h = refl
 set_first (x ∷ xs) l i j a h =
     set_first xs (set l j x) i (suc j) a (omega arith) ∙ ap (λ (m : List ℕ). sets m (suc j) xs) (set_comm l j i x a (λ e. omega (arith, e)))
 
--- what is written stands behind the digits that are left
+-- what is written stands behind the digits that are left, and these are the rest's
 pub record Filled (before : List ℕ) (at n rest i : ℕ) (after : List ℕ) : Type 0 where
+  pub left : List ℕ
   pub text : List ℕ
-  pub whole : decimal n ≡ decimal rest ++ text
-  pub here : i ≡ at + length (decimal rest)
+  pub whole : decimal n ≡ left ++ text
+  pub here : i ≡ at + length left
   pub list : after ≡ sets before i text
+  pub spelt : 1 ≤ length left → left ≡ decimal rest
 
 pub filled_none : (l : List ℕ) (at n end : ℕ) → end ≡ at + length (decimal n) → Filled l at n n end l
-filled_none l at n end h = record { text = []; whole = sym (append-nil (decimal n)); here = h; list = refl }
+filled_none l at n end h =
+    record { left = decimal n; text = []; whole = sym (append-nil (decimal n)); here = h; list = refl; spelt = λ _. refl }
 
 module _ (l : List ℕ) (at n rest i : ℕ) (m : List ℕ) (f : Filled l at n rest i m) where
-  pub filled_some : at < i
-  filled_some = omega (arith, f.here, decimal_some rest)
-
-  pub filled_more : 10 ≤ rest → Filled l at n (rest / 10) (i - 1) (set m (i - 1) (48 + rest % 10))
-  filled_more h = record {
-    text = (48 + rest % 10) ∷ f.text;
-    whole =
-        f.whole ∙ ap (λ (ds : List ℕ). ds ++ f.text) (decimal_more rest h) ∙ append_assoc (decimal (rest / 10)) ((48 + rest % 10) ∷ []) f.text;
-    here = omega (arith, f.here, decimal_more_length rest h);
-    list =
-        ap (λ (k : List ℕ). set k (i - 1) (48 + rest % 10)) f.list
-        ∙ set_first f.text l (i - 1) i (48 + rest % 10) (omega (arith, filled_some))
-        ∙ ap (λ (j : ℕ). sets (set l (i - 1) (48 + rest % 10)) j f.text) next;
-  }
+  pub filled_more : at < i → Filled l at n (rest / 10) (i - 1) (set m (i - 1) (48 + rest % 10))
+  filled_more h = go (ltb rest 10) refl
     where
-      next : i ≡ suc (i - 1)
-      next = omega (arith, filled_some)
+      spelt : f.left ≡ decimal rest
+      spelt = f.spelt (omega (arith, f.here))
 
-  pub filled_all : rest < 10 → (end : ℕ) → end ≡ at + length (decimal n) → Written l at (decimal n) end (set m at (48 + rest))
+      list : set m (i - 1) (48 + rest % 10) ≡ sets l (i - 1) ((48 + rest % 10) ∷ f.text)
+      list =
+          ap (λ (k : List ℕ). set k (i - 1) (48 + rest % 10)) f.list
+          ∙ set_first f.text l (i - 1) i (48 + rest % 10) (omega arith)
+          ∙ ap (λ (j : ℕ). sets (set l (i - 1) (48 + rest % 10)) j f.text) (omega arith)
+
+      go : (t : Bool) → ltb rest 10 ≡ t → Filled l at n (rest / 10) (i - 1) (set m (i - 1) (48 + rest % 10))
+      go true e = record {
+        left = [];
+        text = (48 + rest % 10) ∷ f.text;
+        whole = f.whole ∙ ap (λ (ds : List ℕ). ds ++ f.text) (spelt ∙ decimal_one rest (ltb-true rest 10 e));
+        here = omega (arith, f.here, ap length spelt, ap length (decimal_one rest (ltb-true rest 10 e)));
+        list = list;
+        spelt = λ k. absurd (omega arith);
+      }
+      go false e = record {
+        left = decimal (rest / 10);
+        text = (48 + rest % 10) ∷ f.text;
+        whole =
+            f.whole ∙ ap (λ (ds : List ℕ). ds ++ f.text) (spelt ∙ decimal_more rest (ltb-false rest 10 e))
+            ∙ append_assoc (decimal (rest / 10)) ((48 + rest % 10) ∷ []) f.text;
+        here = omega (arith, f.here, ap length spelt, decimal_more_length rest (ltb-false rest 10 e));
+        list = list;
+        spelt = λ _. refl;
+      }
+
+  pub filled_all : i ≤ at → (end : ℕ) → end ≡ at + length (decimal n) → Written l at (decimal n) end m
   filled_all h end e = record {
     ends = e;
-    list =
-        ap (λ (k : List ℕ). set k at (48 + rest)) f.list
-        ∙ set_first f.text l at i (48 + rest) filled_some
-        ∙ ap (λ (j : ℕ). sets (set l at (48 + rest)) j f.text) next
-        ∙ ap (λ (ds : List ℕ). sets l at ds) (sym whole);
+    list = f.list ∙ ap₂ (λ (j : ℕ) (ds : List ℕ). sets l j ds) (omega (arith, f.here)) (sym whole);
   }
     where
-      next : i ≡ suc at
-      next = omega (arith, f.here, ap length (decimal_one rest h))
+      empty : (ds : List ℕ) → length ds ≤ 0 → ds ≡ []
+      empty [] k = refl
+      empty (d ∷ ds) k = absurd (omega arith)
 
-      digit : 48 + rest % 10 ≡ 48 + rest
-      digit = omega (arith, h)
-
-      whole : decimal n ≡ (48 + rest) ∷ f.text
-      whole = f.whole ∙ ap (λ (ds : List ℕ). ds ++ f.text) (decimal_one rest h) ∙ ap (λ (d : ℕ). d ∷ f.text) digit
+      whole : decimal n ≡ f.text
+      whole = f.whole ∙ ap (λ (ds : List ℕ). ds ++ f.text) (empty f.left (omega (arith, f.here)))

@@ -1,6 +1,8 @@
 -- Each kind of line of a listing.
 use Rattle.std.specs.Prelude.{List, [], ◌∷◌, ℕ}
 use Rattle.lines.specs.Text.{line_of}
+use Rattle.lines.specs.declared.Line.{Line}
+use Rattle.lines.specs.declared.Line.TheVariants.{Open, Close, Name, In, Out, Refused, End, Broken, Long}
 
 -- The words, as bytes: open, close, name, in, out, out -, end, broken, long.
 abbrev pub open_word : List ℕ
@@ -65,3 +67,15 @@ broken_line offset = line_of broken_word (offset ∷ [])
 -- long
 unfoldable pub long_line : List ℕ
 long_line = line_of long_word []
+
+-- the line that a value of the code stands for
+abbrev pub text_of : Line → List ℕ
+text_of (Open block code) = open_line block code
+text_of (Close block code) = close_line block code
+text_of (Name old new code) = name_line old new code
+text_of (In number code) = in_line number code
+text_of (Out block number length clock) = out_line block number length clock
+text_of (Refused code) = refused_line code
+text_of (End clock bytes waiting) = end_line clock bytes waiting
+text_of (Broken offset) = broken_line offset
+text_of Long = long_line

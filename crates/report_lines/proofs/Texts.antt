@@ -1,22 +1,13 @@
--- Laws of the texts of whole numbers and of account lines, and of writing them. Assumes nothing.
-use mathlib.Core.Path.{◌≡◌, sym, ap, ◌∙◌}
+-- An account line column by column: its length, and writing it. Assumes nothing.
+use mathlib.Core.Path.{◌≡◌}
 use mathlib.Core.List.{List, [], ◌∷◌}
 use Prim.Native.Nat.{ℕ, ◌+◌}
 use native.Mathlib.Omega.{arith}
-use lib.IntN.{ℤ, pos, negsuc, nat_abs}
+use lib.IntN.{ℤ}
 use lib.ListN.{length, length-append}
-use lib.Signed.{mag}
 use Rattle.lines.specs.Text.{decimal, columns, Written}
 use Rattle.lines.proofs.Texts.{then}
 use Rattle.report_lines.specs.Text.{signed, account_line}
-
-pub signed_below : (d : ℤ) → d ≡ negsuc (mag d) → signed d ≡ 45 ∷ decimal (nat_abs d)
-signed_below d e = ap signed e ∙ ap (λ (z : ℤ). 45 ∷ decimal (nat_abs z)) (sym e)
-
-pub signed_above : (d : ℤ) → d ≡ pos (mag d) → signed d ≡ decimal (nat_abs d)
-signed_above d e = ap signed e ∙ ap (λ (z : ℤ). decimal (nat_abs z)) (sym e)
-
--- ---- an account line
 
 module _ (block slots credit bytes : ℕ) (difference : ℤ) (lost : ℕ) where
   pub account_length : length (account_line block slots credit bytes difference lost)

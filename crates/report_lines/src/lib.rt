@@ -2,19 +2,16 @@
 // the difference of got and due as a whole number, and its text.
 #![tactic(auto)]
 
-ghost use Rattle.std.specs.Prelude.{◌≡◌, ◌+◌, ◌^◌, ◌≤◌, length, pos, ◌-ℤ◌, nat_abs};
+ghost use Rattle.std.specs.Prelude.{◌≡◌, ◌+◌, ◌^◌, ◌≤◌, length, pos, ◌-ℤ◌};
 ghost use Rattle.lines.specs.Text.{Written};
 ghost use Rattle.lines.specs.Listing.{broken_line, long_line};
 ghost use Rattle.report_lines.specs.Text.{signed, account_line, full_line};
 
-use lines::{LINE_END, SPACE, put_byte, put_columns, put_line, put_number};
+use lines::{Line, put_byte, put_columns, put_line, put_number};
 use units::{Bytes, Parts};
 
 // Room for any line.
 pub const REPORT_ROOM: usize = 128;
-
-// The sign of a number below 0.
-const MINUS: u8 = 45;
 
 // What was got less what was due: below 0 while less was got.
 pub fn difference(got: Parts, due: Parts) -> i64
@@ -24,27 +21,16 @@ pub fn difference(got: Parts, due: Parts) -> i64
     got.0 as i64 - due.0 as i64
 }
 
-// How far a whole number is from 0. The size of the least i64 is no i64: so the size of the number above it is taken
-// first, and 1 is added to that.
-fn size(whole: i64) -> u64
-    ensures { result ≡ nat_abs whole }
-{
-    if whole < 0 {
-        return (-1 - whole) as u64 + 1;
-    }
-    whole as u64
-}
-
 // A whole number in decimal: a sign below 0 alone, and no zero in front.
 fn put_signed(out: &mut [u8], at: usize, d: i64) -> usize
     requires { at + length (signed d) ≤ length out.old }
     ensures { Written out.old at (signed d) result out.new }
 {
     if d < 0 {
-        let sign = put_byte(&mut *out, at, MINUS);
-        return put_number(out, sign, size(d));
+        let sign = put_byte(out, at, b'-');
+        return put_number(out, sign, d.unsigned_abs());
     }
-    put_number(out, at, size(d))
+    put_number(out, at, d.unsigned_abs())
 }
 
 // The line of a block that is open at the end.
@@ -63,36 +49,31 @@ pub fn put_account(
         out.new
         × (result ≤ at + 128) }
 {
-    let counts = [slots, credit.0, bytes.0];
-    let rest = [lost.0];
-    let a = put_number(&mut *out, at, block as u64);
-    let b = put_columns(&mut *out, a, &counts);
-    let c = put_byte(&mut *out, b, SPACE);
-    let d = put_signed(&mut *out, c, difference);
-    let e = put_columns(&mut *out, d, &rest);
-    put_byte(out, e, LINE_END)
+    let a = put_number(out, at, block.into());
+    let b = put_columns(out, a, &[slots, credit.0, bytes.0]);
+    let c = put_byte(out, b, b' ');
+    let d = put_signed(out, c, difference);
+    let e = put_columns(out, d, &[lost.0]);
+    put_byte(out, e, b'\n')
 }
 
 pub fn put_full(out: &mut [u8], at: usize) -> usize
     requires { at + 128 ≤ length out.old }
     ensures { Written out.old at full_line result out.new × (result ≤ at + 128) }
 {
-    let numbers = [0u64; 0];
-    put_line(out, at, b"full", &numbers)
+    put_line(out, at, b"full", &[])
 }
 
 pub fn put_broken(out: &mut [u8], at: usize, offset: u64) -> usize
     requires { at + 128 ≤ length out.old }
     ensures { Written out.old at (broken_line offset) result out.new × (result ≤ at + 128) }
 {
-    let numbers = [offset];
-    put_line(out, at, b"broken", &numbers)
+    Line::Broken { offset }.put(out, at)
 }
 
 pub fn put_long(out: &mut [u8], at: usize) -> usize
     requires { at + 128 ≤ length out.old }
     ensures { Written out.old at long_line result out.new × (result ≤ at + 128) }
 {
-    let numbers = [0u64; 0];
-    put_line(out, at, b"long", &numbers)
+    Line::Long.put(out, at)
 }

@@ -1,7 +1,8 @@
 -- `report_lines::put_account` meets its contract: the line fits the room (account_fits_lem), and its columns are written one after
 -- another. Assumes nothing.
+use mathlib.Core.Path.{◌≡◌}
 use mathlib.Core.List.{◌∷◌, []}
-use Prim.Native.Nat.{◌+◌, ◌≤◌}
+use Prim.Native.Nat.{ℕ, ◌+◌, ◌≤◌}
 use native.Mathlib.Omega.{arith}
 use mir.Syntax.{w64}
 use mir.Val.{Fits, to_z, of_z}
@@ -27,11 +28,11 @@ line_most c =
     (size_most c.args.difference c.ranges.difference) l.fits
 
 -- the room for the line, column by column; the difference as the i64 holds it
-room : (c : Start) → (let args = c.args in
-    args.at + length (decimal args.block) + length (columns (args.slots ∷ args.credit.0 ∷ args.bytes.0 ∷ [])) + 1
+room : (c : Start) (block : ℕ) → block ≡ c.args.block → (let args = c.args in
+    args.at + length (decimal block) + length (columns (args.slots ∷ args.credit.0 ∷ args.bytes.0 ∷ [])) + 1
     + length (signed (to_z w64 (of_z w64 args.difference))) + length (columns (args.lost.0 ∷ [])) + 1 ≤ length args.out.now)
-room c =
-    rw (to_z-of_z c.ranges.difference)
+room c block e =
+    rw (to_z-of_z c.ranges.difference, e)
     (omega (
       arith,
       account_length c.args.block c.args.slots c.args.credit.0 c.args.bytes.0 c.args.difference c.args.lost.0,
@@ -40,78 +41,34 @@ room c =
     ))
 
 pub put_number-a-requires : goal.put_number-a-requires
-put_number-a-requires c = omega (arith, room (goal.at.put_number-a-requires c).Start)
+put_number-a-requires c =
+    omega (arith, room (goal.at.put_number-a-requires c).Start _ c.into.ensures)
 
 pub put_columns-b-requires : goal.put_columns-b-requires
 put_columns-b-requires c =
-    omega (
-      arith,
-      room (goal.at.put_columns-b-requires c).Start,
-      c.put_number-a.ensures.ends,
-      c.put_number-a.auto.out,
-    )
+    omega (arith, room (goal.at.put_columns-b-requires c).Start _ c.into.ensures)
 
 pub put_byte-c-requires : goal.put_byte-c-requires
 put_byte-c-requires c =
-    omega (
-      arith,
-      room (goal.at.put_byte-c-requires c).Start,
-      c.put_number-a.ensures.ends,
-      c.put_number-a.auto.out,
-      c.put_columns-b.ensures.ends,
-      c.put_columns-b.auto.out,
-    )
+    omega (arith, room (goal.at.put_byte-c-requires c).Start _ c.into.ensures)
 
 pub put_signed-d-requires : goal.put_signed-d-requires
 put_signed-d-requires c =
-    omega (
-      arith,
-      room (goal.at.put_signed-d-requires c).Start,
-      c.put_number-a.ensures.ends,
-      c.put_number-a.auto.out,
-      c.put_columns-b.ensures.ends,
-      c.put_columns-b.auto.out,
-      c.put_byte-c.ensures.ends,
-      c.put_byte-c.auto.out,
-    )
+    omega (arith, room (goal.at.put_signed-d-requires c).Start _ c.into.ensures)
 
 pub put_columns-e-requires : goal.put_columns-e-requires
 put_columns-e-requires c =
-    omega (
-      arith,
-      room (goal.at.put_columns-e-requires c).Start,
-      c.put_number-a.ensures.ends,
-      c.put_number-a.auto.out,
-      c.put_columns-b.ensures.ends,
-      c.put_columns-b.auto.out,
-      c.put_byte-c.ensures.ends,
-      c.put_byte-c.auto.out,
-      c.put_signed-d.ensures.ends,
-      c.put_signed-d.auto.out,
-    )
+    omega (arith, room (goal.at.put_columns-e-requires c).Start _ c.into.ensures)
 
 pub put_byte-requires : goal.put_byte-requires
 put_byte-requires c =
-    omega (
-      arith,
-      room (goal.at.put_byte-requires c).Start,
-      c.put_number-a.ensures.ends,
-      c.put_number-a.auto.out,
-      c.put_columns-b.ensures.ends,
-      c.put_columns-b.auto.out,
-      c.put_byte-c.ensures.ends,
-      c.put_byte-c.auto.out,
-      c.put_signed-d.ensures.ends,
-      c.put_signed-d.auto.out,
-      c.put_columns-e.ensures.ends,
-      c.put_columns-e.auto.out,
-    )
+    omega (arith, room (goal.at.put_byte-requires c).Start _ c.into.ensures)
 
 pub returns : goal.returns
 returns c =
     let whole =
     account_all c.args.block c.args.slots c.args.credit.0 c.args.bytes.0 c.args.difference
-    c.args.lost.0 c.put_number-a.ensures c.put_columns-b.ensures
+    c.args.lost.0 (rw c.into.ensures at c.put_number-a.ensures) c.put_columns-b.ensures
     c.put_byte-c.ensures (rw (to_z-of_z c.ranges.difference) at c.put_signed-d.ensures)
     c.put_columns-e.ensures c.put_byte.ensures in (
       whole,
