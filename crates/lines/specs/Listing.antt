@@ -68,14 +68,14 @@ broken_line offset = line_of broken_word (offset ∷ [])
 unfoldable pub long_line : List ℕ
 long_line = line_of long_word []
 
--- the line that a value of the code stands for
-abbrev pub text_of : Line → List ℕ
-text_of (Open block code) = open_line block code
-text_of (Close block code) = close_line block code
-text_of (Name old new code) = name_line old new code
-text_of (In number code) = in_line number code
-text_of (Out block number length clock) = out_line block number length clock
-text_of (Refused code) = refused_line code
-text_of (End clock bytes waiting) = end_line clock bytes waiting
-text_of (Broken offset) = broken_line offset
-text_of Long = long_line
+-- The bytes of each line that the code can put.
+abbrev pub bytes_of : Line → List ℕ
+bytes_of (Open block code) = open_line block code
+bytes_of (Close block code) = close_line block code
+bytes_of (Name old new code) = name_line old new code
+bytes_of (In number code) = in_line number code
+bytes_of (Out block number length clock) = out_line block number length clock
+bytes_of (Refused code) = refused_line code
+bytes_of (End clock bytes waiting) = end_line clock bytes waiting
+bytes_of (Broken offset) = broken_line offset
+bytes_of Long = long_line
