@@ -13,7 +13,7 @@ fn ring_entry(first: u16, depth: u16, start: u16, j: u16) -> usize
     requires { 1 ≤ depth }
     ensures { result ≡ ring_entry first depth start j }
 {
-    first as usize + (start as usize + j as usize) % depth as usize
+    usize::from(first) + (usize::from(start) + usize::from(j)) % usize::from(depth)
 }
 
 // The start of a ring after a send.
@@ -21,7 +21,7 @@ fn ring_on(depth: u16, start: u16) -> u16
     requires { 1 ≤ depth }
     ensures { result ≡ ring_on depth start }
 {
-    ((start as usize + 1) % depth as usize) as u16
+    ((u32::from(start) + 1) % u32::from(depth)) as u16
 }
 
 // The first entry of a place's lane.
@@ -29,7 +29,7 @@ fn first_entry(place: usize) -> u16
     requires { place < 64 }
     ensures { result ≡ lane_first place }
 {
-    DEPTH * (place as u16)
+    DEPTH * place as u16
 }
 
 // How deep a lane is.

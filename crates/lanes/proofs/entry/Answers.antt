@@ -1,7 +1,8 @@
 -- `lanes::entry` meets its contract: it is the ring's entry, as first entry and depth are the lane's, and it lies in
 -- the tables (lane_inside). Assumes nothing.
+use mathlib.Core.Path.{◌≡◌}
 use native.Mathlib.Omega.{arith}
-use borrow.Author.Rules.{rules}
+use Rattle.lanes.specs.Lanes.{lane_entry}
 use Rattle.lanes.proofs.Lanes.{depth_positive, lane_inside}
 use Rattle.lanes.proofs.entry.Goals as goal
 
@@ -10,10 +11,5 @@ ring_entry-requires c = omega (arith, c.depth.ensures, depth_positive)
 
 pub returns : goal.returns
 returns c =
-    let at-depth = c.before in
-    let at-first-entry = at-depth.before in
-    let at-start = at-first-entry.before in (
-      rw (← at-first-entry.first_entry.ensures, ← at-depth.depth.ensures) c.ring_entry.ensures,
-      rw (c.ring_entry.ensures, at-first-entry.first_entry.ensures, at-depth.depth.ensures)
-          (lane_inside at-start.args.place at-start.args.start at-start.args.j at-start.requires),
-    )
+    let is : c.ring_entry.result ≡ lane_entry c.args.place c.args.start c.args.j = rw (← c.first_entry.ensures, ← c.depth.ensures) c.ring_entry.ensures in
+    (is, rw is (lane_inside c.args.place c.args.start c.args.j c.requires))

@@ -1,13 +1,7 @@
 -- `lanes::onward` meets its contract: the ring's depth is the lane's, which is not 0 (depth_positive). Assumes nothing.
 use native.Mathlib.Omega.{arith}
-use borrow.Author.Rules.{rules}
 use Rattle.lanes.proofs.Lanes.{depth_positive}
 use Rattle.lanes.proofs.onward.Goals as goal
 
 pub ring_on-requires : goal.ring_on-requires
 ring_on-requires c = omega (arith, c.depth.ensures, depth_positive)
-
-pub returns : goal.returns
-returns c =
-    let at-depth = c.before in
-    rw (← at-depth.depth.ensures) c.ring_on.ensures
