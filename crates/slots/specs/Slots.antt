@@ -1,16 +1,18 @@
 -- WORKING DEFINITIONS: the clock, the choice, and a slot's beginning and end, on the board's lists. Theorems tie them
 -- to the rules; no promise of a call cites one.
 use Rattle.std.specs.Prelude.{◌≡◌, cond, List, ℕ, zero, suc, ◌+◌, ◌-◌, ◌/◌, ◌^◌, ◌≤◌, ◌<◌, ltb, leb, eqb, get_or, set}
-use Rattle.std.specs.Prelude.{replicate}
+use Rattle.std.specs.Prelude.{replicate, Option, None, Some, Result, Ok, Err}
 use Rattle.bits.specs.Sets.{with_bit, without_bit, lowest_bit}
 use Rattle.units.specs.Classes.{class_of, next_start}
 use Rattle.units.specs.Credit.{credit_of}
-use Rattle.board.specs.declared.After.{After}
-use Rattle.board.specs.Memory.{Queues, queues_now, Engine, numbers_now, orders_now}
+use Rattle.units.specs.declared.Parts.{Parts}
+use Rattle.numbers.specs.declared.refusal.Refusal.{Refusal}
+use Rattle.numbers.specs.Codes.{refusal_code}
+use Rattle.board.specs.declared.Board.{Board}
+use Rattle.board.specs.Memory.{After, Queues, queues_now, Engine, engine_now, numbers_now, orders_now, numbers_of}
+use Rattle.board.specs.Memory.{with_engine}
 use Rattle.taking.specs.Taking.{joined_orders}
-use Rattle.slots.specs.declared.Begun.{Begun}
-use Rattle.slots.specs.declared.Choice.{Choice}
-use Rattle.slots.specs.declared.Choice.TheVariants.{Stop, Go}
+use Rattle.slots.specs.declared.Turn.{Turn}
 
 -- ---- The clock goes on
 
@@ -21,6 +23,15 @@ pub record Turned : Type 0 where
 
 abbrev pub turned_now : (pending : ℕ) (held : List ℕ) → Turned
 turned_now pending held = record { pending = pending; held = held }
+
+abbrev pub turned_of : Board → Turned
+turned_of b = turned_now b.pending b.held
+
+-- the board at a later clock
+abbrev pub with_turned : Board → (to : ℕ) → Turned → Board
+with_turned b to x =
+    with_engine b (engine_now b.starts b.counts b.deficits b.ready b.next b.heads b.tails x.held
+    (numbers_now to b.active x.pending b.slot b.left.0))
 
 -- a start of class k is passed: its held share goes, and it is pending if its order has a block
 abbrev pub passed : (k : ℕ) (heads : List ℕ) → Turned → Turned
@@ -37,6 +48,20 @@ unfoldable pub turned : (from to : ℕ) (heads : List ℕ) → Turned → Turned
 turned from to heads s = turned_from 17 0 from to heads s
 
 -- ---- The choice
+
+-- the link to a place, or to none
+abbrev pub link_to : Option ℕ → ℕ
+link_to None = 0
+link_to (Some place) = place + 1
+
+-- what is served next: the place and the clock of its slot; or the code of a refusal
+pub data Choice : Type 0 where
+  Stop : (code : ℕ) → Choice
+  Go : (place time : ℕ) → Choice
+
+abbrev pub choice_in : Result Turn Refusal → Choice
+choice_in (Ok turn) = Go turn.place turn.time
+choice_in (Err refusal) = Stop (refusal_code refusal)
 
 -- the lowest pending class; where none is pending, the lowest active one
 unfoldable pub chosen_class : (active pending : ℕ) → ℕ
@@ -72,6 +97,14 @@ pub record Links : Type 0 where
 abbrev pub links_now : (next heads tails : List ℕ) → Links
 links_now next heads tails = record { next = next; heads = heads; tails = tails }
 
+abbrev pub links_of : Board → Links
+links_of b = links_now b.next b.heads b.tails
+
+abbrev pub with_links : Board → Links → Board
+with_links b l =
+    with_engine b (engine_now b.starts b.counts b.deficits b.ready l.next l.heads l.tails b.held
+    (numbers_of b))
+
 -- the first of class k's order leaves it
 unfoldable pub left_links : (place k : ℕ) → Links → Links
 left_links place k l =
@@ -83,6 +116,11 @@ unfoldable pub still_pending : (set k clock : ℕ) (heads ready : List ℕ) → 
 still_pending set k clock heads ready =
     let first = get_or heads k 0 in
     cond (eqb first 0) (without_bit set k) (cond (ltb clock (get_or ready (first - 1) 0)) (without_bit set k) set)
+
+-- what is left of a slot that begins, and the classes that stay pending
+pub record Begun : Type 0 where
+  pub left : Parts
+  pub pending : ℕ
 
 pub record Beginning : Type 0 where
   pub begun : Begun
@@ -102,6 +140,12 @@ began_at shares largest place k time clock pending q =
       pending = still_pending on.pending k time links.heads ready;
     })
     (queues_now (set q.deficits place 0) ready links.next links.heads links.tails on.held)
+
+-- the board with the slot of a place, which begins at that clock
+abbrev pub with_slot : Board → (place time : ℕ) → Beginning → Board
+with_slot b place time x =
+    let now = numbers_now time b.active x.begun.pending (place + 1) x.begun.left.0 in
+    with_engine b (record { starts = b.starts; counts = b.counts; queues = x.queues; now = now })
 
 pub record CanBegin (shares : List ℕ) (largest place k : ℕ) (q : Queues) : Type 0 where
   pub inside : place < 64
@@ -145,6 +189,10 @@ pub record EmptyEnd : Type 0 where
 abbrev pub empty_end_now : After → (held : List ℕ) → EmptyEnd
 empty_end_now now held = record { now = now; held = held }
 
+abbrev pub with_empty_end : Board → EmptyEnd → Board
+with_empty_end b x =
+    with_engine b (engine_now b.starts b.counts b.deficits b.ready b.next b.heads b.tails x.held x.now)
+
 unfoldable pub ended_empty : (k clock active pending : ℕ) (heads held : List ℕ) → EmptyEnd
 ended_empty k clock active pending heads held =
     let rest = still_active active k heads in
@@ -158,6 +206,10 @@ pub record WaitingEnd : Type 0 where
 
 abbrev pub waiting_end_now : After → Queues → WaitingEnd
 waiting_end_now now queues = record { now = now; queues = queues }
+
+abbrev pub with_waiting_end : Board → WaitingEnd → Board
+with_waiting_end b x =
+    with_engine b (record { starts = b.starts; counts = b.counts; queues = x.queues; now = x.now })
 
 unfoldable pub ended_waiting : (place k rest clock active pending : ℕ) → Queues → WaitingEnd
 ended_waiting place k rest clock active pending q =

@@ -1,45 +1,40 @@
 -- `slots::begin` meets its contract: its steps, one after the other, are the definition's; a class is at most 16
 -- (class_le), and deficit and credit fit in one number (credit_under). Assumes nothing.
 use Rattle.slots.proofs.Cases.{set_bound}
-use Rattle.slots.specs.Slots.{Links, left_links, began_at}
+use Rattle.slots.specs.Slots.{left_links, began_at}
 use Rattle.rules.proofs.Shape.{most_pos}
 use Rattle.units.proofs.Credits.{credit_under, charge_small}
 use Rattle.units.proofs.Classes.{class_le}
 use lib.ListN.{get_or}
 use native.Mathlib.Omega.{arith}
-use mathlib.Core.Path.{ap}
-use Prim.Native.Nat.{◌<◌}
 use Rattle.slots.proofs.begin.Goals as goal
 
 pub leave-requires : goal.leave-requires
 leave-requires c =
-    (c.requires.inside, omega (arith, c.requires.class, class_le (get_or c.args.shares.now c.args.place 0)))
+    (c.requires.inside, omega (arith, c.class_of-class.ensures, class_le (get_or c.args.b.now.shares c.args.turn.place 0)))
 
-pub still_pending-rest-requires : goal.still_pending-rest-requires
+pub still_pending-b-requires : goal.still_pending-b-requires
 unfolding left_links
-still_pending-rest-requires c = (
-  omega (arith, c.requires.class, class_le (get_or c.args.shares.now c.args.place 0)),
-  rw (ap (λ (l : Links). l.heads) c.leave.ensures) (set_bound c.args.heads.now c.args.k _ 64 c.requires.behind),
+still_pending-b-requires c = (
+  omega (arith, c.class_of-class.ensures, class_le (get_or c.args.b.now.shares c.args.turn.place 0)),
+  rw (c.leave.ensures, c.advance.ensures) (set_bound c.args.b.now.heads c.class_of-class.result _ 64 c.requires.behind),
 )
 
-pub overflow_cast-k : goal.overflow_cast-k
-overflow_cast-k c =
-    let h : c.args.k < 17 =
-    omega (arith, c.requires.class, class_le (get_or c.args.shares.now c.args.place 0)) in omega arith
-
-pub overflow_add-left : goal.overflow_add-left
-overflow_add-left c =
-    let most = c.args.largest in
-    let share = get_or c.args.shares.now c.args.place 0 in
+pub overflow_add-b-2 : goal.overflow_add-b-2
+overflow_add-b-2 c =
+    let most = c.args.b.now.largest in
+    let share = get_or c.args.b.now.shares c.args.turn.place 0 in
     let under = credit_under most share c.requires.high (most_pos most c.requires.least) in
-    omega (arith, under, charge_small most c.requires.most, c.credit-credit.ensures, c.requires.owed)
+    let paid = rw c.from.ensures at c.credit-credit.ensures in
+    omega (arith, under, charge_small most c.requires.most, paid, c.requires.owed)
 
 pub returns : goal.returns
 unfolding began_at
-returns c =
-    rw (
-      ← c.advance-set.ensures,
-      ← c.leave.ensures,
-      c.still_pending-rest.ensures,
-      c.credit-credit.ensures,
-    )
+returns c = rw (
+  c.still_pending-b.ensures,
+  c.leave.ensures,
+  c.advance.ensures,
+  c.credit-credit.ensures,
+  c.from.ensures,
+  c.class_of-class.ensures,
+)

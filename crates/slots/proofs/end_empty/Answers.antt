@@ -2,15 +2,14 @@
 -- active or none does. Assumes nothing.
 use Rattle.slots.specs.Slots.{ended_empty}
 use borrow.Author.Tests.{eq-eqb, ne_eqb}
-use Rattle.slots.proofs.end_empty.Goals.{then-rest-eq0, else-rest-eq0}
+use Rattle.slots.proofs.end_empty.Goals.{then-b-eq0, else-b-eq0}
 use Rattle.slots.proofs.end_empty.Goals as goal
 
 pub returns : goal.returns
 unfolding ended_empty
 returns c =
-    elim c.if-rest-eq0.branch [
-      | then-rest-eq0 w ↦
-          rw (w.held-is, w.clear_held.ensures, ← c.advance-set.ensures, ← c.still_active-rest.ensures, eq-eqb _ _ w.if-rest-eq0.true)
-      | else-rest-eq0 w ↦
-          rw (w.held-is, ← c.advance-set.ensures, ← c.still_active-rest.ensures, ne_eqb _ _ w.if-rest-eq0.false)
+    let e = rw c.advance.ensures at c.still_active-b.ensures in
+    elim c.if-b-eq0.branch [
+      | then-b-eq0 w ↦ rw (w.b-is, c.advance.ensures, ← e, eq-eqb c.still_active-b.result 0 w.if-b-eq0.true)
+      | else-b-eq0 w ↦ rw (w.b-is, c.advance.ensures, ← e, ne_eqb c.still_active-b.result 0 w.if-b-eq0.false)
     ]

@@ -6,4 +6,4 @@ use Rattle.slots.proofs.end_waiting.Goals as goal
 pub returns : goal.returns
 unfolding ended_waiting
 returns c =
-    rw (← c.next_start-time.ensures, ← c.join_in-waiting.ensures, ← c.advance-set.ensures)
+    rw (c.advance.ensures, c.join_in.ensures.rest, ← c.next_start-time.ensures, ← c.join_in.ensures.joined)

@@ -4,11 +4,11 @@ use borrow.Author.Tests.{eq-eqb, ne_eqb}
 use Rattle.slots.specs.Slots.{slot_clock}
 use Rattle.slots.proofs.slot_clock.Goals as goal
 
-pub returns-then-pending-eq0 : goal.returns-then-pending-eq0
+pub returns-then-b-eq0 : goal.returns-then-b-eq0
 unfolding slot_clock
-returns-then-pending-eq0 c =
-    rw (eq-eqb _ _ c.if-pending-eq0.true) c.next_start.ensures
+returns-then-b-eq0 c =
+    rw (eq-eqb _ _ c.if-b-eq0.true) c.next_start.ensures
 
 pub returns : goal.returns
 unfolding slot_clock
-returns c = rw (ne_eqb _ _ c.if-pending-eq0.false)
+returns c = rw (ne_eqb _ _ c.if-b-eq0.false)

@@ -4,11 +4,11 @@ use borrow.Author.Tests.{eq-eqb, ne_eqb}
 use Rattle.slots.specs.Slots.{still_active}
 use Rattle.slots.proofs.still_active.Goals as goal
 
-pub returns-then-heads-k-eq-NO_LINK : goal.returns-then-heads-k-eq-NO_LINK
+pub returns-then-b-k-eq-NO_LINK : goal.returns-then-b-k-eq-NO_LINK
 unfolding still_active
-returns-then-heads-k-eq-NO_LINK c =
-    rw (eq-eqb _ _ c.if-heads-k-eq-NO_LINK.true) c.without_bit.ensures
+returns-then-b-k-eq-NO_LINK c =
+    rw (eq-eqb _ _ c.if-b-k-eq-NO_LINK.true) c.without_bit.ensures
 
 pub returns : goal.returns
 unfolding still_active
-returns c = rw (ne_eqb _ _ c.if-heads-k-eq-NO_LINK.false)
+returns c = rw (ne_eqb _ _ c.if-b-k-eq-NO_LINK.false)

@@ -1,20 +1,16 @@
--- `slots::still_pending` meets its contract: one return for each test of the definition; the first link is a place, as
--- is asked. Assumes nothing.
-use borrow.Author.Tests.{eq-eqb, ne_eqb, lt-ltb, le-ltb}
-use Rattle.slots.specs.Slots.{still_pending}
+-- `slots::still_pending` meets its contract: the order has a first block or none (first_due, first_late, no_first).
+-- Assumes nothing.
+use Rattle.slots.proofs.Cases.{first_due, first_late, no_first}
+use Rattle.slots.proofs.still_pending.Goals.{in_default-via-in-Some+else-b-first, in_default-via-in_default}
 use Rattle.slots.proofs.still_pending.Goals as goal
 
-pub returns-then-first-eq-NO_LINK : goal.returns-then-first-eq-NO_LINK
-unfolding still_pending
-returns-then-first-eq-NO_LINK c =
-    rw (eq-eqb _ _ c.if-first-eq-NO_LINK.true) c.without_bit.ensures
+pub returns-in-Some : goal.returns-in-Some
+returns-in-Some c = first_due _ _ _ _ _ _ c.in-Some.ensures c.if-b-first.true
 
-pub returns-then-clock-ready : goal.returns-then-clock-ready
-unfolding still_pending
-returns-then-clock-ready c =
-    rw (ne_eqb _ _ c.if-first-eq-NO_LINK.false, lt-ltb _ _ c.if-clock-ready.true) c.without_bit-then-clock-ready.ensures
-
-pub returns : goal.returns
-unfolding still_pending
-returns c =
-    rw (ne_eqb _ _ c.if-first-eq-NO_LINK.false, le-ltb _ _ c.if-clock-ready.false)
+pub returns-in_default : goal.returns-in_default
+returns-in_default c =
+    rw c.without_bit.ensures
+    (elim c.in_default.branch [
+      | in_default-via-in-Some+else-b-first w ↦ first_late _ _ _ _ _ _ w.in-Some.ensures w.if-b-first.false
+      | in_default-via-in_default w ↦ no_first _ _ _ _ _ w.in_default.ensures
+    ])
