@@ -1,6 +1,6 @@
 -- What is read from the four lists: from blank ones, after a send and after a close, which leave them as long as they were. The right sides are those of the
 -- rules' laws `counted_sent` and `counted_closed` (crate accounts), so that the two meet.
-use mathlib.Core.Path.{◌≡◌, refl, fun_ext, ◌∙◌}
+use mathlib.Core.Path.{◌≡◌, refl, ap, fun_ext, ◌∙◌}
 use mathlib.Core.Bool.{Bool, true, false, cond}
 use mathlib.Core.Logic.{◌≢◌}
 use mathlib.Core.List.{List}
@@ -15,7 +15,8 @@ use Rattle.base.specs.Sums.{one_if}
 use Rattle.rules.specs.Board.{bytes_charged}
 use Rattle.rules.specs.Choice.{Sending}
 use Rattle.accounts.specs.Accounts.{Account, no_account, added, no_counts}
-use Rattle.counting.specs.Counting.{Tallies, TalliesSized, account_with, account_now, counts_now, read_counts, zero_counts}
+use Rattle.counting.specs.Counting.{Tallies, TalliesSized, account_with, account_now, counts_now, read_counts, zero_account, zero_counts, tallies_of, account_of}
+use Rattle.counting.proofs.Accounts.{account_at}
 use Rattle.counting.specs.Steps.{over_in, more_at, send_added, sent_in, vanished_in}
 
 -- ---- ACCOUNTS
@@ -28,13 +29,14 @@ same_counts t full f h = λ j. record { accounts = fun_ext h j; full = full }
 
 -- ---- BLANK
 
-zeros_at : (n p : ℕ) → get_or {A = ℕ} (replicate n 0) p 0 ≡ 0
+zeros_at : (n p : ℕ) → get_or (replicate n zero_account) p zero_account ≡ zero_account
 zeros_at zero p = refl
 zeros_at (suc n) zero = refl
 zeros_at (suc n) (suc p) = zeros_at n p
 
 pub zero_reads : read_counts zero_counts ≡ no_counts
-zero_reads = λ j. record { accounts = fun_ext (λ p. same_account (zeros_at 64 p) (zeros_at 64 p) (zeros_at 64 p) (zeros_at 64 p)) j; full = false }
+zero_reads =
+    same_counts (tallies_of zero_counts) false (λ p. no_account) (λ p. account_at zero_counts p ∙ ap account_of (zeros_at 64 p))
 
 -- ---- AS LONG AS BEFORE
 

@@ -1,4 +1,5 @@
 -- The laws of this crate, for those that stand on it.
-pub mod Sums
+pub mod Accounts
+pub mod Ranges
 pub mod Counting
 pub mod Fitting

@@ -1,6 +1,6 @@
--- THE COUNTS IN MEMORY: four arrays of 64 and a flag, how they are read as the rules' counts (crate accounts), and the
--- test of counts that were handed in.
-use Rattle.std.specs.Prelude.{◌≡◌, Bool, false, cond, ◌||◌, List, ℕ, ◌+◌, ltb, eqb, length, get_or, replicate}
+-- THE COUNTS IN MEMORY: an account for each of the 64 places and a flag, how they are read as the rules' counts (crate
+-- accounts), and the test of counts that were handed in.
+use Rattle.std.specs.Prelude.{◌≡◌, Bool, false, cond, ◌||◌, List, map, ℕ, ◌+◌, ltb, eqb, length, get_or, replicate}
 use Rattle.base.specs.Tests.{Decides, all_below}
 use Rattle.accounts.specs.Accounts
 use Rattle.accounts.specs.Accounts.{Account, fits_with, CountsFit}
@@ -8,8 +8,9 @@ use Rattle.board.specs.declared.Board.{Board}
 use Rattle.board.specs.Reading.{view}
 use Rattle.board.specs.Leaving.{Known}
 use Rattle.counting.specs.declared.Counts as struct
+use Rattle.counting.specs.declared.Account as struct-account
 
--- the four arrays
+-- the accounts as four lists, one for each of their fields
 pub record Tallies : Type 0 where
   pub slots : List ℕ
   pub credits : List ℕ
@@ -20,9 +21,11 @@ abbrev pub tallies_now : (slots credits bytes lost : List ℕ) → Tallies
 tallies_now slots credits bytes lost = record { slots = slots; credits = credits; bytes = bytes; lost = lost }
 
 abbrev pub tallies_of : struct.Counts → Tallies
-tallies_of c = tallies_now c.slots c.credits c.bytes c.lost
+tallies_of c =
+    tallies_now (map (λ a. a.slots) c.accounts) (map (λ a. a.credit.0) c.accounts) (map (λ a. a.bytes.0) c.accounts)
+    (map (λ a. a.lost.0) c.accounts)
 
--- what the arrays' types say of every value
+-- what the type of the accounts says of every value
 pub record TalliesSized (t : Tallies) : Type 0 where
   pub slots : length t.slots ≡ 64
   pub credits : length t.credits ≡ 64
@@ -33,6 +36,10 @@ pub record TalliesSized (t : Tallies) : Type 0 where
 
 abbrev pub account_with : (slots credit bytes lost : ℕ) → Account
 account_with slots credit bytes lost = record { slots = slots; credit = credit; bytes = bytes; lost = lost }
+
+-- one account in memory
+abbrev pub account_of : struct-account.Account → Account
+account_of a = account_with a.slots a.credit.0 a.bytes.0 a.lost.0
 
 -- the account of place p; beyond the places all is 0
 abbrev pub account_now : Tallies → (p : ℕ) → Account
@@ -45,15 +52,17 @@ abbrev pub read_counts : struct.Counts → Accounts.Counts
 read_counts c = counts_now (tallies_of c) c.full
 
 -- the counts before anything was counted
-abbrev pub zero_counts : struct.Counts
-zero_counts =
+abbrev pub zero_account : struct-account.Account
+zero_account =
     record {
-      slots = replicate 64 0;
-      credits = replicate 64 0;
-      bytes = replicate 64 0;
-      lost = replicate 64 0;
-      full = false;
+      slots = 0;
+      credit = record { 0 = 0 };
+      bytes = record { 0 = 0 };
+      lost = record { 0 = 0 };
     }
+
+abbrev pub zero_counts : struct.Counts
+zero_counts = record { accounts = replicate 64 zero_account; full = false }
 
 -- ---- COUNTS THAT WERE HANDED IN
 

@@ -1,4 +1,4 @@
--- `counting::blank` meets its contract: the arrays are zeros, which are read as no counts (zero_reads).
+-- `counting::blank` meets its contract: the accounts are all 0, which are read as no counts (zero_reads).
 -- Assumes nothing.
 use mathlib.Core.Path.{refl}
 use Rattle.counting.proofs.Counting.{zero_reads}

@@ -1,8 +1,7 @@
--- `counting::count_close` meets its contract: each store is one of the definition's. Assumes nothing.
-use mathlib.Core.Path.{refl}
+use Rattle.std.proofs.lemmas.List.{map-set}
 use Rattle.counting.specs.Steps.{vanished_in}
 use Rattle.counting.proofs.count_close.Goals as goal
 
-pub returns : goal.returns
+pub returns-clause-vanished : goal.returns-clause-vanished
 unfolding vanished_in
-returns c = refl
+returns-clause-vanished c = simp map-set

@@ -1,42 +1,24 @@
--- `counting::counts_fit` meets its contract: the loop keeps that the accounts below p fit, and the first that does not
--- ends it (all_more, all_stop). Assumes nothing.
-use mathlib.Core.Path.{◌≡◌, sym}
-use native.Mathlib.Omega.{arith}
-use borrow.Author.Rules.{rules}
-use Rattle.base.proofs.Loops.{all_more, all_none, all_stop}
+-- `counting::counts_fit` meets its contract: each place is asked, and all of a range pass where all below its end do
+-- (all_range). Assumes nothing.
+use mathlib.Core.Path.{refl, ◌∙◌}
+use Rattle.std.proofs.Common.{rules}
+use Rattle.std.proofs.lemmas.Iterator.{serves_from_Range, YieldsList-from_range}
+use Rattle.std.proofs.lemmas.Iterator.Search.{all_from_yields_List}
 use Rattle.counting.specs.Counting.{tallies_of, fits_now, counts_fit_now}
-use Rattle.counting.proofs.Fitting.{hand_under}
+use Rattle.counting.proofs.Ranges.{all_range}
 use Rattle.counting.proofs.counts_fit.Goals as goal
+
+pub all-requires-clause-callable : goal.all-requires-clause-callable
+all-requires-clause-callable c = serves_from_Range (λ x q h. search rules) (λ x low high. search rules)
+
+pub returns-else-c : goal.returns-else-c
+unfolding counts_fit_now
+returns-else-c c =
+    rw c.if-c.false
+    (all_from_yields_List (fits_now c.args.b.now (tallies_of c.args.c.now)) _ _ _ c.all.ensures.ran
+    (YieldsList-from_range 0 64 64 refl refl) (λ x b q k. search rules)
+    ∙ all_range (fits_now c.args.b.now (tallies_of c.args.c.now)) 64)
 
 pub returns-then-c : goal.returns-then-c
 unfolding counts_fit_now
-returns-then-c c = rw c.if-c.true
-
-pub loop-p-init : goal.loop-p-init
-loop-p-init c = (omega arith, all_none _)
-
-pub in_hand-hand-requires : goal.in_hand-hand-requires
-in_hand-hand-requires c = (search rules, c.requires c.loop-p.p)
-
-pub account_fits-requires : goal.account_fits-requires
-account_fits-requires c =
-    rw c.in_hand-hand.ensures (hand_under c.loop-p.p c.args.b.slot _ _ (c.requires c.loop-p.p))
-
-pub returns-then-not-account_fits : goal.returns-then-not-account_fits
-unfolding counts_fit_now
-returns-then-not-account_fits c =
-    rw c.if-c.false
-    (sym (all_stop (λ i. fits_now c.args.b (tallies_of c.args.c) i) 64 c.loop-p.p (omega arith)
-    (rw (← c.in_hand-hand.ensures, ← c.account_fits.ensures) c.if-not-account_fits.true)))
-
-pub loop-p-preserved : goal.loop-p-preserved
-loop-p-preserved c = (
-  omega arith,
-  all_more (λ i. fits_now c.args.b (tallies_of c.args.c) i) c.loop-p.p c.loop-p.invariant.1
-      (rw (← c.in_hand-hand.ensures, ← c.account_fits.ensures) c.if-not-account_fits.false),
-)
-
-pub returns : goal.returns
-unfolding counts_fit_now
-returns c =
-    let e : c.loop-p.p ≡ 64 = omega arith in rw c.if-c.false (sym (rw e at c.loop-p.invariant.1))
+returns-then-c c = search rules
