@@ -1,19 +1,19 @@
 -- The definitions of a send and of a serve case by case, as the code goes through them.
-use mathlib.Core.Path.{◌≡◌}
+use mathlib.Core.Path.{◌≡◌, refl}
 use mathlib.Core.Logic.{◌≢◌}
 use mathlib.Core.List.{List}
 use Prim.Native.Nat.{ℕ, ◌+◌, ◌-◌, ◌≤◌, ◌<◌}
+use native.Mathlib.Omega.{arith}
 use lib.Dec.{eqb}
 use lib.ListN.{length, get_or, set}
 use borrow.Author.Tests.{eq-eqb, ne_eqb, le-leb, lt-leb, lt-ltb, le-ltb}
 use Rattle.units.specs.Classes.{class_of}
 use Rattle.units.specs.Credit.{charged, charge_of}
 use Rattle.lanes.specs.Lanes.{lane_entry, lane_on}
-use Rattle.serving.specs.declared.Step.{Step}
-use Rattle.slots.specs.declared.Choice.TheVariants.{Stop, Go}
+use Rattle.slots.specs.Slots.{Stop, Go}
 use Rattle.board.specs.Memory.{Engine, engine_now, numbers_now}
-use Rattle.slots.specs.Slots.{EmptyEnd, ended_empty, WaitingEnd, ended_waiting, opened, choice_of}
-use Rattle.serving.specs.Serving.{sent_from, lost_from, enacted, CanEnact, stayed, within_now, ServeTells, within_of, served_within}
+use Rattle.slots.specs.Slots.{EmptyEnd, ended_empty, WaitingEnd, ended_waiting, opened_slot, opened, choice, choice_of}
+use Rattle.serving.specs.Serving.{sent_from, lost_from, enacted, CanEnact, ServeTells, untold, within_of, served_within}
 
 -- ---- A send: entry, charge and start are what the code computed
 module _ (shares lens : List ℕ) (p : ℕ) (e : Engine) (entry bytes_charged on k : ℕ) (entry_is : entry ≡ lane_entry p (get_or e.starts p 0) 0)
@@ -75,25 +75,20 @@ module _ (lens : List ℕ) (p : ℕ) (e : Engine) where
 
 -- ---- A serve within a number of bytes and the room of a list
 module _ (shares lens : List ℕ) (L bytes room : ℕ) (e : Engine) where
-  abbrev at_rest : Step → Type 0
-  at_rest s =
-      within_now s e.starts e.counts e.queues.deficits e.queues.ready e.queues.next e.queues.heads e.queues.tails e.queues.held
-      ≡ served_within shares lens L bytes room e
-
-  pub within_stop : (code : ℕ) (s : Step) → choice_of e ≡ Stop code → s ≡ stayed code e.now → at_rest s
+  pub within_stop : (code : ℕ) → choice_of e ≡ Stop code → within_of code untold e ≡ served_within shares lens L bytes room e
   unfolding served_within
-  within_stop code s c s-is = rw (c, s-is)
+  within_stop code c = rw c
 
   module _ (p t : ℕ) (c : choice_of e ≡ Go p t) where
-    pub within_full : (s : Step) → room ≡ 0 → s ≡ stayed 14 e.now → at_rest s
+    pub within_full : room ≡ 0 → within_of 14 untold e ≡ served_within shares lens L bytes room e
     unfolding served_within
-    within_full s z s-is = rw (c, eq-eqb room 0 z, s-is)
+    within_full z = rw (c, eq-eqb room 0 z)
 
     module _ (entry bytes_charged : ℕ) (some : room ≢ 0) (entry_is : entry ≡ lane_entry p (get_or e.starts p 0) 0)
         (charge_is : bytes_charged ≡ charged (get_or lens entry 0)) where
-      pub within_long : (s : Step) → bytes < bytes_charged → s ≡ stayed 13 e.now → at_rest s
+      pub within_long : bytes < bytes_charged → within_of 13 untold e ≡ served_within shares lens L bytes room e
       unfolding served_within
-      within_long s h s-is = rw (c, ne_eqb room 0 some, ← entry_is, ← charge_is, lt-ltb bytes bytes_charged h, s-is)
+      within_long h = rw (c, ne_eqb room 0 some, ← entry_is, ← charge_is, lt-ltb bytes bytes_charged h)
 
       pub within_done : bytes_charged ≤ bytes → (n : Engine) (lost : ℕ)
           → (n ≡ enacted shares lens L p t e) × (lost ≡ lost_from lens p (opened shares L p t e))
@@ -107,3 +102,18 @@ module _ (shares lens : List ℕ) (L bytes room : ℕ) (e : Engine) where
 -- where a slot can serve, its place's lane is in the table
 pub can_read : (shares lens : List ℕ) (L p t : ℕ) (e : Engine) → CanEnact shares lens L p t e → (p < 64) × (length lens ≡ 2048)
 can_read shares lens L p t e c = (c.sends.inside, c.sends.table)
+
+-- a slot that is open serves on
+pub opened_open : (shares : List ℕ) (L p t : ℕ) (e : Engine) → e.now.slot ≢ 0 → choice_of e ≡ Go p t → opened shares L p t e ≡ e
+unfolding opened opened_slot choice
+opened_open shares L p t e ne goes =
+    let f = rw (ne_eqb e.now.slot 0 ne) at goes in
+    let clock : t ≡ e.now.clock = cc in
+    let less : e.now.slot - 1 ≡ p = cc in
+    let slot : p + 1 ≡ e.now.slot = omega arith in
+    rw (ne_eqb e.now.slot 0 ne, slot, clock)
+
+-- the slot that serves is the place's
+pub opened_for : (shares : List ℕ) (L p t : ℕ) (e : Engine) → (opened shares L p t e).now.slot ≡ p + 1
+unfolding opened
+opened_for shares L p t e = refl

@@ -39,7 +39,7 @@ use Rattle.board.proofs.Lists.{get_d_tab, last_in}
 use Rattle.board.proofs.Rings.{lane_at, lane_drop, lane_by, empty_lane}
 use Rattle.board.proofs.Reading.{Fit, small}
 use Rattle.board.proofs.Moves.{after_first}
-use Rattle.slots.specs.declared.Choice.TheVariants.{Stop, Go}
+use Rattle.slots.specs.Slots.{Stop, Go}
 use Rattle.board.specs.Memory.{Engine, engine_of, with_engine}
 use Rattle.slots.specs.Slots.{choice, choice_of, chosen_class, slot_clock, CanChoose, CanBegin, opened_slot, opened}
 use Rattle.serving.specs.Serving.{sent_from, lost_from, CanSend, enacted, CanEnact, CanServe}

@@ -22,8 +22,8 @@ use Rattle.rules.proofs.TidyCalls.{tidy_serve}
 use Rattle.rules.proofs.Frame.{seventeen_step}
 use Rattle.board.specs.Reading.{encode, Holds}
 use Rattle.board.proofs.Reading.{Fit}
-use Rattle.slots.specs.declared.Choice.{Choice}
-use Rattle.slots.specs.declared.Choice.TheVariants.{Go}
+use Rattle.slots.specs.Slots.{Choice}
+use Rattle.slots.specs.Slots.{Go}
 use Rattle.board.specs.Memory.{Engine, engine_of, with_engine}
 use Rattle.slots.specs.Slots.{choice_of, opened}
 use Rattle.serving.specs.Serving.{lost_from, enacted, Within, engine_after, ServeTells, untold, within_of, served_by, served_within}

@@ -1,16 +1,18 @@
 -- WORKING DEFINITIONS: the front record is sent, on the board's lists. Theorems tie them to the rules; no
 -- promise of a call cites one.
 use Rattle.std.specs.Prelude.{◌≡◌, Bool, false, cond, List, ℕ, ◌+◌, ◌-◌, ◌^◌, ◌≤◌, ◌<◌, ltb, leb, eqb, get_or, set}
-use Rattle.std.specs.Prelude.{length}
+use Rattle.std.specs.Prelude.{length, Result, Ok, Err}
+use Rattle.numbers.specs.declared.refusal.Refusal.{Refusal}
+use Rattle.numbers.specs.Codes.{outcome_code}
+use Rattle.units.specs.declared.Bytes.{Bytes}
+use Rattle.units.specs.declared.Parts.{Parts}
 use Rattle.units.specs.Classes.{class_of}
 use Rattle.units.specs.Credit.{charged, charge_of}
 use Rattle.lanes.specs.Lanes.{lane_entry, lane_on}
-use Rattle.board.specs.declared.After.{After}
-use Rattle.board.specs.Memory.{Queues, queues_now, Engine, engine_now, numbers_now}
-use Rattle.slots.specs.declared.Choice.{Choice}
-use Rattle.slots.specs.declared.Choice.TheVariants.{Stop, Go}
-use Rattle.slots.specs.Slots.{choice_of, CanChoose, CanBegin, opened, ended_empty, ended_waiting}
-use Rattle.serving.specs.declared.Step.{Step}
+use Rattle.board.specs.declared.Board.{Board}
+use Rattle.board.specs.Memory.{After, Queues, Engine, engine_now, numbers_now, engine_of}
+use Rattle.slots.specs.Slots.{Choice, Stop, Go, choice_of, CanChoose, CanBegin, opened, ended_empty, ended_waiting}
+use Rattle.serving.specs.declared.Served.{Served}
 
 -- ---- The front record is sent
 
@@ -63,15 +65,23 @@ pub record CanEnact (shares lens : List ℕ) (largest place time : ℕ) (e : Eng
 
 -- ---- One record is served, within a number of bytes and the room of a list
 
+-- the code of one serve; what it tells: the place and the table entry of the record sent, and the bytes charged for
+-- it; the clock at which its slot began, whether the slot began with it, and the parts lost; and the numbers after it
+pub record Step : Type 0 where
+  pub code : ℕ
+  pub place : ℕ
+  pub entry : ℕ
+  pub bytes : Bytes
+  pub slot_clock : ℕ
+  pub began : Bool
+  pub lost : Parts
+  pub after : After
+
 pub record Within : Type 0 where
   pub step : Step
   pub starts : List ℕ
   pub counts : List ℕ
   pub queues : Queues
-
-abbrev pub within_now : Step → (starts counts deficits ready next heads tails held : List ℕ) → Within
-within_now step starts counts deficits ready next heads tails held =
-    record { step = step; starts = starts; counts = counts; queues = queues_now deficits ready next heads tails held }
 
 -- the engine that it leaves
 abbrev pub engine_after : Within → Engine
@@ -110,6 +120,25 @@ stayed code now = step_of code untold now
 -- a code and what is told; the rest is the engine's
 abbrev pub within_of : (code : ℕ) → ServeTells → Engine → Within
 within_of code t e = record { step = step_of code t e.now; starts = e.starts; counts = e.counts; queues = e.queues }
+
+-- what came of a serve: what it tells, the step, and what it leaves of a board
+abbrev pub told_in : Result Served Refusal → ServeTells
+told_in (Err _) = untold
+told_in (Ok served) =
+    record {
+      place = served.place;
+      entry = served.entry;
+      bytes = served.bytes.0;
+      clock = served.slot_clock;
+      began = served.began;
+      lost = served.lost.0;
+    }
+
+abbrev pub step_in : Result Served Refusal → After → Step
+step_in outcome now = step_of (outcome_code outcome) (told_in outcome) now
+
+abbrev pub within_in : Result Served Refusal → Board → Within
+within_in outcome b = within_of (outcome_code outcome) (told_in outcome) (engine_of b)
 
 -- the record that is sent from a place in the slot of that clock
 abbrev pub told_of : (shares lens : List ℕ) (largest place time : ℕ) → Engine → ServeTells

@@ -1,92 +1,70 @@
 -- `serving::serve_within` meets its contract: each return is the case of a serve for the tests that led there
 -- (within_stop, within_full, within_long, within_done), and the lane that is read lies in the table (can_read).
 -- Assumes nothing.
-use Prim.Native.Nat.{ℕ, ◌<◌}
+use Prim.Native.Nat.{◌<◌}
 use lib.ListN.{length}
-use Rattle.board.specs.Memory.{Engine, engine_now, numbers_now}
-use Rattle.slots.specs.declared.Choice.TheVariants.{Go}
-use Rattle.slots.specs.Slots.{choice_of}
-use Rattle.serving.specs.Serving.{CanEnact}
+use Rattle.board.specs.Memory.{engine_of}
+use Rattle.slots.specs.Slots.{opened}
+use Rattle.serving.specs.Serving.{CanEnact, enacted}
 use Rattle.serving.proofs.Cases.{within_stop, within_full, within_long, within_done, can_read}
 use native.Mathlib.Omega.{arith}
-use mathlib.Core.Path.{◌≡◌, sym, ◌∙◌}
+use mathlib.Core.Path.{◌≡◌, refl, sym}
 use borrow.Author.Rules.{rules}
-use Rattle.serving.proofs.serve_within.Goals.{Start}
+use Rattle.std.proofs.lemmas.Result.{err_from_is_err_and}
+use Rattle.serving.proofs.serve_within.Goals.{In_ok-turn}
 use Rattle.serving.proofs.serve_within.Goals as goal
 
--- the engine that is lent
-abbrev entering : Start → Engine
-entering s =
-    let x = s.args in
-    engine_now x.starts.now x.counts.now x.deficits.now x.ready.now x.next.now x.heads.now x.tails.now x.held.now
-    (numbers_now x.clock x.active x.pending x.slot x.left.0)
-
--- it can send
-can_enact : (s : Start) (place time : ℕ) → choice_of (entering s) ≡ Go place time
-    → CanEnact s.args.shares.now s.args.lens.now s.args.largest place time (entering s)
-can_enact s place time goes = s.requires.enacts place time goes
+-- what was chosen can be served
+can_enact : (c : In_ok-turn)
+    → CanEnact c.args.b.now.shares c.args.lens.now c.args.b.now.largest c.in_ok-turn.turn.place c.in_ok-turn.turn.time (engine_of c.args.b.now)
+can_enact c = c.requires.enacts _ _ (sym c.in_ok-turn.ensures)
 
 -- its lane is in the table
-in_table : (s : Start) (place time : ℕ) → choice_of (entering s) ≡ Go place time
-    → (place < 64) × (length s.args.lens.now ≡ 2048)
-in_table s place time goes =
-    let x = s.args in can_read x.shares.now x.lens.now x.largest place time (entering s) (can_enact s place time goes)
+in_table : (c : In_ok-turn) → (c.in_ok-turn.turn.place < 64) × (length c.args.lens.now ≡ 2048)
+in_table c = can_read _ _ _ _ _ _ (can_enact c)
 
-pub returns-then-room-eq0 : goal.returns-then-room-eq0
-returns-then-room-eq0 c =
-    let x = (goal.at.returns-then-room-eq0 c).Start.args in
-    within_full x.shares.now x.lens.now x.largest x.bytes.0 x.room (entering (goal.at.returns-then-room-eq0 c).Start) c.in-Go.place c.in-Go.time
-    (sym c.choose-chosen.ensures ∙ c.in-Go.is) c.stay-then-room-eq0.result c.if-room-eq0.true c.stay-then-room-eq0.ensures
+pub returns-in_err-turn-clause-served : goal.returns-in_err-turn-clause-served
+returns-in_err-turn-clause-served c =
+    let err = err_from_is_err_and c.from_residual.result c.from_residual.ensures.1 in
+    rw (err.1, err.2) (within_stop _ _ _ _ _ (engine_of c.args.b.now) _ (sym c.in_err-turn.ensures))
 
-pub offset_bounds-starts-place : goal.offset_bounds-starts-place
-offset_bounds-starts-place c =
-    let h = (in_table (goal.at.offset_bounds-starts-place c).Start c.in-Go.place c.in-Go.time (sym c.choose-chosen.ensures ∙ c.in-Go.is)).0 in search rules
+pub returns-then-room-eq0-clause-served : goal.returns-then-room-eq0-clause-served
+returns-then-room-eq0-clause-served c =
+    within_full _ _ _ _ _ (engine_of c.args.b.now) _ _ (sym c.in_ok-turn.ensures) c.if-room-eq0.true
 
-pub bounds-starts-place : goal.bounds-starts-place
-bounds-starts-place c = (in_table (goal.at.bounds-starts-place c).Start c.in-Go.place c.in-Go.time (sym c.choose-chosen.ensures ∙ c.in-Go.is)).0
+pub offset_bounds-b-place : goal.offset_bounds-b-place
+offset_bounds-b-place c =
+    let h = (in_table (goal.at.offset_bounds-b-place c).In_ok-turn).0 in search rules
+
+pub bounds-b-place : goal.bounds-b-place
+bounds-b-place c = (in_table (goal.at.bounds-b-place c).In_ok-turn).0
 
 pub entry-entry-requires : goal.entry-entry-requires
-entry-entry-requires c = (in_table (goal.at.entry-entry-requires c).Start c.in-Go.place c.in-Go.time (sym c.choose-chosen.ensures ∙ c.in-Go.is)).0
-
-pub offset_bounds-lens-entry : goal.offset_bounds-lens-entry
-offset_bounds-lens-entry c = omega (arith, c.entry-entry.ensures.1)
+entry-entry-requires c = (in_table (goal.at.entry-entry-requires c).In_ok-turn).0
 
 pub bounds-lens-entry : goal.bounds-lens-entry
 bounds-lens-entry c =
-    omega (
-      arith,
-      c.entry-entry.ensures.1,
-      (in_table (goal.at.bounds-lens-entry c).Start c.in-Go.place c.in-Go.time (sym c.choose-chosen.ensures ∙ c.in-Go.is)).1,
-    )
+    omega (arith, c.entry-entry.ensures.1, (in_table (goal.at.bounds-lens-entry c).In_ok-turn).1)
 
-pub overflow_cast-lens : goal.overflow_cast-lens
-overflow_cast-lens c =
-    omega (arith, c.type_inv.lens c.entry-entry.result)
+pub returns-then-bytes-charge-clause-served : goal.returns-then-bytes-charge-clause-served
+returns-then-bytes-charge-clause-served c =
+    let charge = rw c.from.ensures at c.charged-charge.ensures in
+    within_long _ _ _ _ _ (engine_of c.args.b.now) _ _ (sym c.in_ok-turn.ensures) _ _ c.if-room-eq0.false c.entry-entry.ensures.0
+    charge c.if-bytes-charge.true
 
-pub charged-charge-requires : goal.charged-charge-requires
-charged-charge-requires c =
-    omega (arith, c.type_inv.lens c.entry-entry.result)
+pub open_slot-requires-clause-begins : goal.open_slot-requires-clause-begins
+open_slot-requires-clause-begins c = (can_enact (goal.at.open_slot-requires-clause-begins c).In_ok-turn).begins
 
-pub returns-then-bytes-charge : goal.returns-then-bytes-charge
-returns-then-bytes-charge c =
-    let x = (goal.at.returns-then-bytes-charge c).Start.args in
-    within_long x.shares.now x.lens.now x.largest x.bytes.0 x.room (entering (goal.at.returns-then-bytes-charge c).Start) c.in-Go.place c.in-Go.time
-    (sym c.choose-chosen.ensures ∙ c.in-Go.is) c.entry-entry.result c.charged-charge.result.0 c.if-room-eq0.false c.entry-entry.ensures.0
-    c.charged-charge.ensures c.stay-then-bytes-charge.result c.if-bytes-charge.true c.stay-then-bytes-charge.ensures
+pub send-lost-requires-clause-open : goal.send-lost-requires-clause-open
+unfolding opened
+send-lost-requires-clause-open c = rw c.open_slot.ensures
 
-pub enact-sent-requires : goal.enact-sent-requires
-enact-sent-requires c =
-    can_enact (goal.at.enact-sent-requires c).Start c.in-Go.place c.in-Go.time (sym c.choose-chosen.ensures ∙ c.in-Go.is)
-
-pub returns-in-Stop : goal.returns-in-Stop
-returns-in-Stop c =
-    let x = c.args in
-    within_stop x.shares.now x.lens.now x.largest x.bytes.0 x.room (entering (goal.at.returns-in-Stop c).Start) c.in-Stop.code c.stay.result
-    (sym c.choose-chosen.ensures ∙ c.in-Stop.is) c.stay.ensures
-
-pub returns-else-bytes-charge : goal.returns-else-bytes-charge
-returns-else-bytes-charge c =
-    let x = (goal.at.returns-else-bytes-charge c).Start.args in
-    within_done x.shares.now x.lens.now x.largest x.bytes.0 x.room (entering (goal.at.returns-else-bytes-charge c).Start) c.in-Go.place c.in-Go.time
-    (sym c.choose-chosen.ensures ∙ c.in-Go.is) c.entry-entry.result c.charged-charge.result.0 c.if-room-eq0.false c.entry-entry.ensures.0
-    c.charged-charge.ensures c.if-bytes-charge.false _ c.enact-sent.result.lost.0 c.enact-sent.ensures
+pub returns-clause-served : goal.returns-clause-served
+unfolding enacted
+returns-clause-served c =
+    let charge = rw c.from.ensures at c.charged-charge.ensures in
+    let sent = rw c.open_slot.ensures at c.send-lost.ensures.sent in
+    let lost = rw c.open_slot.ensures at c.send-lost.ensures.lost in
+    rw sent
+    (within_done _ _ _ _ _ (engine_of c.args.b.now) _ _ (sym c.in_ok-turn.ensures) _ _ c.if-room-eq0.false c.entry-entry.ensures.0
+    charge c.if-bytes-charge.false _ _ (refl, lost))
