@@ -1,5 +1,6 @@
 -- A serve on a value that is known to be good: what the code asks of its arrays holds, and what it answers goes by cases.
-use mathlib.Core.Path.{◌≡◌, sym, ap, subst, ◌∙◌}
+use Rattle.std.specs.Prelude.{Result, Ok, Err}
+use mathlib.Core.Path.{◌≡◌, refl, sym, ap, subst, ◌∙◌}
 use mathlib.Core.Logic.{◌⊎◌, inl, inr}
 use mathlib.Core.List.{List}
 use Prim.Native.Nat.{ℕ, ◌<◌}
@@ -12,7 +13,10 @@ use Rattle.board.specs.Memory.{engine_of, with_engine}
 use Rattle.board.specs.Leaving.{Known}
 use Rattle.board.proofs.Reading.{Fit}
 use Rattle.board.proofs.Sound.{sound_encode, fit_view, holds_view}
-use Rattle.serving.specs.Serving.{Within, engine_after, served_within, CanServe}
+use Rattle.numbers.specs.declared.refusal.Refusal.{Refusal}
+use Rattle.numbers.proofs.Refusals.{refusal_not_done}
+use Rattle.serving.specs.declared.Served.{Served}
+use Rattle.serving.specs.Serving.{Within, engine_after, within_in, served_within, CanServe}
 use Rattle.serving.proofs.Serves.{ByAnswer, serve_by_lem, can_serve}
 use Rattle.serving.proofs.Within.{fit_serve, Stops, SendsOne, within_by}
 
@@ -64,3 +68,33 @@ module _ (b : struct.Board) (ids lens : List ℕ) (known : Known b ids lens) whe
   pub refused_stays : (code : ℕ) → (serve m).out ≡ refused code → (serve m).next ≡ m
   unfolding ByAnswer
   refused_stays code e = (subst (λ (o : Out). ByAnswer m ids lens o (serve m).next) e (serve_by_lem m fit ids lens holds)).stays
+
+  -- ---- What came of a serve on the board itself: w is `within_in outcome left`
+  module _ (left : struct.Board) (bytes room : ℕ) where
+    -- a record was sent
+    pub sent_in : (served : Served) → within_in (Ok served) left ≡ within b lens bytes room → SendsOne m ids lens bytes room (within_in (Ok served) left)
+    sent_in served e = go (by_cases bytes room (within_in (Ok served) left) e)
+      where
+        go : Stops m bytes room (within_in (Ok served) left) ⊎ SendsOne m ids lens bytes room (within_in (Ok served) left)
+            → SendsOne m ids lens bytes room (within_in (Ok served) left)
+        go (inl s) = absurd (s.code refl)
+        go (inr g) = g
+
+    -- none was
+    pub stops_in : (refusal : Refusal) → within_in (Err refusal) left ≡ within b lens bytes room → Stops m bytes room (within_in (Err refusal) left)
+    stops_in refusal e = go (by_cases bytes room (within_in (Err refusal) left) e)
+      where
+        go : Stops m bytes room (within_in (Err refusal) left) ⊎ SendsOne m ids lens bytes room (within_in (Err refusal) left)
+            → Stops m bytes room (within_in (Err refusal) left)
+        go (inl s) = s
+        go (inr g) = absurd (refusal_not_done refusal g.code)
+
+    -- the board after a record was sent
+    pub sent_left : (outcome : Result Served Refusal) → left ≡ with_engine b (engine_of left) → SendsOne m ids lens bytes room (within_in outcome left)
+        → left ≡ encode (serve m).next
+    sent_left outcome rest g = rest ∙ after_is (within_in outcome left) g.next
+
+    -- a serve that stops leaves the board as it was
+    pub stops_left : (outcome : Result Served Refusal) → left ≡ with_engine b (engine_of left) → Stops m bytes room (within_in outcome left) → left ≡ b
+    stops_left outcome rest s =
+        rest ∙ ap (λ (w : Within). with_engine b (engine_after w)) s.same ∙ ap (λ (c : struct.Board). with_engine b (engine_of c)) spells
