@@ -2,7 +2,7 @@
 use mathlib.Core.Path.{◌≡◌, refl, sym, ap, subst, ◌∙◌}
 use mathlib.Core.Logic.{◌⊎◌, inl, inr}
 use mathlib.Core.List.{List, [], ◌++◌}
-use Prim.Native.Nat.{ℕ, ◌+◌, ◌-◌, ◌≤◌, ◌<◌}
+use Prim.Native.Nat.{ℕ, ◌+◌, ◌-◌, ◌≤◌, ◌<◌, min}
 use native.Mathlib.Omega.{arith}
 use lib.ListN.{length, take, drop, get_or, length-append, length-drop}
 use lib.Seq.{get_or-drop, drop-drop, take_all}
@@ -208,24 +208,24 @@ pub first_kept : (kept part after : List ℕ) (count : ℕ) → count ≡ kept_o
 first_kept kept part after count e b = record { same = b.same; first = λ h. subst (λ (n : ℕ). Behind kept 0 part n after) e b }
 
 -- Behind what is kept so many bytes more are read as the field wants and the part has.
-module _ (at : ℕ) (stage : Stage) (kept : List ℕ) (came : ℕ) (part : List ℕ) (more : ℕ) (room : length kept ≡ 13)
-    (p : next_in at kept came stage ≡ Unfinished came) (asked : more ≤ wanted_of kept came) (had : more ≤ length part) where
+module _ (at : ℕ) (stage : Stage) (kept : List ℕ) (came : ℕ) (part : List ℕ) (wanted more : ℕ) (room : length kept ≡ 13)
+    (p : next_in at kept came stage ≡ Unfinished came) (w : wanted ≡ wanted_of kept came) (m : more ≡ min wanted (length part)) where
   abbrev now : ℕ
   now = came + more
 
   few : tag_in kept < 128 → came + more ≤ 13
-  few t = omega (arith, wants_few at kept came stage p t, asked)
+  few t = omega (arith, wants_few at kept came stage p t, w, m)
 
   pub rest_fits : (count : ℕ) → count ≡ kept_of (tag_in kept) (came + more) → (count ≤ length kept) × (count ≤ came + length part)
   rest_fits count e =
       let small = kept_of_small (tag_in kept) (came + more) few in
-      (omega (arith, e, small.0, room), omega (arith, e, small.1, had))
+      (omega (arith, e, small.0, room), omega (arith, e, small.1, m))
 
-  pub read_behind : 0 < came → 0 < length part → (more ≡ wanted_of kept came) ⊎ (more ≡ length part) → (count : ℕ)
+  pub read_behind : 0 < came → 0 < length part → (count : ℕ)
       → count ≡ kept_of (tag_in kept) (came + more) → (after : List ℕ) (next : Next) → Behind kept came part count after
       → next ≡ next_in at after (came + more) stage
       → ReadOn at stage kept came part next after
-  read_behind some bytes least count k after next b₀ is =
+  read_behind some bytes count k after next b₀ is =
       known_on at stage kept came part after now next after room fits onward (looks_on kept came part now (tag_in kept) after room few fits tagged b) is begins
       more! b.same
     where
@@ -233,14 +233,10 @@ module _ (at : ℕ) (stage : Stage) (kept : List ℕ) (came : ℕ) (part : List 
       b = subst (λ (x : ℕ). Behind kept came part x after) k b₀
 
       onward : came < now
-      onward = go least
-        where
-          go : (more ≡ wanted_of kept came) ⊎ (more ≡ length part) → came < came + more
-          go (inl q) = omega (arith, q, wants_some at kept came stage p)
-          go (inr q) = omega (arith, q, bytes)
+      onward = omega (arith, m, w, wants_some at kept came stage p, bytes)
 
       fits : now ≤ came + length part
-      fits = omega (arith, had)
+      fits = omega (arith, m)
 
       tagged : tag_in after ≡ tag_in kept
       tagged = b.before 0 some
@@ -249,14 +245,14 @@ module _ (at : ℕ) (stage : Stage) (kept : List ℕ) (came : ℕ) (part : List 
       begins : (e : Event) (size : ℕ) → next_in at after now stage ≡ GoesOn e size → came < size
       begins e size q = go (split 3 came)
         where
-          w : size ≡ 3 + length_in after
-          w = (whole_is at after now stage e size q).size
+          whole : size ≡ 3 + length_in after
+          whole = (whole_is at after now stage e size q).size
 
           go : (3 ≤ came) ⊎ (came < 3) → came < size
-          go (inr l) = omega (arith, l, w)
+          go (inr l) = omega (arith, l, whole)
           go (inl l) =
               let same : length_in after ≡ length_in kept = number_looks after kept 1 2 (λ j u v. b.before j (omega (arith, u, l))) in
-              omega (arith, w, same, (part_is at kept came stage came p).has)
+              omega (arith, whole, same, (part_is at kept came stage came p).has)
 
       more! : (n : ℕ) → next ≡ Unfinished n → KeptOn at stage kept came part n after
       more! n h =
@@ -280,8 +276,3 @@ kept_next at kept came stage room p =
 
 pub from_taken : (fragment : List ℕ) (taken : ℕ) → take (length fragment - taken) (drop taken fragment) ≡ drop taken fragment
 from_taken fragment taken = take_all (length fragment - taken) (drop taken fragment) (omega (arith, length-drop taken fragment))
-
-pub read_from_lem : (at : ℕ) (stage : Stage) (kept : List ℕ) (came : ℕ) (fragment : List ℕ) (taken : ℕ) (next : Next) (after : List ℕ)
-    → ReadOn at stage kept came (take (length fragment - taken) (drop taken fragment)) next after → ReadOn at stage kept came (drop taken fragment) next after
-read_from_lem at stage kept came fragment taken next after =
-    subst (λ (part : List ℕ). ReadOn at stage kept came part next after) (from_taken fragment taken)

@@ -1,15 +1,14 @@
 -- Laws of one field as its bytes come: what is known of it by each test, that it stays known, and what it rests on.
 -- Assumes nothing.
 use mathlib.Core.Path.{◌≡◌, refl, sym, ap, ap₂, ◌∙◌}
-use mathlib.Core.Bool.{Bool, true, false, cond, not, ◌&&◌, ◌||◌}
+use mathlib.Core.Bool.{Bool, true, false, cond, ◌&&◌, ◌||◌}
 use mathlib.Core.Logic.{◌⊎◌, inl, inr}
 use mathlib.Core.List.{List}
 use Prim.Native.Nat.{ℕ, zero, suc, ◌+◌, ◌-◌, ◌*◌, ◌^◌, ◌≤◌, ◌<◌}
 use native.Mathlib.Omega.{arith}
-use borrow.Author.Tests.{eqb-true, ne_eqb, le-leb, lt-leb, leb-true, lt-ltb, le-ltb, ltb-true, ltb-false}
+use borrow.Author.Tests.{eqb-true, ne_eqb, leb-true, lt-ltb, le-ltb, ltb-true, ltb-false}
 use lib.Dec.{ltb, leb, eqb, lit≤}
 use lib.ListN.{get_or}
-use Rattle.base.specs.Tests.{alike}
 use Rattle.base.proofs.Numbers.{split}
 use Rattle.base.proofs.Tests.{and_left, and_right, and_both}
 use Rattle.log_bytes.specs.declared.Stage.{Stage}
@@ -18,7 +17,7 @@ use Rattle.log_bytes.specs.declared.Event.TheVariants.{Largest, Open, Close, Ren
 use Rattle.log_bytes.specs.declared.End.TheVariants.{Broken as broken, Long as long}
 use Rattle.log_bytes.specs.declared.Next.{Next}
 use Rattle.log_bytes.specs.declared.Next.TheVariants.{GoesOn, Ends, Unfinished}
-use Rattle.log_bytes.specs.Format.{number_at, tag_in, length_in, length_of, last_tag, right_length, event_of, event_in, past_l, right_tag, in_turn}
+use Rattle.log_bytes.specs.Format.{number_at, tag_in, length_in, length_of, last_tag, right_length, event_of, event_in, right_tag, in_turn}
 use Rattle.log_bytes.specs.Format.{is_read, is_broken, is_whole, is_past, next_in}
 use Rattle.log_bytes.specs.Laws.{TagSeen, LengthSeen, CutUnknown, StaysKnown, KnownByLooks}
 
@@ -125,40 +124,9 @@ module _ (at : ℕ) (bytes : List ℕ) (came : ℕ) (stage : Stage) where
             unfolding next_in is_broken is_whole
             found_whole u = rw (a, t, b, ← q, r, c, ← x, u)
 
--- ---- the tag
-
--- a tag of the log's may stand where tag 6 stands before L, and every other after it
-pub tag_known : (tag : ℕ) (stage : Stage) → 1 ≤ tag → (128 ≤ tag) ⊎ (tag ≤ last_tag) → right_tag tag stage ≡ alike (eqb tag 6) (not (past_l stage))
-unfolding right_tag
-tag_known tag stage l (inl h) = rw (le-leb 128 tag h)
-tag_known tag stage l (inr h) = go (leb 128 tag)
-  where
-    go : (t : Bool) → (t || (leb 1 tag && leb tag last_tag)) && alike (eqb tag 6) (not (past_l stage)) ≡ alike (eqb tag 6) (not (past_l stage))
-    go true = refl
-    go false = rw (le-leb 1 tag l, le-leb tag 6 h)
-
-pub tag_unknown : (tag : ℕ) (stage : Stage) → (tag < 1) ⊎ ((last_tag < tag) × (tag < 128)) → right_tag tag stage ≡ false
-unfolding right_tag
-tag_unknown tag stage (inl h) = rw (lt-leb 128 tag (omega (arith, h)), lt-leb 1 tag h)
-tag_unknown tag stage (inr h) = rw (lt-leb 128 tag h.1, le-leb 1 tag (omega (arith, h.0)), lt-leb tag 6 h.0)
-
-pub tag_after : (tag : ℕ) (stage : Stage) → 1 ≤ tag → (128 ≤ tag) ⊎ (tag ≤ last_tag) → past_l stage ≡ true → not (eqb tag 6) ≡ right_tag tag stage
-tag_after tag stage l h p = go (eqb tag 6) ∙ ap (λ (t : Bool). alike (eqb tag 6) (not t)) (sym p) ∙ sym (tag_known tag stage l h)
-  where
-    go : (t : Bool) → not t ≡ alike t (not true)
-    go true = refl
-    go false = refl
-
-pub tag_before : (tag : ℕ) (stage : Stage) → 1 ≤ tag → (128 ≤ tag) ⊎ (tag ≤ last_tag) → past_l stage ≡ false → eqb tag 6 ≡ right_tag tag stage
-tag_before tag stage l h p = go (eqb tag 6) ∙ ap (λ (t : Bool). alike (eqb tag 6) (not t)) (sym p) ∙ sym (tag_known tag stage l h)
-  where
-    go : (t : Bool) → t ≡ alike t (not false)
-    go true = refl
-    go false = refl
-
 -- ---- the length
 
-passed_length : (tag : ℕ) → 128 ≤ tag → length_of tag ≡ 0
+pub passed_length : (tag : ℕ) → 128 ≤ tag → length_of tag ≡ 0
 unfolding length_of
 passed_length tag l =
     rw (

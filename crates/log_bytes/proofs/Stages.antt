@@ -35,10 +35,6 @@ l_or_later Passed = inr (refl, λ stage. refl)
 pub no_l : (e : Event) → ((l : ℕ) → e ≡ Largest l → ⊥) → is_l e ≡ false
 no_l e k = ⊎_elim (λ w. absurd (k w.0 w.1)) (λ w. w.0) (l_or_later e)
 
--- a field that is not L is in turn once L has been read
-pub turn_other : (e : Event) (stage : Stage) → is_l e ≡ false → past_l stage ≡ in_turn e stage
-turn_other e stage k = ⊎_elim (λ w. differ (sym (ap is_l w.1) ∙ k)) (λ w. w.1 stage) (l_or_later e)
-
 -- what is asked of L
 turn_l : (l : ℕ) (e : Event) (stage : Stage) → e ≡ Largest l → in_turn e stage ≡ true
     → (not (past_l stage) ≡ true) × ((64 ≤ l) × (l ≤ 2048))

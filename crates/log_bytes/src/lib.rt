@@ -1,14 +1,12 @@
 // The reader of a log: what is known of a field by the bytes of it that have come.
 #![tactic(auto)]
 
-ghost use Rattle.std.specs.Prelude.{◌≡◌, ◌⊎◌, cond, ◌+◌, ◌-◌, ◌^◌, ◌<◌, ◌≤◌, length};
+ghost use Rattle.std.specs.Prelude.{◌≡◌, ◌⊎◌, cond, MatchOption, ◌+◌, ◌-◌, ◌^◌, ◌<◌, ◌≤◌, length};
 ghost use Rattle.log_bytes.specs.declared.Next.TheVariants.{Ends, Unfinished as unfinished};
 ghost use Rattle.log_bytes.specs.declared.End.TheVariants.{Long as long};
 ghost use Rattle.log_bytes.specs.Format.{number_at, length_in, length_of, right_length, event_of};
 ghost use Rattle.log_bytes.specs.Format.{past_l, stage_after, right_tag, in_turn, is_read, is_past, next_in};
 ghost use Rattle.log_bytes.specs.Rows.{end_in};
-
-pub mod tags;
 
 use numbers::{GREATEST_LARGEST, LEAST_LARGEST, LOG_END};
 use operands::Opening;
@@ -30,7 +28,7 @@ pub enum Event {
 }
 
 // How far a log has been read: L has not been read, or it has.
-#[derive(Clone, Copy)]
+#[derive(Clone, Copy, Debug, PartialEq, Eq)]
 pub enum Stage {
     BeforeL,
     AfterL,
@@ -53,34 +51,22 @@ pub enum Next {
     Unfinished(usize),
 }
 
-// A byte as a number that keeps its bound.
-fn wide(byte: u8) -> u32
-    ensures { (result ≡ byte) × (result < 256) }
-{
-    byte as u32
-}
-
-// The number of n bytes from byte i on, high byte first.
-fn number(bytes: &[u8], i: usize, n: usize) -> u32
-    requires { (i + n ≤ length bytes.now) × (n ≤ 4) }
-    ensures { result ≡ number_at bytes.now i n }
-{
-    let mut sum: u32 = 0;
-    let mut left = n;
-    while 0 < left {
-        let byte = wide(bytes[i + (n - left)]);
-        sum = sum * 256 + byte;
-        left -= 1;
-    }
-    sum
-}
-
-// The same of two bytes.
+// The number of two bytes from byte i on, high byte first.
+#[tactic(auto, unfolding(crate::specs::Format::number_at))]
 fn number16(bytes: &[u8], i: usize) -> u16
     requires { i + 2 ≤ length bytes.now }
     ensures { result ≡ number_at bytes.now i 2 }
 {
-    number(bytes, i, 2) as u16
+    u16::from_be_bytes([bytes[i], bytes[i + 1]])
+}
+
+// The same of four bytes.
+#[tactic(auto, unfolding(crate::specs::Format::number_at))]
+fn number32(bytes: &[u8], i: usize) -> u32
+    requires { i + 4 ≤ length bytes.now }
+    ensures { result ≡ number_at bytes.now i 4 }
+{
+    u32::from_be_bytes([bytes[i], bytes[i + 1], bytes[i + 2], bytes[i + 3]])
 }
 
 // The length that a field's three first bytes say its value has.
@@ -88,55 +74,88 @@ pub fn length_in(bytes: &[u8]) -> usize
     requires { 3 ≤ length bytes.now }
     ensures { (result ≡ length_in bytes.now) × (result < 65536) }
 {
-    number16(bytes, 1) as usize
+    usize::from(number16(bytes, 1))
 }
 
-// The length that a value has by its tag; a field that is passed over needs none.
-fn length_of(tag: u8) -> usize
-    ensures { result ≡ length_of tag }
-{
-    match tag {
-        tags::LARGEST => 2,
-        tags::OPEN => 8,
-        tags::CLOSE => 4,
-        tags::RENAME => 8,
-        tags::RECORD => 10,
-        _ => 0,
-    }
+// What a field is by its tag. Passed is a field that is passed over.
+#[derive(Clone, Copy, Debug, PartialEq, Eq)]
+pub enum Tag {
+    Open,
+    Close,
+    Rename,
+    Record,
+    Serve,
+    Largest,
+    Passed,
 }
 
-fn right_length(tag: u8, n: usize) -> bool
-    ensures { result ≡ right_length tag n }
-{
-    if tags::PASSED <= tag {
-        return true;
-    }
-    if tags::FIRST <= tag && tag <= tags::LAST {
-        return n == length_of(tag);
-    }
-    false
-}
+impl Tag {
+    ghost use Rattle.log_bytes.specs.Tags.{byte_of, IsTag};
 
-// What a field of this tag says, its value from byte i on.
-fn event_at(bytes: &[u8], tag: u8, i: usize) -> Event
-    requires { i + length_of tag ≤ length bytes.now }
-    ensures { result ≡ event_of bytes.now tag i }
-{
-    match tag {
-        tags::LARGEST => Event::Largest(number(bytes, i, 2)),
-        tags::OPEN => Event::Open(Opening {
-            number: number(bytes, i, 4),
-            share: number(bytes, i + 4, 4),
-        }),
-        tags::CLOSE => Event::Close(number(bytes, i, 4)),
-        tags::RENAME => Event::Rename(number(bytes, i, 4), number(bytes, i + 4, 4)),
-        tags::RECORD => Event::Arrive(
-            number(bytes, i, 4),
-            number(bytes, i + 4, 4),
-            number16(bytes, i + 8),
-        ),
-        tags::SERVE => Event::Serve,
-        _ => Event::Passed,
+    // The tag that a byte is, if it is one of the log's.
+    pub fn of(byte: u8) -> Option<Tag>
+        ensures { MatchOption result ((tag : Tag) → IsTag tag byte → ⊥) (λ tag. IsTag tag byte) }
+    {
+        match byte {
+            1 => Some(Tag::Open),
+            2 => Some(Tag::Close),
+            3 => Some(Tag::Rename),
+            4 => Some(Tag::Record),
+            5 => Some(Tag::Serve),
+            6 => Some(Tag::Largest),
+            128.. => Some(Tag::Passed),
+            _ => None,
+        }
+    }
+
+    // Whether it may stand in a stage: L comes first and once.
+    #[tactic(auto, unfolding(crate::specs::Format::right_tag))]
+    fn may_stand(self, stage: Stage) -> bool
+        ensures { result ≡ right_tag (byte_of self) stage }
+    {
+        match stage {
+            Stage::BeforeL => self == Tag::Largest,
+            Stage::AfterL => self != Tag::Largest,
+        }
+    }
+
+    // Whether its value may have so many bytes.
+    #[tactic(auto, unfolding(crate::specs::Format::right_length, crate::specs::Format::length_of))]
+    fn may_have(self, n: usize) -> bool
+        ensures { result ≡ right_length (byte_of self) n }
+    {
+        match self {
+            Tag::Open | Tag::Rename => n == 8,
+            Tag::Close => n == 4,
+            Tag::Record => n == 10,
+            Tag::Serve => n == 0,
+            Tag::Largest => n == 2,
+            Tag::Passed => true,
+        }
+    }
+
+    // What its field says, whose value begins with byte i.
+    #[tactic(auto, unfolding(crate::specs::Format::length_of, crate::specs::Format::event_of))]
+    fn event(self, bytes: &[u8], i: usize) -> Event
+        requires { i + length_of (byte_of self) ≤ length bytes.now }
+        ensures { result ≡ event_of bytes.now (byte_of self) i }
+    {
+        match self {
+            Tag::Open => Event::Open(Opening {
+                number: number32(bytes, i),
+                share: number32(bytes, i + 4),
+            }),
+            Tag::Close => Event::Close(number32(bytes, i)),
+            Tag::Rename => Event::Rename(number32(bytes, i), number32(bytes, i + 4)),
+            Tag::Record => Event::Arrive(
+                number32(bytes, i),
+                number32(bytes, i + 4),
+                number16(bytes, i + 8),
+            ),
+            Tag::Serve => Event::Serve,
+            Tag::Largest => Event::Largest(u32::from(number16(bytes, i))),
+            Tag::Passed => Event::Passed,
+        }
     }
 }
 
@@ -144,73 +163,49 @@ fn event_at(bytes: &[u8], tag: u8, i: usize) -> Event
 pub fn past_l(stage: Stage) -> bool
     ensures { result ≡ past_l stage }
 {
-    match stage {
-        Stage::BeforeL => false,
-        Stage::AfterL => true,
-    }
+    stage == Stage::AfterL
 }
 
 // The stage after a whole field: only L leads to another.
+#[tactic(auto, unfolding(crate::specs::Format::stage_after))]
 pub fn stage_after(stage: Stage, event: Event) -> Stage
     ensures { result ≡ stage_after stage event }
 {
-    let Event::Largest(_) = event else {
-        return stage;
-    };
-    Stage::AfterL
-}
-
-// Whether a tag may stand in a stage: it is one of the log's, and tag 6 comes first and once.
-fn right_tag(tag: u8, stage: Stage) -> bool
-    ensures { result ≡ right_tag tag stage }
-{
-    if tags::LAST < tag && tag < tags::PASSED {
-        return false;
+    match event {
+        Event::Largest(_) => Stage::AfterL,
+        _ => stage,
     }
-    if tag < tags::FIRST {
-        return false;
-    }
-    if past_l(stage) {
-        return tag != tags::LARGEST;
-    }
-    tag == tags::LARGEST
 }
 
 // L comes first and once, in its range, and nothing else before it.
+#[tactic(auto, unfolding(crate::specs::Format::in_turn))]
 fn in_turn(event: Event, stage: Stage) -> bool
     ensures { result ≡ in_turn event stage }
 {
-    let past = past_l(stage);
-    let Event::Largest(largest) = event else {
-        return past;
-    };
-    if past {
-        return false;
+    match event {
+        Event::Largest(largest) => !past_l(stage)
+            && (LEAST_LARGEST..=GREATEST_LARGEST).contains(&largest),
+        _ => past_l(stage),
     }
-    LEAST_LARGEST <= largest && largest <= GREATEST_LARGEST
 }
 
 // How many bytes may come before the one that is past the end of every log.
 fn room_from(at: u64) -> usize
     ensures { result ≡ 2 ^ 48 - at }
 {
-    if LOG_END < at {
-        return 0;
-    }
-    (LOG_END - at) as usize
+    LOG_END.saturating_sub(at) as usize
 }
 
 // Whether byte i of a field is read: it has come, and is not past the end of every log.
+#[tactic(auto, unfolding(crate::specs::Format::is_read))]
 fn is_read(at: u64, came: usize, i: usize) -> bool
     ensures { result ≡ is_read at came i }
 {
-    if came <= i {
-        return false;
-    }
-    i < room_from(at)
+    i < came && i < room_from(at)
 }
 
 // A field of which nothing more is known is not finished, unless the log is long.
+#[tactic(auto, unfolding(crate::specs::Format::is_past))]
 fn not_known(at: u64, came: usize) -> Next
     ensures { result ≡ cond (is_past at came) (Ends long) (unfinished came) }
 {
@@ -229,21 +224,23 @@ pub fn next_in(bytes: &[u8], came: usize, at: u64, stage: Stage) -> Next
     if !is_read(at, came, 0) {
         return not_known(at, came);
     }
-    let tag = bytes[0];
-    if !right_tag(tag, stage) {
+    let Some(tag) = Tag::of(bytes[0]) else {
+        return Next::Ends(End::Broken(at));
+    };
+    if !tag.may_stand(stage) {
         return Next::Ends(End::Broken(at));
     }
     if !is_read(at, came, 2) {
         return not_known(at, came);
     }
     let n = length_in(bytes);
-    if !right_length(tag, n) {
+    if !tag.may_have(n) {
         return Next::Ends(End::Broken(at));
     }
     if !is_read(at, came, 2 + n) {
         return not_known(at, came);
     }
-    let event = event_at(bytes, tag, HEADER);
+    let event = tag.event(bytes, HEADER);
     if !in_turn(event, stage) {
         return Next::Ends(End::Broken(at));
     }
@@ -251,13 +248,12 @@ pub fn next_in(bytes: &[u8], came: usize, at: u64, stage: Stage) -> Next
 }
 
 // How a log ends of whose last field so many bytes have come.
+#[tactic(auto, unfolding(crate::specs::Rows::end_in))]
 pub fn end_in(at: u64, came: usize, stage: Stage) -> End
     ensures { result ≡ end_in at came stage }
 {
-    if past_l(stage) {
-        if came == 0 {
-            return End::Whole;
-        }
+    if past_l(stage) && came == 0 {
+        return End::Whole;
     }
     End::Broken(at)
 }

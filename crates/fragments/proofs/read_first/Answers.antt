@@ -1,11 +1,6 @@
 -- `fragments::read_first` meets its contract. What is known by the part is known, and its bytes are kept. Assumes nothing.
-use mathlib.Core.Logic.{inl}
-use native.Mathlib.Omega.{arith}
 use Rattle.fragments.proofs.Reading.{first_read}
 use Rattle.fragments.proofs.read_first.Goals as goal
-
-pub next_in-requires : goal.next_in-requires
-next_in-requires c = inl (omega arith)
 
 pub returns : goal.returns
 returns c =
