@@ -1,6 +1,7 @@
 -- WORKING DEFINITIONS: joining an order and taking a record, on the board's lists. Theorems tie them to the rules; no
 -- promise of a call cites one.
-use Rattle.std.specs.Prelude.{cond, ◌||◌, ◌≡◌, List, ℕ, ◌+◌, ◌-◌, ◌^◌, ◌≤◌, ◌<◌, ltb, leb, eqb, get_or, set, length, Result, Ok, Err}
+use Rattle.std.specs.Prelude.{cond, ◌||◌, ◌≡◌, List, ℕ, ◌+◌, ◌-◌, ◌^◌, ◌≤◌, ◌<◌, ltb, leb, eqb, get_or, set, length}
+use Rattle.std.specs.Prelude.{Result, Ok, Err}
 use Rattle.bits.specs.Sets.{with_bit}
 use Rattle.units.specs.Classes.{class_of, next_start}
 use Rattle.lanes.specs.Lanes.{lane_depth, lane_entry}

@@ -17,7 +17,12 @@ returns-in_default-clause-renamed c =
 pub returns-then-is_some-clause-renamed : goal.returns-then-is_some-clause-renamed
 unfolding renamed_in
 returns-then-is_some-clause-renamed c =
-    rw (ne_eqb _ _ c.if-new-eq-NO_BLOCK.false, ← c.in-Some.ensures.found, ← c.find-2.ensures.found, by_some _ (renaming 5 c.args.b.now.numbers) _ (sym c.if-is_some.ensures))
+    rw (
+      ne_eqb _ _ c.if-new-eq-NO_BLOCK.false,
+      ← c.in-Some.ensures.found,
+      ← c.find-2.ensures.found,
+      by_some _ (renaming 5 c.args.b.now.numbers) _ (sym c.if-is_some.ensures),
+    )
 
 pub returns-clause-renamed : goal.returns-clause-renamed
 unfolding renamed_in
