@@ -20,21 +20,22 @@ use Rattle.log_bytes.specs.declared.Event.{Event}
 use Rattle.log_bytes.specs.declared.Event.TheVariants.{Open, Close, Rename, Arrive, Serve, Passed}
 use Rattle.listing_rules.specs.Events.{turn_of}
 use Rattle.board.specs.declared.Board as struct
-use Rattle.board.specs.declared.After.{After}
-use Rattle.board.specs.declared.Reply.{Reply}
 use Rattle.board.specs.Reading.{encode, view}
-use Rattle.board.specs.Memory.{numbers_of, board_now, Holding, holding, blocks_of, with_blocks, engine_of, with_engine, taking_of, with_taking, seen_of}
-use Rattle.board.specs.Leaving.{Returned, returned, replied, Known, ruled}
+use Rattle.board.specs.Memory.{After, numbers_of, Holding, holding, blocks_of, with_blocks, engine_of, with_engine, taking_of, with_taking, seen_of}
+use Rattle.board.specs.Leaving.{Reply, Returned, returned, replied, Known, ruled}
 use Rattle.board.proofs.Reading.{view_encode}
 use Rattle.board.proofs.Sound.{fit_view}
 use Rattle.board.proofs.Next.{ReturnsTurn, call_follows}
 use Rattle.board.proofs.Fields.{number_is, share_is}
-use Rattle.taking.specs.Taking.{Recording, recorded_in}
+use Rattle.rules.specs.Choice.{Taken}
+use Rattle.taking.specs.Taking.{recording, recorded_in}
 use Rattle.taking.proofs.Answers.{record_known}
-use Rattle.blocks.specs.Blocks.{Renaming, renamed_in, with_renaming, Answered, opened_in, closed_in}
+use Rattle.blocks.specs.Blocks.{renaming, renamed_in, answered, opened_in, closed_in}
 use Rattle.blocks.proofs.Answers.{rename_known, open_known, close_known}
-use Rattle.serving.specs.declared.Step.{Step}
-use Rattle.serving.specs.Serving.{ServeTells, untold, step_of, stayed, Within, engine_after}
+use Rattle.serving.specs.Serving.{ServeTells, untold, Step, step_of, stayed, step_in, within_in, Within, engine_after}
+use Rattle.serving.specs.declared.Served.{Served}
+use Rattle.std.specs.Prelude.{Result, Ok, Err}
+use Rattle.numbers.specs.declared.refusal.Refusal.{Refusal}
 use Rattle.serving.proofs.Within.{fit_serve, Stops, SendsOne}
 use Rattle.serving.proofs.Known.{within, spells, by_cases, after_is, known_next, refused_stays}
 use Rattle.events.specs.Events.{told_by, SendSeen, Acted}
@@ -139,23 +140,21 @@ module _ (s : Holding) (k : Known s.board s.ids s.lens) where
   as_event : (e v : Event) → e ≡ v → (n : Holding) (r : Step) → Acted s v n r → Acted s e n r
   as_event e v e-is n r a = subst (λ (x : Event). Acted s x n r) (sym e-is) a
 
-  -- a board with these numbers
-  abbrev with_now : struct.Board → After → struct.Board
-  with_now n t =
-      board_now n.numbers n.shares n.starts n.counts n.deficits n.ready n.next n.heads n.tails n.held n.largest t
+  by_rest : {e : Event} (n c : struct.Board) (r : Step) → n ≡ c → Acted s e (holding c s.ids s.lens) r → Acted s e (holding n s.ids s.lens) r
+  by_rest {e} n c r same a = subst (λ (d : struct.Board). Acted s e (holding d s.ids s.lens) r) (sym same) a
 
   -- ---- A call that is no serve: v is its event
 
   by_call : (x : Single) → is_serve x ≡ false → (v : Event) → turn_of m v ≡ step m x
       → (code : ℕ) (n : struct.Board) (ids lens : List ℕ) → returned (replied code n) ids lens ≡ ruled b s.ids s.lens x
-      → (r : Step) → r ≡ stayed code (numbers_of n) → Acted s v (holding (with_now n r.after) ids lens) r
-  by_call x quiet v turn code n ids lens given r r-is = subst (λ (y : Step). Acted s v (holding (with_now n y.after) ids lens) y) (sym r-is) (record {
+      → Acted s v (holding n ids lens) (stayed code (numbers_of n))
+  by_call x quiet v turn code n ids lens given = record {
     good = subst (λ (w : Returned Reply). Known w.reply.board w.ids w.lens) (sym given) f.good;
     next = ap (λ (w : Returned Reply). view w.reply.board w.ids w.lens) given ∙ f.reads ∙ ap (λ (t : Turn). t.next) (sym turn);
     tells = (λ j. step_of (code_is j) (silent j) (numbers_of n))
         ∙ ap (λ (t : Turn). step_of (code_of (told m t.out)) (told_by t.out) (numbers_of n)) (sym turn);
     sends = λ y out. none_sent (step m x).out unsent y (ap (λ (t : Turn). t.out) (sym turn) ∙ out);
-  })
+  }
     where
       f : ReturnsTurn b s.ids s.lens (ruled b s.ids s.lens x) (step m x)
       f = call_follows b s.ids s.lens k x quiet
@@ -169,42 +168,49 @@ module _ (s : Holding) (k : Known s.board s.ids s.lens) where
       silent : untold ≡ told_by (step m x).out
       silent = sym (none_told (step m x).out unsent)
 
-  pub open_acts : (e : Event) (o : Opening) → e ≡ Open o
-      → (x : Answered) → x ≡ opened_in (blocks_of b) o
-      → (r : Step) → r ≡ stayed x.code (numbers_of b)
-      → Acted s e (holding (with_now (with_blocks b x.blocks) r.after) s.ids s.lens) r
-  open_acts e o e-is x x-is r r-is =
-      as_event e (Open o) e-is _ r
-      (by_call (open! (meant o)) refl (Open o) refl x.code (with_blocks b x.blocks) s.ids s.lens
-      (open_known b s.ids s.lens k o x x-is) r r-is)
+  -- n is the board after it
+  module _ (e : Event) (code : ℕ) (n : struct.Board) where
+    stands : {c : struct.Board} (ids lens : List ℕ) → n ≡ c → returned (replied code n) ids lens ≡ returned (replied code c) ids lens
+    stands ids lens rest = ap (λ (c : struct.Board). returned (replied code c) ids lens) rest
 
-  pub close_acts : (e : Event) (block : ℕ) → e ≡ Close block
-      → (x : Answered) → x ≡ closed_in b.active b.counts (blocks_of b) block
-      → (r : Step) → r ≡ stayed x.code (numbers_of b)
-      → Acted s e (holding (with_now (with_blocks b x.blocks) r.after) s.ids s.lens) r
-  close_acts e block e-is x x-is r r-is =
-      as_event e (Close block) e-is _ r
-      (by_call (close! block) refl (Close block) refl x.code (with_blocks b x.blocks) s.ids s.lens
-      (close_known b s.ids s.lens k block x x-is) r r-is)
+    pub open_acts : (o : Opening) → e ≡ Open o
+        → answered code (blocks_of n) ≡ opened_in (blocks_of b) o
+        → n ≡ with_blocks b (blocks_of n)
+        → Acted s e (holding n s.ids s.lens) (stayed code (numbers_of n))
+    open_acts o e-is x-is rest =
+        as_event e (Open o) e-is _ _
+        (by_call (open! (meant o)) refl (Open o) refl code n s.ids s.lens
+        (stands s.ids s.lens rest ∙ open_known b s.ids s.lens k o _ x-is))
 
-  pub rename_acts : (e : Event) (old new : ℕ) → e ≡ Rename old new
-      → (x : Renaming) → x ≡ renamed_in b.numbers old new
-      → (r : Step) → r ≡ stayed x.code (numbers_of b)
-      → Acted s e (holding (with_now (with_renaming b x) r.after) s.ids s.lens) r
-  rename_acts e old new e-is x x-is r r-is =
-      as_event e (Rename old new) e-is _ r
-      (by_call (rename! old new) refl (Rename old new) refl x.code (with_renaming b x) s.ids s.lens
-      (rename_known b s.ids s.lens k old new x x-is) r r-is)
+    pub close_acts : (block : ℕ) → e ≡ Close block
+        → answered code (blocks_of n) ≡ closed_in b.active b.counts (blocks_of b) block
+        → n ≡ with_blocks b (blocks_of n)
+        → Acted s e (holding n s.ids s.lens) (stayed code (numbers_of n))
+    close_acts block e-is x-is rest =
+        as_event e (Close block) e-is _ _
+        (by_call (close! block) refl (Close block) refl code n s.ids s.lens
+        (stands s.ids s.lens rest ∙ close_known b s.ids s.lens k block _ x-is))
 
-  pub record_acts : (e : Event) (block number bytes : ℕ) → e ≡ Arrive block number bytes
-      → (x : Recording) → x ≡ recorded_in (seen_of b) b.largest b.clock block number bytes (taking_of b) s.ids s.lens
-      → (r : Step) → r ≡ stayed x.code (numbers_of (with_taking b x.taking))
-      → Acted s e (holding (with_now (with_taking b x.taking) r.after) x.ids x.lens) r
-  record_acts e block number bytes e-is x x-is r r-is =
-      as_event e (Arrive block number bytes) e-is _ r
-      (by_call (record! block (record { number = number; bytes = bytes })) refl (Arrive block number bytes) refl
-      x.code (with_taking b x.taking) x.ids x.lens
-      (record_known b s.ids s.lens k block number bytes x x-is) r r-is)
+    pub rename_acts : (old new : ℕ) → e ≡ Rename old new
+        → renaming code n.numbers ≡ renamed_in b.numbers old new
+        → n ≡ record b { numbers = n.numbers }
+        → Acted s e (holding n s.ids s.lens) (stayed code (numbers_of n))
+    rename_acts old new e-is x-is rest =
+        as_event e (Rename old new) e-is _ _
+        (by_call (rename! old new) refl (Rename old new) refl code n s.ids s.lens
+        (stands s.ids s.lens rest ∙ rename_known b s.ids s.lens k old new _ x-is))
+
+    pub record_acts : (block number bytes : ℕ) → e ≡ Arrive block number bytes
+        → (tells : Taken) (ids lens : List ℕ)
+        → recording code tells (taking_of n) ids lens
+        ≡ recorded_in (seen_of b) b.largest b.clock block number bytes (taking_of b) s.ids s.lens
+        → n ≡ with_taking b (taking_of n)
+        → Acted s e (holding n ids lens) (stayed code (numbers_of n))
+    record_acts block number bytes e-is tells ids lens x-is rest =
+        as_event e (Arrive block number bytes) e-is _ _
+        (by_call (record! block (record { number = number; bytes = bytes })) refl (Arrive block number bytes) refl
+        code n ids lens
+        (stands ids lens rest ∙ record_known b s.ids s.lens k block number bytes _ x-is))
 
   -- ---- A serve
 
@@ -301,15 +307,15 @@ module _ (s : Holding) (k : Known s.board s.ids s.lens) where
         go (inl x) = why x x.why
         go (inr g) = sending g
 
-    pub serve_acts : (e : Event) → e ≡ Serve → Acted s e (holding (with_engine b (engine_after w)) s.ids s.lens) w.step
+    serve_is_acted : (e : Event) → e ≡ Serve → Acted s e held w.step
     unfolding step
-    serve_acts e e-is =
+    serve_is_acted e e-is =
         as_event e Serve e-is held w.step
         (record { good = serve_is.good; next = serve_is.next; tells = serve_is.tells; sends = serve_is.sends })
 
-  -- ---- What is passed over
-
-  pub passed_acts : (e : Event) → e ≡ Passed → (r : Step) → r ≡ stayed 0 (numbers_of b) → Acted s e (holding (with_now b r.after) s.ids s.lens) r
-  passed_acts e e-is r r-is =
-      as_event e Passed e-is _ r (subst (λ (y : Step). Acted s Passed (holding (with_now b y.after) s.ids s.lens) y) (sym r-is)
-      (record { good = k; next = refl; tells = refl; sends = λ x out. none_sent done refl x out }))
+  pub serve_acts : (e : Event) (r : Result Served Refusal) (n : struct.Board) → e ≡ Serve
+      → within_in r n ≡ within b s.lens 65536 1
+      → n ≡ with_engine b (engine_of n)
+      → Acted s e (holding n s.ids s.lens) (step_in r (numbers_of n))
+  serve_acts e (Ok x) n e-is w-is rest = by_rest n (with_engine b (engine_of n)) _ rest (serve_is_acted (within_in (Ok x) n) w-is e e-is)
+  serve_acts e (Err x) n e-is w-is rest = by_rest n (with_engine b (engine_of n)) _ rest (serve_is_acted (within_in (Err x) n) w-is e e-is)

@@ -1,15 +1,17 @@
 -- ONE FIELD DONE: what is held before a field and after it, and what the step tells. No line is written here.
-use Rattle.std.specs.Prelude.{◌≡◌, ◌≤◌, ◌<◌, get_or}
+use Rattle.std.specs.Prelude.{◌≡◌, ◌≤◌, ◌<◌, get_or, Bool, true, false, Result, Ok, Err, Option, Some, None}
+use Rattle.numbers.specs.declared.refusal.Refusal.{Refusal}
 use Rattle.rules.specs.Board.{Board, at, bytes_charged}
 use Rattle.rules.specs.Choice.{Out, refused, done, taken, sent, Sending}
 use Rattle.rules.specs.Calls.{told, code_of}
 use Rattle.log_bytes.specs.declared.Event.{Event}
+use Rattle.log_bytes.specs.declared.Event.TheVariants.{Largest, Open, Close, Rename, Arrive, Serve, Passed}
 use Rattle.listing_rules.specs.Events.{turn_of}
 use Rattle.board.specs.Reading.{view}
-use Rattle.board.specs.Memory.{numbers_of, Holding}
+use Rattle.board.specs.Memory.{After, numbers_of, Holding}
 use Rattle.board.specs.Leaving.{Known}
-use Rattle.serving.specs.declared.Step.{Step}
-use Rattle.serving.specs.Serving.{ServeTells, untold, step_of}
+use Rattle.serving.specs.declared.Served.{Served}
+use Rattle.serving.specs.Serving.{ServeTells, untold, Step, step_of, stayed, step_in}
 
 -- What a step tells where the rules' turn came to this: of a record that was sent all, else nothing.
 abbrev pub told_by : Out → ServeTells
@@ -46,3 +48,20 @@ pub record Acted (s : Holding) (e : Event) (n : Holding) (r : Step) : Type 0 whe
       r ≡ step_of (code_of (told m out)) (told_by out) (numbers_of n.board)
   pub sends : let m = view s.board s.ids s.lens in
       (x : Sending) → (turn_of m e).out ≡ sent x → SendSeen m x n
+
+-- The step that the answer of the code tells, with the board's numbers after it: a field that is no serve tells of no
+-- record.
+abbrev pub step_of_act : Result (Option Served) Refusal → After → Step
+step_of_act (Ok None) now = stayed 0 now
+step_of_act (Ok (Some served)) now = step_in (Ok served) now
+step_of_act (Err refusal) now = step_in (Err refusal) now
+
+-- Of all fields only a serve that is done tells of a record.
+abbrev pub serves : Event → Bool
+serves (Largest l) = false
+serves (Open opening) = false
+serves (Close block) = false
+serves (Rename old new) = false
+serves (Arrive block number bytes) = false
+serves Serve = true
+serves Passed = false
