@@ -7,9 +7,11 @@ use Prim.Native.Nat.{ℕ, ◌≤◌, ◌<◌}
 use native.Mathlib.Omega.{arith}
 use lib.Dec.{eqb}
 use lib.ListN.{get_or}
+use Rattle.std.specs.Prelude.{Result, Ok, Err}
+use Rattle.numbers.specs.declared.refusal.Refusal.{Refusal}
 use Rattle.rules.specs.Board
 use Rattle.rules.specs.Board.{Record, bytes_charged}
-use Rattle.rules.specs.Choice.{Out, refused, done, taken, sent, Sending, Turn, send, serve}
+use Rattle.rules.specs.Choice.{Out, refused, done, taken, sent, Taken, Sending, Turn, send, serve}
 use Rattle.rules.specs.Blocks.{meant}
 use Rattle.rules.specs.Calls.{Single, open!, rename!, close!, record!, serve!, step, told, code_of}
 use Rattle.rules.specs.Runs.{is_serve, answer}
@@ -17,25 +19,22 @@ use Rattle.rules.proofs.Cases.{refusal_not0, call_cases}
 use Rattle.rules.proofs.Tidy.{Tidy}
 use Rattle.operands.specs.declared.Opening.{Opening}
 use Rattle.log_bytes.specs.declared.Event.{Event}
-use Rattle.log_bytes.specs.declared.Event.TheVariants.{Open, Close, Rename, Arrive, Serve, Passed}
+use Rattle.log_bytes.specs.declared.Event.TheVariants.{Open, Close, Rename, Arrive, Serve}
 use Rattle.listing_rules.specs.Events.{turn_of}
 use Rattle.board.specs.declared.Board as struct
 use Rattle.board.specs.Reading.{encode, view}
-use Rattle.board.specs.Memory.{After, numbers_of, Holding, holding, blocks_of, with_blocks, engine_of, with_engine, taking_of, with_taking, seen_of}
+use Rattle.board.specs.Memory.{numbers_of, Holding, holding, blocks_of, with_blocks, engine_of, with_engine, taking_of, with_taking, seen_of}
 use Rattle.board.specs.Leaving.{Reply, Returned, returned, replied, Known, ruled}
 use Rattle.board.proofs.Reading.{view_encode}
 use Rattle.board.proofs.Sound.{fit_view}
 use Rattle.board.proofs.Next.{ReturnsTurn, call_follows}
 use Rattle.board.proofs.Fields.{number_is, share_is}
-use Rattle.rules.specs.Choice.{Taken}
 use Rattle.taking.specs.Taking.{recording, recorded_in}
 use Rattle.taking.proofs.Answers.{record_known}
 use Rattle.blocks.specs.Blocks.{renaming, renamed_in, answered, opened_in, closed_in}
 use Rattle.blocks.proofs.Answers.{rename_known, open_known, close_known}
-use Rattle.serving.specs.Serving.{ServeTells, untold, Step, step_of, stayed, step_in, within_in, Within, engine_after}
 use Rattle.serving.specs.declared.Served.{Served}
-use Rattle.std.specs.Prelude.{Result, Ok, Err}
-use Rattle.numbers.specs.declared.refusal.Refusal.{Refusal}
+use Rattle.serving.specs.Serving.{ServeTells, untold, Step, step_of, stayed, step_in, within_in, Within, engine_after}
 use Rattle.serving.proofs.Within.{fit_serve, Stops, SendsOne}
 use Rattle.serving.proofs.Known.{within, spells, by_cases, after_is, known_next, refused_stays}
 use Rattle.events.specs.Events.{told_by, SendSeen, Acted}
