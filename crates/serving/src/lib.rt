@@ -30,6 +30,7 @@ pub const ANY_LENGTH: u64 = 65536;
 
 // Rules 2 and 4: the front record of the open slot's block is sent, and the slot ends or stays open. What was left of a
 // slot whose lane emptied is lost.
+#[tactic(auto, unfolding(crate::specs::Serving::sent_from, crate::specs::Serving::lost_from))]
 fn send(b: &mut Board, lens: &[u16], place: usize) -> Parts
     requires can { CanSend b.old.shares lens.now place (engine_of b.old) }
     requires open { b.old.slot ≡ place + 1 }
@@ -60,6 +61,7 @@ fn send(b: &mut Board, lens: &[u16], place: usize) -> Parts
 }
 
 // Rules 2 and 3: the slot that serves: the open one, or one that begins.
+#[tactic(auto, unfolding(slots::specs::Slots::opened, slots::specs::Slots::opened_slot))]
 fn open_slot(b: &mut Board, turn: Turn)
     requires goes { choice_of (engine_of b.old) ≡ Go turn.place turn.time }
     requires begins { let k = class_of (get_or b.old.shares turn.place 0) in
@@ -72,6 +74,7 @@ fn open_slot(b: &mut Board, turn: Turn)
 }
 
 // Rules 2 to 5: one record is served, if it is no longer than so many bytes and a list has room for it.
+#[tactic(auto, unfolding(crate::specs::Serving::served_within, crate::specs::Serving::enacted))]
 pub fn serve_within(
     b: &mut Board,
     lens: &[u16],

@@ -5,9 +5,8 @@ use mathlib.Core.List.{List, [], ◌∷◌}
 use Prim.Native.Nat.{ℕ, zero, suc, ◌+◌, ◌-◌, ◌/◌, ◌^◌, ◌≤◌, ◌<◌}
 use native.Mathlib.Omega.{arith}
 use lib.ListN.{get_or, set}
-use borrow.Author.Tests.{eq-eqb, ne_eqb, lt-ltb, le-ltb}
-use Rattle.bits.specs.Sets.{without_bit}
-use Rattle.slots.specs.Slots.{Turned, passed, turned_from, still_pending, Go, choice}
+use borrow.Author.Tests.{eq-eqb, ne_eqb}
+use Rattle.slots.specs.Slots.{Turned, passed, turned_from}
 
 -- a list's new element is as small as what is put there
 pub set_bound : (l : List ℕ) (k v n : ℕ) → v ≤ n → get_or (set l k v) k 0 ≤ n
@@ -33,25 +32,4 @@ pub turn_out : (from to : ℕ) (heads : List ℕ) (s : Turned) (k n : ℕ) → n
 unfolding turned_from
 turn_out from to heads s k n e = rw e
 
--- ---- A link to a place, or to none
-
-behind : (first : ℕ) → first + 1 - 1 ≡ first
-behind first = omega arith
-
-module _ (set k clock : ℕ) (heads ready : List ℕ) where
-  pub no_first : 0 ≡ get_or heads k 0 → without_bit set k ≡ still_pending set k clock heads ready
-  unfolding still_pending
-  no_first e = rw (← e)
-
-  module _ (first : ℕ) (e : first + 1 ≡ get_or heads k 0) where
-    pub first_due : get_or ready first 0 ≤ clock → set ≡ still_pending set k clock heads ready
-    unfolding still_pending
-    first_due h = rw (← e, ne_eqb (first + 1) 0 (λ z. omega arith), behind first, le-ltb clock (get_or ready first 0) h)
-
-    pub first_late : clock < get_or ready first 0 → without_bit set k ≡ still_pending set k clock heads ready
-    unfolding still_pending
-    first_late h = rw (← e, ne_eqb (first + 1) 0 (λ z. omega arith), behind first, lt-ltb clock (get_or ready first 0) h)
-
-pub open_goes : (clock active pending slot : ℕ) (heads : List ℕ) (place : ℕ) → place + 1 ≡ slot → Go place clock ≡ choice clock active pending slot heads
-unfolding choice
-open_goes clock active pending slot heads place e = rw (← e, ne_eqb (place + 1) 0 (λ z. omega arith), behind place)
+pub ruleset turns = (turn_stop, turn_on, turn_out)

@@ -22,6 +22,7 @@ pub struct Turn {
 }
 
 // The first block of class k's order leaves it.
+#[tactic(auto, unfolding(crate::specs::Slots::left_links))]
 fn leave(b: &mut Board, place: usize, k: usize)
     requires { (place < 64) × (k < 17) }
     ensures { b.new ≡ with_links b.old (left_links place k (links_of b.old)) }
@@ -37,6 +38,7 @@ fn leave(b: &mut Board, place: usize, k: usize)
 // The clock goes on: of each class of which a start is passed the held share goes, and the class is pending if its
 // order has a block. Starts of a class are starts of every lower one, so the first class of which none is passed is the
 // last to look at.
+#[tactic(auto, using(crate::proofs::Cases::turns), unfolding(crate::specs::Slots::turned))]
 fn advance(b: &mut Board, to: u64)
     ensures { b.new ≡ with_turned b.old to (turned b.old.clock to b.old.heads (turned_of b.old)) }
 {
@@ -57,13 +59,11 @@ fn advance(b: &mut Board, to: u64)
 fn place_at(link: u8) -> Option<usize>
     ensures { link_to result ≡ link }
 {
-    if link == NO_LINK {
-        return None;
-    }
-    Some(link as usize - 1)
+    usize::from(link).checked_sub(1)
 }
 
 // The pending classes when the first block of class k's order left it: k stays if the next one is due.
+#[tactic(auto, unfolding(crate::specs::Slots::still_pending))]
 fn still_pending(b: &Board, k: usize) -> u32
     requires { (k < 17) × (get_or b.now.heads k 0 ≤ 64) }
     ensures { result ≡ still_pending b.now.pending k b.now.clock b.now.heads b.now.ready }
@@ -75,6 +75,7 @@ fn still_pending(b: &Board, k: usize) -> u32
 }
 
 // The active classes when a block of class k that was in no order waits no more: k stays if its order has a block.
+#[tactic(auto, unfolding(crate::specs::Slots::still_active))]
 fn still_active(b: &Board, k: usize) -> u32
     requires { k < 17 }
     ensures { result ≡ still_active b.now.active k b.now.heads }
@@ -86,6 +87,7 @@ fn still_active(b: &Board, k: usize) -> u32
 }
 
 // Rule 3: the class that is served where no slot is open.
+#[tactic(auto, unfolding(crate::specs::Slots::chosen_class))]
 fn chosen_class(b: &Board) -> u32
     ensures { result ≡ chosen_class b.now.active b.now.pending }
 {
@@ -96,6 +98,7 @@ fn chosen_class(b: &Board) -> u32
 }
 
 // Rule 3: the clock at which a slot of class k begins, which goes to the class's next start if none is pending.
+#[tactic(auto, unfolding(crate::specs::Slots::slot_clock))]
 fn slot_clock(b: &Board, k: u32) -> u64
     requires { (k < 17) × (b.now.clock ≤ 2 ^ 62) }
     ensures { result ≡ slot_clock b.now.clock b.now.pending k }
@@ -107,6 +110,7 @@ fn slot_clock(b: &Board, k: u32) -> u64
 }
 
 // Rules 2 and 3, with nothing changed: whose record is next and at which clock.
+#[tactic(auto, unfolding(crate::specs::Slots::choice))]
 pub fn choose(b: &Board) -> Result<Turn, Refusal>
     requires { CanChoose b.now.clock b.now.active b.now.pending b.now.slot b.now.heads }
     ensures { choice_in result ≡ choice b.now.clock b.now.active b.now.pending b.now.slot b.now.heads }
@@ -130,6 +134,7 @@ pub fn choose(b: &Board) -> Result<Turn, Refusal>
 }
 
 // Rule 3: a slot begins at a clock: its block leaves the order of its class, and its deficit goes into the slot.
+#[tactic(auto, using(units::proofs::Classes::class_le), unfolding(crate::specs::Slots::began_at))]
 pub fn begin(b: &mut Board, turn: Turn)
     requires { let k = class_of (get_or b.old.shares turn.place 0) in
         CanBegin b.old.shares b.old.largest turn.place k (queues_of b.old) }
@@ -153,6 +158,7 @@ pub fn begin(b: &mut Board, turn: Turn)
 }
 
 // Rules 4 and 5: the slot of a block of class k that waits no more ends.
+#[tactic(auto, unfolding(crate::specs::Slots::ended_empty))]
 pub fn end_empty(b: &mut Board, k: usize)
     requires { (k < 17) × (b.old.clock < 2 ^ 62) }
     ensures { let end = ended_empty k b.old.clock b.old.active b.old.pending b.old.heads b.old.held in
@@ -169,6 +175,7 @@ pub fn end_empty(b: &mut Board, k: usize)
 }
 
 // Rules 4 and 5: the slot of a block that still waits ends: it joins its order again, and what is left is its deficit.
+#[tactic(auto, unfolding(crate::specs::Slots::ended_waiting))]
 pub fn end_waiting(b: &mut Board, place: usize, k: usize)
     requires { (place < 64) × ((k < 17) × ((b.old.clock < 2 ^ 62) × (get_or b.old.tails k 0 ≤ 64))) }
     ensures { let end = ended_waiting place k b.old.left.0 b.old.clock b.old.active b.old.pending (queues_of b.old) in
