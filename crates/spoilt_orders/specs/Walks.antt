@@ -2,11 +2,12 @@
 -- its clause of document 01. Lists stand for the arrays; a link to place p is p + 1 and 0 is none. `SoundDecides`
 -- ties them to the rules; no promise of a call cites one.
 use Rattle.std.specs.Prelude.{Bool, cond, not, ◌&&◌, ◌||◌, List, ℕ, zero, suc, ◌+◌, ◌*◌, ◌-◌, ◌/◌, ◌^◌, leb, ltb, eqb}
-use Rattle.std.specs.Prelude.{get_or}
+use Rattle.std.specs.Prelude.{get_or, Option, None, Some}
 use Rattle.base.specs.Sums.{one_if, below}
 use Rattle.base.specs.Tests.{all_below}
 use Rattle.bits.specs.Sets.{set_below}
 use Rattle.units.specs.Classes.{next_start}
+use Rattle.board.specs.declared.Board.{Board}
 use Rattle.spoilt_places.specs.Ranges.{in_order}
 
 -- clock at most 2^62
@@ -49,6 +50,15 @@ walk k start slot tail shares counts ready next (suc n) met h least last =
 unfoldable pub order_length : (clock slot : ℕ) (heads tails shares counts ready next : List ℕ) (k : ℕ) → ℕ
 order_length clock slot heads tails shares counts ready next k =
     walk k (next_start k clock) slot (get_or tails k 0) shares counts ready next 64 0 (get_or heads k 0) 0 0
+
+-- the same of a board
+abbrev pub length_of : Board → (k : ℕ) → ℕ
+length_of b = order_length b.clock b.slot b.heads b.tails b.shares b.counts b.ready b.next
+
+-- a length where there is an order, as the walk gives it
+abbrev pub length_in : Option ℕ → ℕ
+length_in None = no_order
+length_in (Some n) = n
 
 -- how many blocks wait and have not the open slot
 unfoldable pub blocks_in_order : (slot : ℕ) (counts : List ℕ) → ℕ

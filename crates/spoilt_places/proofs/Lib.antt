@@ -1,2 +1,2 @@
 -- The laws of this crate, for its own proofs.
-pub mod Links
+pub mod Iterations

@@ -1,30 +1,12 @@
--- `spoilt_orders::pending_as_ruled` meets its contract: the loop keeps that the set has the pending classes below k and
--- no other (set_none, set_next). Assumes nothing.
-use mathlib.Core.Bool.{Bool, cond}
-use mathlib.Core.Path.{◌∙◌, ◌≡◌, ap, ap₂, sym}
-use Prim.Native.Nat.{ℕ}
-use native.Mathlib.Omega.{arith}
+-- `spoilt_orders::pending_as_ruled` meets its contract: the set is that of the pending classes. Assumes nothing.
+use mathlib.Core.Path.{ap}
 use lib.Dec.{eqb}
-use Rattle.bits.specs.Sets.{set_below, with_bit}
-use Rattle.spoilt_orders.proofs.Steps.{set_next, set_none}
+use Rattle.std.proofs.Common.{rules}
 use Rattle.spoilt_orders.specs.Walks.{class_pending, pending_as_ruled}
 use Rattle.spoilt_orders.proofs.pending_as_ruled.Goals as goal
-
-pub loop-k-init : goal.loop-k-init
-loop-k-init c = (omega arith, sym (set_none _))
-
-pub loop-k-preserved : goal.loop-k-preserved
-loop-k-preserved c = (
-  omega arith,
-  c.set_with-set.ensures
-      ∙ ap₂ (λ (m : Bool) (s : ℕ). cond m (with_bit s c.loop-k.k) s) c.class_pending-member.ensures c.loop-k.invariant.1
-      ∙ sym (set_next (class_pending c.args.clock c.args.ready.now c.args.heads.now) c.loop-k.k),
-)
 
 pub returns : goal.returns
 unfolding pending_as_ruled
 returns c =
-    let e : c.loop-k.k ≡ 17 =
-    omega arith in ap (eqb c.args.pending)
-    (c.loop-k.invariant.1
-    ∙ ap (λ (n : ℕ). set_below n (class_pending c.args.clock c.args.ready.now c.args.heads.now)) e)
+    let b = c.args.b.now in
+    ap (eqb b.pending) (c.set_of.ensures (class_pending b.clock b.ready b.heads) (λ k t l p. search rules))
