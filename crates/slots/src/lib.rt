@@ -129,7 +129,7 @@ pub fn choose(b: &Board) -> Result<Turn, Refusal>
     if CLOCK_END <= time {
         return Err(Refusal::ClockSpent);
     }
-    let place = b.heads[k as usize] as usize - 1;
+    let place = usize::from(b.heads[k as usize]) - 1;
     Ok(Turn { place, time })
 }
 
