@@ -2,11 +2,10 @@
 use mathlib.Core.Path.{◌≡◌, refl, sym, ap, subst, ◌∙◌}
 use mathlib.Core.Bool.{Bool, true, false, not, true≢false, false≢true}
 use mathlib.Core.List.{List, []}
-use Prim.Native.Nat.{ℕ, ◌+◌, ◌≤◌, ◌<◌}
+use Prim.Native.Nat.{ℕ, ◌+◌, ◌≤◌}
 use native.Mathlib.Nat.{add-zero}
 use native.Mathlib.Omega.{arith}
 use lib.Dec.{eqb}
-use lib.ListN.{length}
 use Rattle.rules.specs.Board
 use Rattle.rules.specs.Board.{bytes_charged}
 use Rattle.rules.specs.Choice.{Out, refused, done, taken, sent, Sending}
@@ -18,15 +17,18 @@ use Rattle.board.proofs.Sound.{fit_view}
 use Rattle.log_bytes.specs.declared.Event.{Event}
 use Rattle.log_bytes.specs.declared.Event.TheVariants.{Largest, Open, Close, Rename, Arrive, Serve, Passed}
 use Rattle.log_bytes.specs.Format.{is_l}
+use Rattle.std.specs.Prelude.{Option}
+use Rattle.units.specs.declared.Bytes.{Bytes}
+use Rattle.lines.specs.declared.Line.{Line}
 use Rattle.lines.specs.Text.{Written}
 use Rattle.lines.proofs.Texts.{none}
 use Rattle.lines.specs.Listing.{out_line, refused_line}
 use Rattle.listing_rules.specs.Listing.{Playing, played, field_line, served_line}
 use Rattle.listing_rules.specs.Events.{turn_of}
-use Rattle.serving.specs.declared.Step.{Step}
+use Rattle.serving.specs.Serving.{Step}
 use Rattle.events.specs.Events.{told_by, SendSeen, Acted}
 use Rattle.events.proofs.Events.{serves_to, serves_to_lem, inside}
-use Rattle.fields.specs.Fields.{Memory, memory, reads, KnownMemory, FieldPlayed, event_line}
+use Rattle.fields.specs.Fields.{Memory, memory, reads, KnownMemory, FieldPlayed, event_line, shown_text}
 
 -- ---- The bytes sent
 
@@ -82,32 +84,27 @@ module _ (m : Board.Board) (n : Holding) where
 pub no_line : (out : List ℕ) (used : ℕ) → Written out used [] used out × (used ≤ used + 64)
 no_line out used = (none out used, omega arith)
 
--- what showing asks holds after every field
-pub show_needs : (s : Holding) (e : Event) (n : Holding) (r : Step) → Acted s e n r
-    → (length n.ids ≡ 2048) × ((length n.lens ≡ 2048) × ((r.place < 64) × (r.entry < 2048)))
-show_needs s e n r a = let i = inside s e n r a in (a.good.ids_all, (a.good.lens_all, (i.place, i.entry)))
-
 -- ---- A FIELD PLAYED: done, shown, and its bytes added
 
 pub field_plays : (s : Memory) → KnownMemory s → (e : Event) → is_l e ≡ false
     → (n : Holding) (r : Step) → Acted (holding s.board s.ids s.lens) e n r
-    → (before : List ℕ) (used used' : ℕ) (after : List ℕ)
-    → Written before used (event_line n.board.numbers n.ids n.lens e r.code r.place r.entry r.slot_clock) used' after
-    × (used' ≤ used + 64)
-    → FieldPlayed s e (memory n.board n.ids n.lens (s.sent + r.bytes.0)) before used used' after
-field_plays s k e not-l n r a before used used' after (w, few) = record {
+    → (line : Option Line) → shown_text line ≡ event_line n.board.numbers n.ids n.lens e r.code r.place r.entry r.slot_clock
+    → (charge : Bytes) → charge ≡ r.bytes
+    → (before : List ℕ) (used used' : ℕ) (after : List ℕ) → Written before used (shown_text line) used' after × (used' ≤ used + 64)
+    → FieldPlayed s e (memory n.board n.ids n.lens (s.sent + charge.0)) before used used' after
+field_plays s k e not-l n r a line shown charge charged before used used' after (w, few) = record {
   good = a.good;
   next = (λ j. record { board = a.next j; sent = s.sent + bytes_is j }) ∙ sym (played_is (reads s) e not-l);
-  written = subst (λ (t : List ℕ). Written before used t used' after) (ap shows a.tells ∙ line_is m n s.sent e not-l serves a.sends) w;
+  written = subst (λ (t : List ℕ). Written before used t used' after) (shown ∙ ap shows a.tells ∙ line_is m n s.sent e not-l serves a.sends) w;
   short = few;
-  more = omega (arith, (inside _ e n r a).few);
+  more = omega (arith, ap (λ (x : Bytes). x.0) charged, (inside _ e n r a).few);
 }
   where
     m : Board.Board
     m = view s.board s.ids s.lens
 
-    bytes_is : r.bytes.0 ≡ bytes_of (told m (turn_of m e).out)
-    bytes_is = ap (λ (v : Step). v.bytes.0) a.tells ∙ told_bytes m (turn_of m e).out
+    bytes_is : charge.0 ≡ bytes_of (told m (turn_of m e).out)
+    bytes_is = ap (λ (x : Bytes). x.0) charged ∙ ap (λ (v : Step). v.bytes.0) a.tells ∙ told_bytes m (turn_of m e).out
 
     shows : Step → List ℕ
     shows v = event_line n.board.numbers n.ids n.lens e v.code v.place v.entry v.slot_clock

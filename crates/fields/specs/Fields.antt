@@ -1,11 +1,12 @@
 -- ONE FIELD PLAYED: a board in memory, its tables and the bytes sent so far, before the field and after it.
-use Rattle.std.specs.Prelude.{◌≡◌, cond, List, [], ℕ, ◌+◌, ◌≤◌, eqb, get_or}
+use Rattle.std.specs.Prelude.{◌≡◌, cond, List, [], ℕ, ◌+◌, ◌≤◌, eqb, get_or, Option, Some, None}
 use Rattle.board.specs.declared.Board as struct
 use Rattle.board.specs.Reading.{view}
 use Rattle.log_bytes.specs.declared.Event.{Event}
 use Rattle.log_bytes.specs.declared.Event.TheVariants.{Largest, Open, Close, Rename, Arrive, Serve, Passed}
 use Rattle.lines.specs.Text.{Written}
-use Rattle.lines.specs.Listing.{open_line, close_line, name_line, in_line, out_line, refused_line}
+use Rattle.lines.specs.declared.Line.{Line}
+use Rattle.lines.specs.Listing.{open_line, close_line, name_line, in_line, out_line, refused_line, line_text}
 use Rattle.board.specs.Leaving.{Known}
 use Rattle.listing_rules.specs.Listing.{Playing, played, field_line}
 
@@ -54,3 +55,8 @@ event_line numbers ids lens (Rename old new) code place entry clock = name_line 
 event_line numbers ids lens (Arrive block number bytes) code place entry clock = in_line number code
 event_line numbers ids lens Serve code place entry clock = shown_line numbers ids lens code place entry clock
 event_line numbers ids lens Passed code place entry clock = []
+
+-- the text of a line, or of none
+abbrev pub shown_text : Option Line → List ℕ
+shown_text None = []
+shown_text (Some line) = line_text line

@@ -2,153 +2,100 @@
 // is not tested here: whoever goes from field to field tests it once, and each step leaves it good.
 #![tactic(auto)]
 
-ghost use Rattle.std.specs.Prelude.{◌≡◌, false, ◌+◌, ◌^◌, ◌<◌, ◌≤◌, length};
+ghost use Rattle.std.specs.Prelude.{◌≡◌, false, ◌+◌, ◌^◌, ◌<◌, ◌≤◌, length, IfOk, is_some};
 ghost use Rattle.log_bytes.specs.Format.{is_l};
 ghost use Rattle.lines.specs.Text.{Written};
 ghost use Rattle.listing_rules.specs.Listing.{last_of};
-ghost use Rattle.board.specs.Memory.{numbers_now, board_now};
-ghost use Rattle.fields.specs.Fields.{memory, KnownMemory, FieldPlayed, shown_line, event_line};
+ghost use Rattle.board.specs.Memory.{After, numbers_of};
+ghost use Rattle.events.specs.Events.{step_of_act, serves};
+ghost use Rattle.fields.specs.Fields.{memory, KnownMemory, FieldPlayed, event_line, shown_text};
 
-use board::After;
+use board::Board;
+use lines::Line;
 use log_bytes::{End, Event};
-use numbers::{CLASSES, PLACES, codes};
-use units::{Bytes, Parts};
+use numbers::refusal::{Refusal, code_of};
+use serving::Served;
+use units::Bytes;
 
-// What a field leaves besides the arrays: where its line ends, the bytes sent so far, and the board's numbers.
+// What a field leaves besides the board and the tables: where its line ends, and the bytes sent so far.
 #[derive(Clone, Copy)]
 pub struct Moved {
     pub used: usize,
     pub sent: Bytes,
-    pub after: After,
 }
 
-// The line of a serve: what was sent, or the code of a refusal.
-fn show_serve(
-    code: u8,
-    place: usize,
-    entry: usize,
-    time: u64,
-    numbers: &[u32; PLACES],
-    ids: &[u32],
-    lens: &[u16],
-    out: &mut [u8],
-    used: usize,
-) -> usize
-    requires ids_len { (length ids.now ≡ 2048) × ((length lens.now ≡ 2048) × ((place < 64) × (entry < 2048))) }
-    requires used_in_bounds { used + 64 ≤ length out.old }
-    ensures { Written out.old used
-        (shown_line numbers.now ids.now lens.now code place entry time) result
-        out.new
-        × (result ≤ used + 64) }
-{
-    if code != codes::DONE {
-        return lines::put_refused(out, used, code);
-    }
-    lines::put_out(out, used, numbers[place], ids[entry], lens[entry], time)
-}
-
-// The line of a field, by what its step tells.
-fn show_field(
+// The line of a field, by what came of it. A field that is passed over gives none, and L is not read twice.
+fn line_of(
     event: Event,
-    code: u8,
-    place: usize,
-    entry: usize,
-    time: u64,
-    numbers: &[u32; PLACES],
+    came: Result<Option<Served>, Refusal>,
+    b: &Board,
     ids: &[u32],
     lens: &[u16],
-    out: &mut [u8],
-    used: usize,
-) -> usize
-    requires ids_len { (length ids.now ≡ 2048) × ((length lens.now ≡ 2048) × ((place < 64) × (entry < 2048))) }
-    requires used_in_bounds { used + 64 ≤ length out.old }
-    ensures { Written out.old used
-        (event_line numbers.now ids.now lens.now event code place entry time) result
-        out.new
-        × (result ≤ used + 64) }
+) -> Option<Line>
+    requires tables { (length ids.now ≡ 2048) × (length lens.now ≡ 2048) }
+    requires inside { let step = step_of_act came (numbers_of b.now) in (step.place < 64) × (step.entry < 2048) }
+    requires told { IfOk came (λ told. is_some told ≡ serves event) }
+    ensures { let step = step_of_act came (numbers_of b.now) in
+        shown_text result
+        ≡ event_line b.now.numbers ids.now lens.now event step.code step.place step.entry step.slot_clock }
 {
+    let code = code_of(&came);
     match event {
-        Event::Open(opening) => lines::put_open(out, used, opening.number, code),
-        Event::Close(block) => lines::put_close(out, used, block, code),
-        Event::Rename(old, new) => lines::put_name(out, used, old, new, code),
-        Event::Arrive(_, number, _) => lines::put_in(out, used, number, code),
-        Event::Serve => show_serve(code, place, entry, time, numbers, ids, lens, out, used),
-        // A field that is passed over gives no line, and L is not read twice.
-        Event::Passed => used,
-        Event::Largest(_) => used,
+        Event::Open(opening) => Some(Line::Open {
+            block: opening.number,
+            code,
+        }),
+        Event::Close(block) => Some(Line::Close { block, code }),
+        Event::Rename(old, new) => Some(Line::Name { old, new, code }),
+        Event::Arrive(_, number, _) => Some(Line::In { number, code }),
+        Event::Serve => match came {
+            Ok(Some(served)) => Some(Line::Out {
+                block: b.numbers[served.place],
+                number: ids[served.entry],
+                length: lens[served.entry],
+                clock: served.slot_clock,
+            }),
+            _ => Some(Line::Refused { code }),
+        },
+        Event::Passed | Event::Largest(_) => None,
+    }
+}
+
+// The bytes that a field is charged, by what came of it: those of the record that it sent, if it sent one.
+fn charged(came: Result<Option<Served>, Refusal>) -> Bytes
+    ensures { (now : After) → result ≡ (step_of_act came now).bytes }
+{
+    match came {
+        Ok(Some(served)) => served.bytes,
+        Ok(None) | Err(_) => Bytes(0),
     }
 }
 
 // One field after L: what it says is done, and its line is put behind what is written.
 pub fn play_field(
     event: Event,
-    sent: Bytes,
-    largest: u32,
-    clock: u64,
-    active: u32,
-    pending: u32,
-    slot: u8,
-    left: Parts,
-    numbers: &mut [u32; PLACES],
-    shares: &mut [u32; PLACES],
-    starts: &mut [u16; PLACES],
-    counts: &mut [u16; PLACES],
-    deficits: &mut [u64; PLACES],
-    ready: &mut [u64; PLACES],
-    next: &mut [u8; PLACES],
-    heads: &mut [u8; CLASSES],
-    tails: &mut [u8; CLASSES],
-    held: &mut [u32; CLASSES],
+    b: &mut Board,
     ids: &mut [u32],
     lens: &mut [u16],
+    sent: Bytes,
     out: &mut [u8],
     used: usize,
 ) -> Moved
-    requires known_memory { let before = memory
-        (board_now numbers.old shares.old starts.old counts.old
-        deficits.old ready.old next.old
-        heads.old tails.old held.old
-        largest (numbers_now clock active pending slot left.0))
-        ids.old lens.old sent.0 in
+    requires known_memory { let before = memory b.old ids.old lens.old sent.0 in
         KnownMemory before × ((sent.0 < 2 ^ 63) × (is_l event ≡ false)) }
     requires used_in_bounds { used + 64 ≤ length out.old }
-    ensures { let before = memory
-        (board_now numbers.old shares.old starts.old counts.old
-        deficits.old ready.old next.old
-        heads.old tails.old held.old
-        largest (numbers_now clock active pending slot left.0))
-        ids.old lens.old sent.0 in
-        let after = memory
-        (board_now numbers.new shares.new starts.new counts.new
-        deficits.new ready.new next.new
-        heads.new tails.new held.new
-        largest result.after)
-        ids.new lens.new result.sent.0 in
+    ensures { let before = memory b.old ids.old lens.old sent.0 in
+        let after = memory b.new ids.new lens.new result.sent.0 in
         FieldPlayed before event after out.old used result.used out.new }
 {
-    let s = events::act(
-        event, largest, clock, active, pending, slot, left, numbers, shares, starts, counts,
-        deficits, ready, next, heads, tails, held, ids, lens,
-    );
-    let end = show_field(
-        event,
-        s.code,
-        s.place,
-        s.entry,
-        s.slot_clock,
-        numbers,
-        ids,
-        lens,
-        out,
-        used,
-    );
-    let charge = s.bytes;
-    let after = s.after;
-    let total = sent.0 + charge.0;
+    let came = events::act(event, b, ids, lens);
+    let used = match line_of(event, came, b, ids, lens) {
+        Some(line) => line.put(out, used),
+        None => used,
+    };
     Moved {
-        used: end,
-        sent: Bytes(total),
-        after: after,
+        used,
+        sent: Bytes(sent.0 + charged(came).0),
     }
 }
 
@@ -165,9 +112,16 @@ pub fn show_end(
     ensures { Written out.old used (last_of clock sent.0 waiting end) result out.new
         × (result ≤ used + 64) }
 {
-    match end {
-        End::Whole => lines::put_end(out, used, clock, sent.0, waiting),
-        End::Broken(offset) => lines::put_broken(out, used, offset as u64),
-        End::Long => lines::put_long(out, used),
-    }
+    let line = match end {
+        End::Whole => Line::End {
+            clock,
+            bytes: sent.0,
+            waiting,
+        },
+        End::Broken(offset) => Line::Broken {
+            offset: offset as u64,
+        },
+        End::Long => Line::Long,
+    };
+    line.put(out, used)
 }

@@ -84,8 +84,10 @@ pub out_is : (block number len clock : ℕ) → out_line block number len clock 
 unfolding out_line
 out_is block number len clock = refl
 
-pub out_short : (block number len clock : ℕ) → block < 2 ^ 32 → number < 2 ^ 32 → len < 2 ^ 16 → clock < 2 ^ 64 → length (line_of out_word (block ∷ number ∷ len ∷ clock ∷ [])) ≤ 64
-out_short block number len clock h0 h1 h2 h3 = fits out_word (9 ∷ 9 ∷ 4 ∷ 19 ∷ []) (block ∷ number ∷ len ∷ clock ∷ []) (omega arith, (omega arith, (omega arith, (omega arith, tt)))) (lit≤ tt)
+pub out_short : (block number len clock : ℕ) → block < 2 ^ 32 → number < 2 ^ 32 → len < 2 ^ 16 → clock < 2 ^ 64
+    → length (line_of out_word (block ∷ number ∷ len ∷ clock ∷ [])) ≤ 64
+out_short block number len clock h0 h1 h2 h3 =
+    fits out_word (9 ∷ 9 ∷ 4 ∷ 19 ∷ []) (block ∷ number ∷ len ∷ clock ∷ []) (omega arith, (omega arith, (omega arith, (omega arith, tt)))) (lit≤ tt)
 
 pub out_fits : OutFits
 unfolding out_line
@@ -107,7 +109,8 @@ unfolding end_line
 end_is clock bytes waiting = refl
 
 pub end_short : (clock bytes waiting : ℕ) → clock < 2 ^ 64 → bytes < 2 ^ 64 → waiting < 2 ^ 32 → length (line_of end_word (clock ∷ bytes ∷ waiting ∷ [])) ≤ 64
-end_short clock bytes waiting h0 h1 h2 = fits end_word (19 ∷ 19 ∷ 9 ∷ []) (clock ∷ bytes ∷ waiting ∷ []) (omega arith, (omega arith, (omega arith, tt))) (lit≤ tt)
+end_short clock bytes waiting h0 h1 h2 =
+    fits end_word (19 ∷ 19 ∷ 9 ∷ []) (clock ∷ bytes ∷ waiting ∷ []) (omega arith, (omega arith, (omega arith, tt))) (lit≤ tt)
 
 pub end_fits : EndFits
 unfolding end_line

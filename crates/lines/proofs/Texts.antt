@@ -95,7 +95,8 @@ pub text_put : (l text m : List ℕ) (at : ℕ) → at + length text ≤ length 
 text_put l text m at h e = record {
   ends = refl;
   list =
-      rw e (ap (λ (r : List ℕ). take at l ++ (text ++ r)) (Post-is at (at + length text) l (omega arith)) ∙ sym (sets-eq text l at h ∙ append_assoc (take at l) text (drop (at + length text) l)));
+      rw e (ap (λ (r : List ℕ). take at l ++ (text ++ r)) (Post-is at (at + length text) l (omega arith))
+      ∙ sym (sets-eq text l at h ∙ append_assoc (take at l) text (drop (at + length text) l)));
 }
 
 -- ---- columns, number by number

@@ -68,14 +68,14 @@ broken_line offset = line_of broken_word (offset ∷ [])
 unfoldable pub long_line : List ℕ
 long_line = line_of long_word []
 
--- The bytes of each line that the code can put.
-abbrev pub bytes_of : Line → List ℕ
-bytes_of (Open block code) = open_line block code
-bytes_of (Close block code) = close_line block code
-bytes_of (Name old new code) = name_line old new code
-bytes_of (In number code) = in_line number code
-bytes_of (Out block number length clock) = out_line block number length clock
-bytes_of (Refused code) = refused_line code
-bytes_of (End clock bytes waiting) = end_line clock bytes waiting
-bytes_of (Broken offset) = broken_line offset
-bytes_of Long = long_line
+-- the text of a line that the code can put
+abbrev pub line_text : Line → List ℕ
+line_text (Open block code) = open_line block code
+line_text (Close block code) = close_line block code
+line_text (Name old new code) = name_line old new code
+line_text (In number code) = in_line number code
+line_text (Out block number length clock) = out_line block number length clock
+line_text (Refused code) = refused_line code
+line_text (End clock bytes waiting) = end_line clock bytes waiting
+line_text (Broken offset) = broken_line offset
+line_text Long = long_line

@@ -3,7 +3,7 @@
 
 ghost use Rattle.std.specs.Prelude.{◌≡◌, [], ◌∷◌, ◌+◌, ◌≤◌, length};
 ghost use Rattle.lines.specs.Text.{decimal, columns, line_of, Written};
-ghost use Rattle.lines.specs.Listing.{bytes_of};
+ghost use Rattle.lines.specs.Listing.{line_text};
 
 // Room for any line.
 pub const LINE_ROOM: usize = 64;
@@ -53,7 +53,7 @@ impl Line {
     #[tactic(auto, using(crate::proofs::Fitting::each_line))]
     pub fn put(self, out: &mut [u8], at: usize) -> usize
         requires { at + 64 ≤ length out.old }
-        ensures { Written out.old at (bytes_of self) result out.new × (result ≤ at + 64) }
+        ensures { Written out.old at (line_text self) result out.new × (result ≤ at + 64) }
     {
         match self {
             Line::Open { block, code } => put_line(out, at, b"open", &[block.into(), code.into()]),
