@@ -1,6 +1,6 @@
 -- The code before all others: the computed test finds it, and a value that passes is known to be good.
-use mathlib.Core.Path.{◌≡◌, refl, sym}
-use mathlib.Core.Bool.{Bool, true, false, cond}
+use mathlib.Core.Path.{◌≡◌, refl, sym, ap}
+use mathlib.Core.Bool.{Bool, true, false, not, cond}
 use mathlib.Core.List.{List}
 use Prim.Native.Nat.{ℕ}
 use native.Mathlib.Omega.{arith}
@@ -13,7 +13,7 @@ use Rattle.board.specs.Reading.{Sized, is_sound}
 use Rattle.board.specs.Leaving.{Known}
 use Rattle.board.proofs.Sound.{is_sound_decides}
 use Rattle.board.proofs.Tables.{right_tables}
-use Rattle.spoilt.specs.Test.{sound_test}
+use Rattle.spoilt.specs.Test.{tables_whole, sound_test}
 use Rattle.spoilt.specs.Early.{early_code}
 use Rattle.spoilt.proofs.Decided.{sound_decides}
 
@@ -25,12 +25,18 @@ pub test_is : (b : struct.Board) (ids lens : List ℕ) → Sized b → length id
     → sound_test b ids lens ≡ is_sound b ids lens
 test_is b ids lens z i l = decided_alike (sound_decides b ids lens z i l) (is_sound_decides b ids lens)
 
--- what is found by it, with tables of 2,048 entries
-pub early_by : (b : struct.Board) (ids lens : List ℕ) → Sized b → length ids ≡ table_length → length lens ≡ table_length → (t : Bool)
-    → sound_test b ids lens ≡ t
+-- what is found by it
+pub early_short : (b : struct.Board) (ids lens : List ℕ) → tables_whole ids lens ≡ false → 3 ≡ early_code b ids lens
+unfolding early_code
+early_short b ids lens e = rw e
+
+pub early_by : (b : struct.Board) (ids lens : List ℕ) → Sized b → tables_whole ids lens ≡ true → (t : Bool) → sound_test b ids lens ≡ t
     → cond t 0 2 ≡ early_code b ids lens
 unfolding early_code
-early_by b ids lens z i l t e = rw (i, l, sym (test_is b ids lens z i l), e)
+early_by b ids lens z w t e = rw (w, sym (test_is b ids lens z sizes.0 sizes.1), e)
+  where
+    sizes : (length ids ≡ table_length) × (length lens ≡ table_length)
+    sizes = right_tables (length ids) (length lens) (ap not w)
 
 -- a code of 0 is found only of a value that is known to be good
 pub known_by : (b : struct.Board) (ids lens : List ℕ) → early_code b ids lens ≡ 0 → Known b ids lens

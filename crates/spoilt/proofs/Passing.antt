@@ -37,11 +37,11 @@ use Rattle.board.proofs.Reading.{once, small, class, few}
 use Rattle.board.proofs.Sound.{seventeen_view}
 use Rattle.board.proofs.Walks.{ends, linked_ends, first_follow, follow_length}
 use Rattle.spoilt_places.specs.Ranges.{size_in_range, numbers_apart, in_order, unused_is_zero, place_now, shares_fit, held_while_waiting, none_held}
-use Rattle.spoilt_orders.specs.Walks.{clock_in_range, class_active, class_pending, blocks_in_order}
+use Rattle.spoilt_orders.specs.Walks.{clock_in_range, class_active, class_pending, blocks_in_order, length_of}
 use Rattle.spoilt.specs.Test.{slot_open}
 use Rattle.spoilt.proofs.Apart.{d_apart}
 use Rattle.spoilt.proofs.Counts.{all_met}
-use Rattle.spoilt.proofs.Walk.{order_of, walked_from, length_of}
+use Rattle.spoilt.proofs.Walk.{order_of, walked_from}
 use Rattle.spoilt.proofs.Places.{inner, share_at, number_at, waits_is, stand_is, serving_is, ready_is, number_is, share_is, ring_is, deficit_is, free_is}
 use Rattle.spoilt.proofs.Places.{lengths_to, queued_at}
 use Rattle.spoilt.proofs.Sets.{in_class_lem, Ordered, active_is, pending_is, quiet_is}

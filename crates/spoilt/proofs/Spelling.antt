@@ -31,9 +31,9 @@ use Rattle.board.proofs.Same.{same}
 use Rattle.board.proofs.Walks.{ends_once, ends_behind, first_follow}
 use Rattle.spoilt_places.specs.declared.PlaceNow.{PlaceNow}
 use Rattle.spoilt_places.specs.Ranges.{in_order, free_is_zero, share_in_range, unused_is_zero, place_now}
-use Rattle.spoilt_orders.specs.Walks.{class_active, class_pending, blocks_in_order}
+use Rattle.spoilt_orders.specs.Walks.{class_active, class_pending, blocks_in_order, length_of}
 use Rattle.spoilt.proofs.Counts.{all_listed}
-use Rattle.spoilt.proofs.Walk.{rises_from, last_from, Walked, walked, order_of, length_of}
+use Rattle.spoilt.proofs.Walk.{rises_from, last_from, Walked, walked, order_of}
 use Rattle.spoilt.proofs.Places.{inner, lane_long, ready_is, share_at, queued_at}
 use Rattle.spoilt.proofs.Sets.{in_class_lem, Ordered, active_is, pending_is}
 use Rattle.spoilt.proofs.Rules.{Rules, belong_at, Belongs, d_belongs, SlotAsks, d_serves}

@@ -14,7 +14,7 @@ use Rattle.board.specs.declared.Board.{Board}
 use Rattle.board.specs.Reading.{follow}
 use Rattle.board.proofs.Walks.{ends}
 use Rattle.spoilt_places.specs.Ranges.{in_order}
-use Rattle.spoilt_orders.specs.Walks.{of_class, ready_in_range, block_in_range, no_order, walk, order_length}
+use Rattle.spoilt_orders.specs.Walks.{of_class, ready_in_range, block_in_range, no_order, walk, order_length, length_of}
 
 -- ---- the tests of a walk, on the list of the places that it meets
 
@@ -57,10 +57,6 @@ link_is b k least p =
     regroup true false e f g h = refl
     regroup true true false f g h = refl
     regroup true true true false g h = refl
-
--- the length of the order of class k
-abbrev pub length_of : Board → ℕ → ℕ
-length_of b = order_length b.clock b.slot b.heads b.tails b.shares b.counts b.ready b.next
 
 -- the order of class k, as it is read
 abbrev pub order_of : Board → ℕ → List ℕ
