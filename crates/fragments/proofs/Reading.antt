@@ -59,10 +59,10 @@ known_of at bytes log came stage x h l q known =
     stays_known at log came (length log) stage l (λ u. known (sym same ∙ u)) ∙ same
 
 pub whole_part : {e : Event} {size came : ℕ} → GoesOn e size ≡ Unfinished came → ⊥
-whole_part q = let z : ◌≡◌ {A = ℕ} 0 1 = cc in omega arith
+whole_part q = cc
 
 pub ends_part : {e : End} {came : ℕ} → Ends e ≡ Unfinished came → ⊥
-ends_part q = let z : ◌≡◌ {A = ℕ} 0 1 = cc in omega arith
+ends_part q = cc
 
 -- ---- what is known behind the bytes that are kept
 

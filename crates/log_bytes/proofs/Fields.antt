@@ -1,13 +1,14 @@
 -- Laws of one field as its bytes come: what is known of it by each test, that it stays known, and what it rests on.
 -- Assumes nothing.
 use mathlib.Core.Path.{◌≡◌, refl, sym, ap, ap₂, ◌∙◌}
-use mathlib.Core.Bool.{Bool, true, false, cond, ◌&&◌, ◌||◌}
+use mathlib.Core.Bool.{Bool, true, false, cond, not, ◌&&◌, ◌||◌}
 use mathlib.Core.Logic.{◌⊎◌, inl, inr}
 use mathlib.Core.List.{List}
 use Prim.Native.Nat.{ℕ, zero, suc, ◌+◌, ◌-◌, ◌*◌, ◌^◌, ◌≤◌, ◌<◌}
 use native.Mathlib.Omega.{arith}
 use borrow.Author.Tests.{eqb-true, ne_eqb, leb-true, lt-ltb, le-ltb, ltb-true, ltb-false}
 use lib.Dec.{ltb, leb, eqb, lit≤}
+use Rattle.std.proofs.lemmas.Grind.{common_steps}
 use lib.ListN.{get_or}
 use Rattle.base.proofs.Numbers.{split}
 use Rattle.base.proofs.Tests.{and_left, and_right, and_both}
@@ -22,7 +23,7 @@ use Rattle.log_bytes.specs.Format.{is_read, is_broken, is_whole, is_past, next_i
 use Rattle.log_bytes.specs.Laws.{TagSeen, LengthSeen, CutUnknown, StaysKnown, KnownByLooks}
 
 pub differ : {A : Type 0} → true ≡ false → A
-differ e = absurd (let z : ◌≡◌ {A = ℕ} 0 1 = cc in omega arith)
+differ e = cc
 
 -- ---- the bytes that are read
 
@@ -85,44 +86,31 @@ unread_past at came more i p h = go (is_read at more i) refl
 abbrev not_known : (at came : ℕ) → Next
 not_known at came = cond (is_past at came) (Ends long) (Unfinished came)
 
-module _ (at : ℕ) (bytes : List ℕ) (came : ℕ) (stage : Stage) where
-  pub found_none : is_read at came 0 ≡ false → not_known at came ≡ next_in at bytes came stage
-  unfolding next_in is_broken is_whole
-  found_none h =
-      let two = unread_on at came 0 2 (omega arith) h in
-      let last = unread_on at came 0 (2 + length_in bytes) (omega arith) h in
-      rw (h, two, last)
+-- the tests in the order in which its bytes come
+abbrev pub steps : (at came : ℕ) (e : Event) (n : ℕ) (a t b r c u : Bool) → Next
+steps at came e n a t b r c u =
+    let breaks = Ends (broken at) in
+    cond a (cond t (cond b (cond r (cond c (cond u (GoesOn e (3 + n)) breaks) (not_known at came)) breaks) (not_known at came)) breaks) (not_known at came)
 
-  module _ (a : is_read at came 0 ≡ true) where
-    pub found_tag : right_tag (tag_in bytes) stage ≡ false → Ends (broken at) ≡ next_in at bytes came stage
-    unfolding next_in is_broken
-    found_tag t = rw (a, t)
-
-    module _ (t : right_tag (tag_in bytes) stage ≡ true) where
-      pub found_part : is_read at came 2 ≡ false → not_known at came ≡ next_in at bytes came stage
-      unfolding next_in is_broken is_whole
-      found_part h =
-          let last = unread_on at came 2 (2 + length_in bytes) (omega arith) h in
-          rw (a, t, h, last)
-
-      module _ (b : is_read at came 2 ≡ true) (n : ℕ) (q : n ≡ length_in bytes) where
-        pub found_length : right_length (tag_in bytes) n ≡ false → Ends (broken at) ≡ next_in at bytes came stage
-        unfolding next_in is_broken
-        found_length r = rw (a, t, b, ← q, r)
-
-        module _ (r : right_length (tag_in bytes) n ≡ true) where
-          pub found_cut : is_read at came (2 + n) ≡ false → not_known at came ≡ next_in at bytes came stage
-          unfolding next_in is_broken is_whole
-          found_cut h = rw (a, t, b, ← q, r, h)
-
-          module _ (c : is_read at came (2 + n) ≡ true) (e : Event) (x : e ≡ event_in bytes) where
-            pub found_turn : in_turn e stage ≡ false → Ends (broken at) ≡ next_in at bytes came stage
-            unfolding next_in is_broken
-            found_turn u = rw (a, t, b, ← q, r, c, ← x, u)
-
-            pub found_whole : in_turn e stage ≡ true → GoesOn e (3 + n) ≡ next_in at bytes came stage
-            unfolding next_in is_broken is_whole
-            found_whole u = rw (a, t, b, ← q, r, c, ← x, u)
+-- a byte that is read has those before it read, so all is asked in that order
+pub next_steps : (at : ℕ) (bytes : List ℕ) (came : ℕ) (stage : Stage) → next_in at bytes came stage
+    ≡ steps at came (event_in bytes) (length_in bytes) (is_read at came 0) (right_tag (tag_in bytes) stage) (is_read at came 2)
+    (right_length (tag_in bytes) (length_in bytes)) (is_read at came (2 + length_in bytes)) (in_turn (event_in bytes) stage)
+unfolding next_in is_broken is_whole
+next_steps at bytes came stage =
+    go _ _ _ (is_read at came 0) (right_tag (tag_in bytes) stage) (is_read at came 2) (right_length (tag_in bytes) (length_in bytes))
+    (is_read at came (2 + length_in bytes)) (in_turn (event_in bytes) stage) (unread_on at came 0 2 (omega arith))
+    (unread_on at came 2 (2 + length_in bytes) (omega arith))
+  where
+    go : (x y z : Next) (a t b r c u : Bool) → (a ≡ false → b ≡ false) → (b ≡ false → c ≡ false)
+        → cond ((a && not t) || ((b && not r) || (c && not u))) x (cond c y z) ≡ cond a (cond t (cond b (cond r (cond c (cond u y x) z) x) z) x) z
+    go x y z false t b r c u p q = rw (p refl, q (p refl))
+    go x y z true false b r c u p q = refl
+    go x y z true true false r c u p q = rw (q refl)
+    go x y z true true true false c u p q = refl
+    go x y z true true true true false u p q = refl
+    go x y z true true true true true false p q = refl
+    go x y z true true true true true true p q = refl
 
 -- ---- the length
 
@@ -171,86 +159,36 @@ event_fits tag n came room r l (inr h) = omega (arith, length_most tag, h)
 -- ---- as bytes come
 
 pub tag_seen : TagSeen
-tag_seen at bytes stage l t = sym (found_tag at bytes 1 stage (read_is at 1 0 (omega arith) (omega (arith, l))) t)
+tag_seen at bytes stage l t = rw (next_steps at bytes 1 stage, read_is at 1 0 (omega arith) (omega (arith, l)), t)
 
 pub length_seen : LengthSeen
-length_seen at bytes stage l r = go (right_tag (tag_in bytes) stage) refl
-  where
-    first : is_read at 3 0 ≡ true
-    first = read_is at 3 0 (omega arith) (omega (arith, l))
-
-    third : is_read at 3 2 ≡ true
-    third = read_is at 3 2 (omega arith) (omega (arith, l))
-
-    go : (t : Bool) → right_tag (tag_in bytes) stage ≡ t → next_in at bytes 3 stage ≡ Ends (broken at)
-    go true t = sym (found_length at bytes 3 stage first t third (length_in bytes) refl r)
-    go false t = sym (found_tag at bytes 3 stage first t)
-
-not_known_part : (at came : ℕ) → at + came ≤ 2 ^ 48 → not_known at came ≡ Unfinished came
-not_known_part at came l = rw (past_not at came (omega (arith, l)))
+length_seen at bytes stage l r =
+    let e = next_steps at bytes 3 stage in
+    let first = read_is at 3 0 (omega arith) (omega (arith, l)) in
+    let third = read_is at 3 2 (omega arith) (omega (arith, l)) in
+    grind (arith, common_steps)
 
 pub cut_unknown : CutUnknown
-cut_unknown at bytes came stage l tag len = go (is_read at came 0) (is_read at came 2) refl refl tag len
-  where
-    go : (a b : Bool) → is_read at came 0 ≡ a → is_read at came 2 ≡ b → (came ≡ 0) ⊎ (right_tag (tag_in bytes) stage ≡ true)
-        → (came < 3) ⊎ ((right_length (tag_in bytes) (length_in bytes) ≡ true) × (came < 3 + length_in bytes))
-        → next_in at bytes came stage ≡ Unfinished came
-    go false b p q t n = sym (found_none at bytes came stage p) ∙ not_known_part at came l
-    go true b p q (inl z) n = absurd (let r = read_only at came 0 p in omega (arith, r.0, z))
-    go true false p q (inr t) n = sym (found_part at bytes came stage p t q) ∙ not_known_part at came l
-    go true true p q (inr t) (inl z) = absurd (let r = read_only at came 2 q in omega (arith, r.0, z))
-    go true true p q (inr t) (inr z) =
-        let last = unread_is at came (2 + length_in bytes) (inl (omega (arith, z.1))) in
-        sym (found_cut at bytes came stage p t q (length_in bytes) refl z.0 last) ∙ not_known_part at came l
-
--- What is known of two fields by the same tests is the same, if a law says what it is by each test. The second may have
--- more bytes, where the first is known.
-module _ (at : ℕ) (bytes : List ℕ) (came more : ℕ) (stage : Stage) (l : came ≤ more) where
-  -- where one byte is not read, all that is known is whether the log is long
-  unread_same : (i : ℕ) → is_read at came i ≡ false → not_known at came ≡ next_in at bytes came stage
-      → (next_in at bytes came stage ≡ Unfinished came → ⊥)
-      → (is_read at more i ≡ false → not_known at more ≡ next_in at bytes more stage) → next_in at bytes more stage ≡ next_in at bytes came stage
-  unread_same i h is known then = go (is_past at came) refl
-    where
-      go : (t : Bool) → is_past at came ≡ t → next_in at bytes more stage ≡ next_in at bytes came stage
-      go true p =
-          let still = past_is at more (omega (arith, past_only at came p, l)) in
-          sym (then (unread_past at came more i p h)) ∙ ap (λ (t : Bool). cond t (Ends long) (Unfinished more)) still
-          ∙ sym (ap (λ (t : Bool). cond t (Ends long) (Unfinished came)) p) ∙ is
-      go false p = absurd (known (sym is ∙ ap (λ (t : Bool). cond t (Ends long) (Unfinished came)) p))
+cut_unknown at bytes came stage l tag len =
+    let e = next_steps at bytes came stage in
+    let low = past_not at came (omega (arith, l)) in
+    let first = read_only at came 0 in
+    let third = read_only at came 2 in
+    let last = read_only at came (2 + length_in bytes) in
+    grind (arith, common_steps)
 
 pub stays_known : StaysKnown
-stays_known at bytes came more stage l known = go (is_read at came 0) (right_tag (tag_in bytes) stage) (is_read at came 2) (right_length (tag_in bytes) n)
-    (is_read at came (2 + n)) (in_turn (event_in bytes) stage) refl refl refl refl refl refl
-  where
-    n : ℕ
-    n = length_in bytes
-
-    same : (i : ℕ) → is_read at came i ≡ false → not_known at came ≡ next_in at bytes came stage
-        → (is_read at more i ≡ false → not_known at more ≡ next_in at bytes more stage) → next_in at bytes more stage ≡ next_in at bytes came stage
-    same i h is then = unread_same at bytes came more stage l i h is known then
-
-    on : (i : ℕ) → is_read at came i ≡ true → is_read at more i ≡ true
-    on i h = read_more at came more i l h
-
-    go : (a t b r c u : Bool) → is_read at came 0 ≡ a → right_tag (tag_in bytes) stage ≡ t → is_read at came 2 ≡ b → right_length (tag_in bytes) n ≡ r
-        → is_read at came (2 + n) ≡ c → in_turn (event_in bytes) stage ≡ u
-        → next_in at bytes more stage ≡ next_in at bytes came stage
-    go false t b r c u pa pt pb pr pc pu = same 0 pa (found_none at bytes came stage pa) (found_none at bytes more stage)
-    go true false b r c u pa pt pb pr pc pu =
-        sym (found_tag at bytes more stage (on 0 pa) pt) ∙ found_tag at bytes came stage pa pt
-    go true true false r c u pa pt pb pr pc pu =
-        same 2 pb (found_part at bytes came stage pa pt pb) (found_part at bytes more stage (on 0 pa) pt)
-    go true true true false c u pa pt pb pr pc pu =
-        sym (found_length at bytes more stage (on 0 pa) pt (on 2 pb) n refl pr) ∙ found_length at bytes came stage pa pt pb n refl pr
-    go true true true true false u pa pt pb pr pc pu =
-        same (2 + n) pc (found_cut at bytes came stage pa pt pb n refl pr pc) (found_cut at bytes more stage (on 0 pa) pt (on 2 pb) n refl pr)
-    go true true true true true false pa pt pb pr pc pu =
-        sym (found_turn at bytes more stage (on 0 pa) pt (on 2 pb) n refl pr (on (2 + n) pc) (event_in bytes) refl pu)
-        ∙ found_turn at bytes came stage pa pt pb n refl pr pc (event_in bytes) refl pu
-    go true true true true true true pa pt pb pr pc pu =
-        sym (found_whole at bytes more stage (on 0 pa) pt (on 2 pb) n refl pr (on (2 + n) pc) (event_in bytes) refl pu)
-        ∙ found_whole at bytes came stage pa pt pb n refl pr pc (event_in bytes) refl pu
+stays_known at bytes came more stage l known =
+    let e = next_steps at bytes came stage in
+    let f = next_steps at bytes more stage in
+    let first = read_more at came more 0 l in
+    let third = read_more at came more 2 l in
+    let last = read_more at came more (2 + length_in bytes) l in
+    let past : is_past at came ≡ true → is_past at more ≡ true = λ p. past_is at more (omega (arith, past_only at came p, l)) in
+    let no_first = unread_past at came more 0 in
+    let no_third = unread_past at came more 2 in
+    let no_last = unread_past at came more (2 + length_in bytes) in
+    grind (arith, common_steps)
 
 -- ---- what is looked at
 
@@ -296,8 +234,13 @@ event_looks a b tag h = go (eqb tag 6) (eqb tag 1) (eqb tag 2) (eqb tag 3) (eqb 
 
 -- so what is known of a field is known by what is looked at
 pub known_by_looks : KnownByLooks
-known_by_looks at a b came stage looks = go (is_read at came 0) (right_tag (tag_in a) stage) (is_read at came 2) (right_length (tag_in a) n)
-    (is_read at came (2 + n)) (in_turn (event_in a) stage) refl refl refl refl refl refl
+known_by_looks at a b came stage looks =
+    let e = next_steps at a came stage in
+    let f = next_steps at b came stage in
+    let t = tagged in
+    let z = sized in
+    let s = said in
+    grind (arith, common_steps)
   where
     n : ℕ
     n = length_in a
@@ -317,27 +260,3 @@ known_by_looks at a b came stage looks = go (is_read at came 0) (right_tag (tag_
 
     said : tag_in a ≡ tag_in b → right_length (tag_in a) n ≡ true → is_read at came (2 + n) ≡ true → event_in a ≡ event_in b
     said t r c = event_looks a b (tag_in a) (value r c) ∙ ap (λ (x : ℕ). event_of b x 3) t
-
-    go : (p t q r c u : Bool) → is_read at came 0 ≡ p → right_tag (tag_in a) stage ≡ t → is_read at came 2 ≡ q → right_length (tag_in a) n ≡ r
-        → is_read at came (2 + n) ≡ c → in_turn (event_in a) stage ≡ u → next_in at a came stage ≡ next_in at b came stage
-    go false t q r c u ep et eq er ec eu = sym (found_none at a came stage ep) ∙ found_none at b came stage ep
-    go true false q r c u ep et eq er ec eu =
-        sym (found_tag at a came stage ep et) ∙ found_tag at b came stage ep (ap (λ (x : ℕ). right_tag x stage) (sym (tagged ep)) ∙ et)
-    go true true false r c u ep et eq er ec eu =
-        sym (found_part at a came stage ep et eq) ∙ found_part at b came stage ep (ap (λ (x : ℕ). right_tag x stage) (sym (tagged ep)) ∙ et) eq
-    go true true true false c u ep et eq er ec eu =
-        sym (found_length at a came stage ep et eq n refl er)
-        ∙ found_length at b came stage ep (ap (λ (x : ℕ). right_tag x stage) (sym (tagged ep)) ∙ et) eq n (sized eq)
-        (ap (λ (x : ℕ). right_length x n) (sym (tagged ep)) ∙ er)
-    go true true true true false u ep et eq er ec eu =
-        sym (found_cut at a came stage ep et eq n refl er ec)
-        ∙ found_cut at b came stage ep (ap (λ (x : ℕ). right_tag x stage) (sym (tagged ep)) ∙ et) eq n (sized eq)
-        (ap (λ (x : ℕ). right_length x n) (sym (tagged ep)) ∙ er) ec
-    go true true true true true false ep et eq er ec eu =
-        sym (found_turn at a came stage ep et eq n refl er ec (event_in a) refl eu)
-        ∙ found_turn at b came stage ep (ap (λ (x : ℕ). right_tag x stage) (sym (tagged ep)) ∙ et) eq n (sized eq)
-        (ap (λ (x : ℕ). right_length x n) (sym (tagged ep)) ∙ er) ec (event_in a) (said (tagged ep) er ec) eu
-    go true true true true true true ep et eq er ec eu =
-        sym (found_whole at a came stage ep et eq n refl er ec (event_in a) refl eu)
-        ∙ found_whole at b came stage ep (ap (λ (x : ℕ). right_tag x stage) (sym (tagged ep)) ∙ et) eq n (sized eq)
-        (ap (λ (x : ℕ). right_length x n) (sym (tagged ep)) ∙ er) ec (event_in a) (said (tagged ep) er ec) eu

@@ -50,7 +50,7 @@ end_whole at came stage h =
   where
     go : (t : Bool) → cond t whole (broken at) ≡ whole → t ≡ true
     go true h = refl
-    go false h = absurd (let z : ◌≡◌ {A = ℕ} 0 1 = cc in omega arith)
+    go false h = cc
 
 pub end_here : (at : ℕ) (stage : Stage) → past_l stage ≡ true → end_in at 0 stage ≡ whole
 unfolding end_in
@@ -70,7 +70,7 @@ unfolding end_in
 end_broken at came stage n h = go (past_l stage && eqb came 0) h
   where
     go : (t : Bool) → cond t whole (broken at) ≡ broken n → n ≡ at
-    go true h = absurd (let z : ◌≡◌ {A = ℕ} 0 1 = cc in omega arith)
+    go true h = cc
     go false h = cc
 
 pub end_short : (at came : ℕ) (stage : Stage) → end_in at came stage ≡ long → ⊥
@@ -78,8 +78,8 @@ unfolding end_in
 end_short at came stage h = go (past_l stage && eqb came 0) h
   where
     go : (t : Bool) → cond t whole (broken at) ≡ long → ⊥
-    go true h = absurd (let z : ◌≡◌ {A = ℕ} 0 1 = cc in omega arith)
-    go false h = absurd (let z : ◌≡◌ {A = ℕ} 0 1 = cc in omega arith)
+    go true h = cc
+    go false h = cc
 
 -- ---- there is a reading
 

@@ -23,7 +23,7 @@ use Rattle.log_bytes.specs.Spelling.{bytes_of, Operand, operands_of, value_of, w
 use Rattle.log_bytes.specs.Spelling.{Says, AllBytes, Spelt, log_of, AllSay, AllInTurn, with_offsets}
 use Rattle.log_bytes.specs.Laws.{FieldBack, FieldOnly, LogBack, LogOnly}
 use Rattle.log_bytes.proofs.Numbers.{number_lt}
-use Rattle.log_bytes.proofs.Fields.{differ, read_is, found_whole}
+use Rattle.log_bytes.proofs.Fields.{differ, read_is, next_steps}
 use Rattle.log_bytes.proofs.Stages.{tag_turn}
 use Rattle.log_bytes.proofs.Wholes.{none_come}
 use Rattle.log_bytes.proofs.Readings.{goes_is, end_here, ended_whole, has_reading, one_reading}
@@ -172,12 +172,18 @@ field_back e tag value rest at stage h t l =
     let m = field_length tag value in
     let long = length-append (field_of tag value) rest in
     let event : event_of s (tag_in s) 3 ≡ e = ap (λ (i : ℕ). event_of s i 3) is ∙ said.1.1 in
-    let found = found_whole at s (length s) stage (read_is at (length s) 0 (omega (arith, m, long)) (omega (arith, m, l)))
-    (rw is (tag_turn e tag value stage h t))
-    (read_is at (length s) 2 (omega (arith, m, long)) (omega (arith, m, l))) (length value) (sym n)
-    (rw is said.1.0)
-    (read_is at (length s) (2 + length value) (omega (arith, m, long)) (omega (arith, m, l))) e (sym event) t in
-    sym found ∙ ap (GoesOn e) (sym m)
+    rw (
+      next_steps at s (length s) stage,
+      event,
+      n,
+      is,
+      read_is at (length s) 0 (omega (arith, m, long)) (omega (arith, m, l)),
+      tag_turn e tag value stage h t,
+      read_is at (length s) 2 (omega (arith, m, long)) (omega (arith, m, l)),
+      said.1.0,
+      read_is at (length s) (2 + length value) (omega (arith, m, long)) (omega (arith, m, l)),
+      t,
+    ) (ap (GoesOn e) (sym m))
 
 -- ---- a log that was written is read back, and ends whole
 

@@ -1,9 +1,9 @@
 -- What the format says of a byte by the tag that it is. Assumes nothing.
 use mathlib.Core.Path.{◌≡◌}
-use mathlib.Core.Bool.{false, not, ◌&&◌, ◌||◌}
+use mathlib.Core.Bool.{true, false, not, ◌&&◌, ◌||◌}
 use mathlib.Core.Logic.{◌⊎◌, inl, inr}
 use mathlib.Core.List.{List}
-use Prim.Native.Nat.{ℕ, ◌≤◌, ◌<◌}
+use Prim.Native.Nat.{ℕ, ◌+◌, ◌≤◌, ◌<◌}
 use native.Mathlib.Omega.{arith}
 use borrow.Author.Tests.{le-leb, lt-leb, ne_eqb}
 use lib.Dec.{leb, eqb}
@@ -12,9 +12,11 @@ use Rattle.base.proofs.Numbers.{split}
 use Rattle.log_bytes.specs.declared.Stage.{Stage}
 use Rattle.log_bytes.specs.declared.Tag.{Tag}
 use Rattle.log_bytes.specs.declared.Tag.TheVariants.{Open, Close, Rename, Record, Serve, Largest, Passed}
-use Rattle.log_bytes.specs.Format.{last_tag, length_of, right_length, event_of, past_l, right_tag}
+use Rattle.log_bytes.specs.declared.End.TheVariants.{Broken as broken}
+use Rattle.log_bytes.specs.declared.Next.TheVariants.{Ends}
+use Rattle.log_bytes.specs.Format.{tag_in, length_in, in_turn, is_read, next_in, last_tag, length_of, right_length, event_of, past_l, right_tag}
 use Rattle.log_bytes.specs.Tags.{byte_of, IsTag}
-use Rattle.log_bytes.proofs.Fields.{passed_length}
+use Rattle.log_bytes.proofs.Fields.{passed_length, steps, next_steps}
 
 -- all that the format asks of a field by its tag is the same of two bytes
 pub record SameField (a b : ℕ) : Type 0 where
@@ -62,6 +64,23 @@ no_tag byte stage none = go (split 1 byte) (split 128 byte)
         let past : last_tag < byte = omega (arith, none Open, none Close, none Rename, none Record, none Serve, none Largest) in
         rw (lt-leb 128 byte m, le-leb 1 byte l, lt-leb byte last_tag past)
 
--- nor is it passed over
+-- ---- what is known of a field, by the tests in the order in which its bytes come
+
+-- whose first byte is no tag
+pub known_no_tag : (at : ℕ) (bytes : List ℕ) (came : ℕ) (stage : Stage) → is_read at came 0 ≡ true → ((tag : Tag) → IsTag tag (tag_in bytes) → ⊥)
+    → next_in at bytes came stage ≡ Ends (broken at)
+known_no_tag at bytes came stage a none = rw (next_steps at bytes came stage, a, no_tag (tag_in bytes) stage none)
+
+-- whose first byte is a tag
+pub known_tag : (at : ℕ) (bytes : List ℕ) (came : ℕ) (stage : Stage) (tag : Tag) → IsTag tag (tag_in bytes) → next_in at bytes came stage
+    ≡ steps at came (event_of bytes (byte_of tag) 3) (length_in bytes) (is_read at came 0) (right_tag (byte_of tag) stage) (is_read at came 2)
+    (right_length (byte_of tag) (length_in bytes)) (is_read at came (2 + length_in bytes)) (in_turn (event_of bytes (byte_of tag) 3) stage)
+known_tag at bytes came stage tag is =
+    let s = same_field tag (tag_in bytes) is in
+    rw (next_steps at bytes came stage, s.stands stage, s.has (length_in bytes), s.says bytes 3)
+
+-- ---- what is passed over
+
+-- a byte that is no tag is not passed over
 pub not_passed : (byte : ℕ) → ((tag : Tag) → IsTag tag byte → ⊥) → byte < 128
 not_passed byte none = let passed : 128 ≤ byte → ⊥ = none Passed in omega arith

@@ -14,7 +14,7 @@ use Rattle.log_bytes.specs.declared.Next.{Next}
 use Rattle.log_bytes.specs.declared.Next.TheVariants.{GoesOn, Ends, Unfinished}
 use Rattle.log_bytes.specs.Format.{tag_in, length_in, right_length, event_in, right_tag, in_turn, is_read, is_broken, is_whole, is_past, next_in}
 use Rattle.log_bytes.specs.Laws.{BrokenAt, LongOnly}
-use Rattle.log_bytes.proofs.Fields.{differ, read_is, read_only, unread_is, found_none}
+use Rattle.log_bytes.proofs.Fields.{differ, read_is, read_only, unread_is, next_steps}
 
 -- ---- the tests by which a field is judged
 
@@ -73,7 +73,7 @@ whole_is at bytes came stage e n h = go (is_broken at bytes came stage) (is_read
   where
     go : (a b c : Bool) → is_broken at bytes came stage ≡ a → is_read at came (2 + length_in bytes) ≡ b → judged at bytes came a b c ≡ GoesOn e n
         → WholeIs at bytes came stage e n
-    go true b c p q h = absurd (let z : ◌≡◌ {A = ℕ} 0 1 = cc in omega arith)
+    go true b c p q h = cc
     go false true c p q h =
         let s = sound at bytes came stage p in
         let r = read_only at came (2 + length_in bytes) q in
@@ -88,8 +88,8 @@ whole_is at bytes came stage e n h = go (is_broken at bytes came stage) (is_read
           has = omega (arith, k, r.0);
           low = omega (arith, k, r.1);
         }
-    go false false true p q h = absurd (let z : ◌≡◌ {A = ℕ} 0 1 = cc in omega arith)
-    go false false false p q h = absurd (let z : ◌≡◌ {A = ℕ} 0 1 = cc in omega arith)
+    go false false true p q h = cc
+    go false false false p q h = cc
 
 -- ---- a field that ends the log
 
@@ -99,19 +99,19 @@ broken_at at bytes came stage n h = go (is_broken at bytes came stage) (is_whole
   where
     go : (a b c : Bool) → judged at bytes came a b c ≡ Ends (broken n) → n ≡ at
     go true b c h = cc
-    go false true c h = absurd (let z : ◌≡◌ {A = ℕ} 0 1 = cc in omega arith)
-    go false false true h = absurd (let z : ◌≡◌ {A = ℕ} 0 1 = cc in omega arith)
-    go false false false h = absurd (let z : ◌≡◌ {A = ℕ} 0 1 = cc in omega arith)
+    go false true c h = cc
+    go false false true h = cc
+    go false false false h = cc
 
 pub long_only : LongOnly
 unfolding next_in is_past
 long_only at bytes came stage h = go (is_broken at bytes came stage) (is_whole at bytes came) (is_past at came) refl h
   where
     go : (a b c : Bool) → is_past at came ≡ c → judged at bytes came a b c ≡ Ends long → 2 ^ 48 - at < came
-    go true b c p h = absurd (let z : ◌≡◌ {A = ℕ} 0 1 = cc in omega arith)
-    go false true c p h = absurd (let z : ◌≡◌ {A = ℕ} 0 1 = cc in omega arith)
+    go true b c p h = cc
+    go false true c p h = cc
     go false false true p h = ltb-true (2 ^ 48 - at) came p
-    go false false false p h = absurd (let z : ◌≡◌ {A = ℕ} 0 1 = cc in omega arith)
+    go false false false p h = cc
 
 -- no field ends a log whole
 pub never_whole : (at : ℕ) (bytes : List ℕ) (came : ℕ) (stage : Stage) → next_in at bytes came stage ≡ Ends whole → ⊥
@@ -119,10 +119,10 @@ unfolding next_in
 never_whole at bytes came stage h = go (is_broken at bytes came stage) (is_whole at bytes came) (is_past at came) h
   where
     go : (a b c : Bool) → judged at bytes came a b c ≡ Ends whole → ⊥
-    go true b c h = absurd (let z : ◌≡◌ {A = ℕ} 0 1 = cc in omega arith)
-    go false true c h = absurd (let z : ◌≡◌ {A = ℕ} 0 1 = cc in omega arith)
-    go false false true h = absurd (let z : ◌≡◌ {A = ℕ} 0 1 = cc in omega arith)
-    go false false false h = absurd (let z : ◌≡◌ {A = ℕ} 0 1 = cc in omega arith)
+    go true b c h = cc
+    go false true c h = cc
+    go false false true h = cc
+    go false false false h = cc
 
 -- ---- a field that is not finished
 
@@ -147,9 +147,9 @@ part_is at bytes came stage n h = go (is_broken at bytes came stage) (is_read at
   where
     go : (a b c : Bool) → is_broken at bytes came stage ≡ a → is_read at came (2 + length_in bytes) ≡ b → is_past at came ≡ c
         → judged at bytes came a b c ≡ Unfinished n → PartIs at bytes came stage n
-    go true b c p q r h = absurd (let z : ◌≡◌ {A = ℕ} 0 1 = cc in omega arith)
-    go false true c p q r h = absurd (let z : ◌≡◌ {A = ℕ} 0 1 = cc in omega arith)
-    go false false true p q r h = absurd (let z : ◌≡◌ {A = ℕ} 0 1 = cc in omega arith)
+    go true b c p q r h = cc
+    go false true c p q r h = cc
+    go false false true p q r h = cc
     go false false false p q r h =
         let l = ltb-false (2 ^ 48 - at) came r in
         record { same = cc; sane = p; cut = q; low = l; has = not_come at came (2 + length_in bytes) q l }
@@ -159,4 +159,4 @@ pub none_come : (at : ℕ) (bytes : List ℕ) (stage : Stage) → next_in at byt
 unfolding is_past
 none_come at bytes stage =
     let none = unread_is at 0 0 (inl (omega arith)) in
-    sym (found_none at bytes 0 stage none) ∙ rw (le-ltb (2 ^ 48 - at) 0 (omega arith))
+    rw (next_steps at bytes 0 stage, none, le-ltb (2 ^ 48 - at) 0 (omega arith))

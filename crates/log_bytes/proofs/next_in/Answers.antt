@@ -1,15 +1,16 @@
--- `log_bytes::next_in` meets its contract. Each return is the law of a field for the tests that led there. Assumes nothing.
+-- `log_bytes::next_in` meets its contract. Each return is what the tests that led there leave of what is known of a field.
+-- Assumes nothing.
 use mathlib.Core.Path.{sym, ◌∙◌}
 use mathlib.Core.Logic.{⊎_elim}
 use native.Mathlib.Omega.{arith}
-use Rattle.log_bytes.proofs.Fields.{read_only, right_room, event_fits, found_none, found_tag, found_part, found_length, found_cut}
-use Rattle.log_bytes.proofs.Fields.{found_turn, found_whole}
-use Rattle.log_bytes.proofs.Tags.{same_field, no_tag}
+use Rattle.std.proofs.lemmas.Grind.{common_steps}
+use Rattle.log_bytes.proofs.Fields.{read_only, right_room, event_fits, next_steps}
+use Rattle.log_bytes.proofs.Tags.{known_tag, known_no_tag}
 use Rattle.log_bytes.proofs.next_in.Goals as goal
 
 pub returns-then-not-is_read : goal.returns-then-not-is_read
 returns-then-not-is_read c =
-    c.not_known.ensures ∙ found_none _ _ _ _ (sym c.if-not-is_read.ensures)
+    c.not_known.ensures ∙ rw (next_steps c.args.at c.args.bytes.now c.args.came c.args.stage, ← c.if-not-is_read.ensures)
 
 pub bounds-bytes-0 : goal.bounds-bytes-0
 bounds-bytes-0 c =
@@ -18,19 +19,15 @@ bounds-bytes-0 c =
 
 pub returns-in_default : goal.returns-in_default
 returns-in_default c =
-    found_tag _ _ _ _ (sym c.if-not-is_read.ensures) (no_tag _ _ c.in_default.ensures)
+    sym (known_no_tag _ _ _ _ (sym c.if-not-is_read.ensures) c.in_default.ensures)
 
 pub returns-then-not-may_stand : goal.returns-then-not-may_stand
 returns-then-not-may_stand c =
-    let s = same_field _ _ c.in-Some.ensures in
-    found_tag _ _ _ _ (sym c.if-not-is_read.ensures) (s.stands _ ∙ sym c.if-not-may_stand.ensures)
+    rw (known_tag _ _ _ _ _ c.in-Some.ensures, ← c.if-not-is_read.ensures, ← c.if-not-may_stand.ensures)
 
 pub returns-then-not-is_read-2 : goal.returns-then-not-is_read-2
 returns-then-not-is_read-2 c =
-    let a = sym c.if-not-is_read.ensures in
-    let s = same_field _ _ c.in-Some.ensures in
-    let t = s.stands _ ∙ sym c.if-not-may_stand.ensures in
-    c.not_known-then-not-is_read-2.ensures ∙ found_part _ _ _ _ a t (sym c.if-not-is_read-2.ensures)
+    let e = known_tag c.args.at c.args.bytes.now c.args.came c.args.stage c.in-Some.tag c.in-Some.ensures in grind (arith, common_steps)
 
 pub length_in-n-requires : goal.length_in-n-requires
 length_in-n-requires c =
@@ -39,21 +36,11 @@ length_in-n-requires c =
 
 pub returns-then-not-may_have : goal.returns-then-not-may_have
 returns-then-not-may_have c =
-    let a = sym c.if-not-is_read.ensures in
-    let s = same_field _ _ c.in-Some.ensures in
-    let t = s.stands _ ∙ sym c.if-not-may_stand.ensures in
-    let b = sym c.if-not-is_read-2.ensures in
-    found_length _ _ _ _ a t b _ c.length_in-n.ensures.0 (s.has _ ∙ sym c.if-not-may_have.ensures)
+    rw (known_tag _ _ _ _ _ c.in-Some.ensures, ← c.if-not-is_read.ensures, ← c.if-not-may_stand.ensures, ← c.if-not-is_read-2.ensures, ← c.length_in-n.ensures.0, ← c.if-not-may_have.ensures)
 
 pub returns-then-not-is_read-3 : goal.returns-then-not-is_read-3
 returns-then-not-is_read-3 c =
-    let a = sym c.if-not-is_read.ensures in
-    let s = same_field _ _ c.in-Some.ensures in
-    let t = s.stands _ ∙ sym c.if-not-may_stand.ensures in
-    let b = sym c.if-not-is_read-2.ensures in
-    let r = s.has _ ∙ sym c.if-not-may_have.ensures in
-    c.not_known-then-not-is_read-3.ensures
-    ∙ found_cut _ _ _ _ a t b _ c.length_in-n.ensures.0 r (sym c.if-not-is_read-3.ensures)
+    let e = known_tag c.args.at c.args.bytes.now c.args.came c.args.stage c.in-Some.tag c.in-Some.ensures in grind (arith, common_steps)
 
 pub event-event-requires : goal.event-event-requires
 event-event-requires c =
@@ -63,22 +50,8 @@ event-event-requires c =
 
 pub returns-then-not-in_turn : goal.returns-then-not-in_turn
 returns-then-not-in_turn c =
-    let a = sym c.if-not-is_read.ensures in
-    let s = same_field _ _ c.in-Some.ensures in
-    let t = s.stands _ ∙ sym c.if-not-may_stand.ensures in
-    let b = sym c.if-not-is_read-2.ensures in
-    let r = s.has _ ∙ sym c.if-not-may_have.ensures in
-    let last = sym c.if-not-is_read-3.ensures in
-    found_turn _ _ _ _ a t b _ c.length_in-n.ensures.0 r last _ (c.event-event.ensures ∙ sym (s.says _ _))
-    (sym c.if-not-in_turn.ensures)
+    let e = known_tag c.args.at c.args.bytes.now c.args.came c.args.stage c.in-Some.tag c.in-Some.ensures in grind (arith, common_steps)
 
 pub returns : goal.returns
 returns c =
-    let a = sym c.if-not-is_read.ensures in
-    let s = same_field _ _ c.in-Some.ensures in
-    let t = s.stands _ ∙ sym c.if-not-may_stand.ensures in
-    let b = sym c.if-not-is_read-2.ensures in
-    let r = s.has _ ∙ sym c.if-not-may_have.ensures in
-    let last = sym c.if-not-is_read-3.ensures in
-    found_whole _ _ _ _ a t b _ c.length_in-n.ensures.0 r last _ (c.event-event.ensures ∙ sym (s.says _ _))
-    (sym c.if-not-in_turn.ensures)
+    let e = known_tag c.args.at c.args.bytes.now c.args.came c.args.stage c.in-Some.tag c.in-Some.ensures in grind (arith, common_steps)
