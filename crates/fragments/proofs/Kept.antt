@@ -1,12 +1,13 @@
 -- Laws of what is kept of a field: its bytes one by one, and how many they are. Assumes nothing.
 use mathlib.Core.Path.{◌≡◌, refl, sym, ap, ◌∙◌}
-use mathlib.Core.Bool.{true, cond}
+use mathlib.Core.Bool.{true}
 use mathlib.Core.Logic.{◌⊎◌, inl, inr}
 use mathlib.Core.List.{List, ◌++◌}
 use Prim.Native.Nat.{ℕ, ◌+◌, ◌-◌, ◌^◌, ◌≤◌, ◌<◌}
 use native.Mathlib.Omega.{arith}
-use borrow.Author.Tests.{lt-ltb, le-ltb, le-leb, leb-true}
-use lib.Dec.{ltb, leb}
+use borrow.Author.Tests.{le-leb, leb-true}
+use lib.Dec.{leb}
+use Rattle.std.proofs.lemmas.Bool.Decides.{nat_tests}
 use lib.ListN.{length, drop, get_or, replicate, length-append, length-replicate}
 use lib.Seq.{length-take-le, get_or-take, take-append_seam, drop-append_seam, drop-append-le, drop-append-add, get_or-append-add}
 use Rattle.base.proofs.Numbers.{split}
@@ -14,7 +15,7 @@ use Rattle.base.proofs.Tests.{and_left, and_right, and_both}
 use Rattle.log_bytes.specs.declared.Stage.{Stage}
 use Rattle.log_bytes.specs.declared.Next.{Next}
 use Rattle.log_bytes.specs.declared.Next.TheVariants.{GoesOn, Ends, Unfinished}
-use Rattle.log_bytes.specs.Format.{tag_in, length_in, length_of, next_in}
+use Rattle.log_bytes.specs.Format.{tag_in, length_in, next_in}
 use Rattle.log_bytes.specs.Laws.{LooksAt}
 use Rattle.log_bytes.proofs.Fields.{differ, read_is, length_most, right_room}
 use Rattle.log_bytes.proofs.Wholes.{part_is, sound}
@@ -59,33 +60,16 @@ rest_joined kept came part later now l fits =
 
 pub kept_of_most : (tag came : ℕ) → kept_of tag came ≤ came
 unfolding kept_of
-kept_of_most tag came = go (split 128 tag) (split 3 came)
-  where
-    go : (128 ≤ tag) ⊎ (tag < 128) → (3 ≤ came) ⊎ (came < 3) → cond (ltb tag 128) came (cond (ltb came 3) came 3) ≤ came
-    go (inr l) s = rw (lt-ltb tag 128 l) (omega arith)
-    go (inl l) (inr s) = rw (le-ltb tag 128 l, lt-ltb came 3 s) (omega arith)
-    go (inl l) (inl s) = rw (le-ltb tag 128 l, le-ltb came 3 s) (omega (arith, s))
+kept_of_most tag came = grind (arith, nat_tests)
 
 pub kept_of_small : (tag came : ℕ) → (tag < 128 → came ≤ 13) → (kept_of tag came ≤ 13) × (kept_of tag came ≤ came)
 unfolding kept_of
-kept_of_small tag came h = go (split 128 tag) (split 3 came)
-  where
-    go : (128 ≤ tag) ⊎ (tag < 128) → (3 ≤ came) ⊎ (came < 3)
-        → (cond (ltb tag 128) came (cond (ltb came 3) came 3) ≤ 13) × (cond (ltb tag 128) came (cond (ltb came 3) came 3) ≤ came)
-    go (inr l) s = rw (lt-ltb tag 128 l) (h l, omega arith)
-    go (inl l) (inr s) = rw (le-ltb tag 128 l, lt-ltb came 3 s) (omega (arith, s), omega arith)
-    go (inl l) (inl s) = rw (le-ltb tag 128 l, le-ltb came 3 s) (omega arith, omega (arith, s))
+kept_of_small tag came h = (grind (arith, nat_tests), grind (arith, nat_tests))
 
 -- all that is looked at is kept
 pub kept_of_in : (tag came i : ℕ) → i < came → (i < 3) ⊎ (tag < 128) → i < kept_of tag came
 unfolding kept_of
-kept_of_in tag came i l h = go (split 128 tag) (split 3 came) h
-  where
-    go : (128 ≤ tag) ⊎ (tag < 128) → (3 ≤ came) ⊎ (came < 3) → (i < 3) ⊎ (tag < 128) → i < cond (ltb tag 128) came (cond (ltb came 3) came 3)
-    go (inr m) s k = rw (lt-ltb tag 128 m) l
-    go (inl m) (inr s) k = rw (le-ltb tag 128 m, lt-ltb came 3 s) l
-    go (inl m) (inl s) (inl k) = rw (le-ltb tag 128 m, le-ltb came 3 s) k
-    go (inl m) (inl s) (inr k) = absurd (omega (arith, m, k))
+kept_of_in tag came i l h = grind (arith, nat_tests)
 
 -- ---- a field that is not finished
 
@@ -99,38 +83,31 @@ part_small at bytes came stage h t = go (split 3 came)
     go (inl l) =
         let p = part_is at bytes came stage came h in
         let right = (sound at bytes came stage p.sane).sized (read_is at came 2 (omega (arith, l)) (omega (arith, l, p.low))) in
-        inr (short (right_room (tag_in bytes) (length_in bytes) right).1)
-      where
-        short : (128 ≤ tag_in bytes) ⊎ (length_in bytes ≡ length_of (tag_in bytes)) → length_in bytes ≤ 10
-        short (inl m) = absurd (omega (arith, m, t))
-        short (inr q) = omega (arith, q, length_most (tag_in bytes))
+        let room = right_room (tag_in bytes) (length_in bytes) right in
+        let most = length_most (tag_in bytes) in
+        inr (grind arith)
 
 pub part_most : (at : ℕ) (bytes : List ℕ) (came : ℕ) (stage : Stage) → next_in at bytes came stage ≡ Unfinished came → tag_in bytes < 128 → came ≤ 13
-part_most at bytes came stage h t = go (part_small at bytes came stage h t)
-  where
-    go : (came < 3) ⊎ (length_in bytes ≤ 10) → came ≤ 13
-    go (inl l) = omega (arith, l)
-    go (inr l) = omega (arith, l, (part_is at bytes came stage came h).has)
+part_most at bytes came stage h t =
+    let small = part_small at bytes came stage h t in
+    let p = part_is at bytes came stage came h in
+    grind arith
 
 -- it wants at least one
 pub wants_some : (at : ℕ) (kept : List ℕ) (came : ℕ) (stage : Stage) → next_in at kept came stage ≡ Unfinished came → 0 < wanted_of kept came
 unfolding wanted_of
-wants_some at kept came stage h = go (split 3 came)
-  where
-    go : (3 ≤ came) ⊎ (came < 3) → 0 < cond (ltb came 3) (3 - came) (3 + length_in kept - came)
-    go (inl l) = rw (le-ltb came 3 l) (omega (arith, (part_is at kept came stage came h).has))
-    go (inr l) = rw (lt-ltb came 3 l) (omega (arith, l))
+wants_some at kept came stage h =
+    let p = part_is at kept came stage came h in
+    grind (arith, nat_tests)
 
 -- and with what it wants no more than thirteen are kept
 pub wants_few : (at : ℕ) (kept : List ℕ) (came : ℕ) (stage : Stage) → next_in at kept came stage ≡ Unfinished came → tag_in kept < 128
     → came + wanted_of kept came ≤ 13
 unfolding wanted_of
-wants_few at kept came stage h t = go (split 3 came) (part_small at kept came stage h t)
-  where
-    go : (3 ≤ came) ⊎ (came < 3) → (came < 3) ⊎ (length_in kept ≤ 10) → came + cond (ltb came 3) (3 - came) (3 + length_in kept - came) ≤ 13
-    go (inl l) (inl m) = absurd (omega (arith, l, m))
-    go (inl l) (inr m) = rw (le-ltb came 3 l) (omega (arith, m, (part_is at kept came stage came h).has))
-    go (inr l) s = rw (lt-ltb came 3 l) (omega (arith, l))
+wants_few at kept came stage h t =
+    let p = part_is at kept came stage came h in
+    let small = part_small at kept came stage h t in
+    grind (arith, nat_tests)
 
 -- ---- what can be kept
 

@@ -1,13 +1,13 @@
 -- Laws of one field as its bytes come: what is known of it by each test, that it stays known, and what it rests on.
 -- Assumes nothing.
-use mathlib.Core.Path.{◌≡◌, refl, sym, ap, ap₂, ◌∙◌}
+use mathlib.Core.Path.{◌≡◌, refl, ap, ap₂, ◌∙◌}
 use mathlib.Core.Bool.{Bool, true, false, cond, not, ◌&&◌, ◌||◌}
 use mathlib.Core.Logic.{◌⊎◌, inl, inr}
 use mathlib.Core.List.{List}
 use Prim.Native.Nat.{ℕ, zero, suc, ◌+◌, ◌-◌, ◌*◌, ◌^◌, ◌≤◌, ◌<◌}
 use native.Mathlib.Omega.{arith}
 use borrow.Author.Tests.{eqb-true, ne_eqb, leb-true, lt-ltb, le-ltb, ltb-true, ltb-false}
-use lib.Dec.{ltb, leb, eqb, lit≤}
+use lib.Dec.{ltb, eqb, lit≤}
 use Rattle.std.proofs.lemmas.Grind.{common_steps}
 use lib.ListN.{get_or}
 use Rattle.base.proofs.Numbers.{split}
@@ -18,7 +18,7 @@ use Rattle.log_bytes.specs.declared.Event.TheVariants.{Largest, Open, Close, Ren
 use Rattle.log_bytes.specs.declared.End.TheVariants.{Broken as broken, Long as long}
 use Rattle.log_bytes.specs.declared.Next.{Next}
 use Rattle.log_bytes.specs.declared.Next.TheVariants.{GoesOn, Ends, Unfinished}
-use Rattle.log_bytes.specs.Format.{number_at, tag_in, length_in, length_of, last_tag, right_length, event_of, event_in, right_tag, in_turn}
+use Rattle.log_bytes.specs.Format.{number_at, tag_in, length_in, length_of, right_length, event_of, event_in, right_tag, in_turn}
 use Rattle.log_bytes.specs.Format.{is_read, is_broken, is_whole, is_past, next_in}
 use Rattle.log_bytes.specs.Laws.{TagSeen, LengthSeen, CutUnknown, StaysKnown, KnownByLooks}
 
@@ -36,26 +36,20 @@ unfolding is_read
 read_only at came i h = (ltb-true i came (and_left _ _ h), ltb-true i (2 ^ 48 - at) (and_right (ltb i came) _ h))
 
 pub unread_is : (at came i : ℕ) → (came ≤ i) ⊎ (2 ^ 48 - at ≤ i) → is_read at came i ≡ false
-unread_is at came i h = go (is_read at came i) refl h
-  where
-    go : (t : Bool) → is_read at came i ≡ t → (came ≤ i) ⊎ (2 ^ 48 - at ≤ i) → t ≡ false
-    go true e (inl l) = absurd (let r = read_only at came i e in omega (arith, r.0, l))
-    go true e (inr l) = absurd (let r = read_only at came i e in omega (arith, r.1, l))
-    go false e h = refl
+unread_is at came i h = let r = read_only at came i in grind arith
 
 -- if one is not read, no later one is
 pub unread_on : (at came i j : ℕ) → i ≤ j → is_read at came i ≡ false → is_read at came j ≡ false
-unread_on at came i j l h = go (is_read at came j) refl
-  where
-    go : (t : Bool) → is_read at came j ≡ t → t ≡ false
-    go true e = let r = read_only at came j e in differ (sym (read_is at came i (omega (arith, r.0)) (omega (arith, r.1))) ∙ h)
-    go false e = refl
+unread_on at came i j l h =
+    let r = read_only at came j in
+    let q = read_is at came i in
+    grind arith
 
 -- what more bytes change: nothing that was read, and nothing where the log is long
 pub read_more : (at came more i : ℕ) → came ≤ more → is_read at came i ≡ true → is_read at more i ≡ true
 read_more at came more i l h = let r = read_only at came i h in read_is at more i (omega (arith, r.0)) r.1
 
-past_only : (at came : ℕ) → is_past at came ≡ true → 2 ^ 48 - at < came
+pub past_only : (at came : ℕ) → is_past at came ≡ true → 2 ^ 48 - at < came
 unfolding is_past
 past_only at came h = ltb-true (2 ^ 48 - at) came h
 
@@ -63,7 +57,7 @@ past_is : (at came : ℕ) → 2 ^ 48 - at < came → is_past at came ≡ true
 unfolding is_past
 past_is at came h = lt-ltb (2 ^ 48 - at) came h
 
-not_past : (at came : ℕ) → is_past at came ≡ false → came ≤ 2 ^ 48 - at
+pub not_past : (at came : ℕ) → is_past at came ≡ false → came ≤ 2 ^ 48 - at
 unfolding is_past
 not_past at came h = ltb-false (2 ^ 48 - at) came h
 
@@ -72,13 +66,11 @@ unfolding is_past
 past_not at came h = le-ltb (2 ^ 48 - at) came h
 
 unread_past : (at came more i : ℕ) → is_past at came ≡ true → is_read at came i ≡ false → is_read at more i ≡ false
-unread_past at came more i p h = go (is_read at more i) refl
-  where
-    go : (t : Bool) → is_read at more i ≡ t → t ≡ false
-    go true e =
-        let r = read_only at more i e in
-        differ (sym (read_is at came i (omega (arith, r.1, past_only at came p)) r.1) ∙ h)
-    go false e = refl
+unread_past at came more i p h =
+    let r = read_only at more i in
+    let q = read_is at came i in
+    let l = past_only at came p in
+    grind arith
 
 -- ---- what is known, by the tests that lead to it
 
@@ -141,14 +133,11 @@ length_most tag = go (eqb tag 6) (eqb tag 1) (eqb tag 2) (eqb tag 3) (eqb tag 4)
 -- a value of the right length has room for what its tag says, and unless it is passed over no more
 pub right_room : (tag n : ℕ) → right_length tag n ≡ true → (length_of tag ≤ n) × ((128 ≤ tag) ⊎ (n ≡ length_of tag))
 unfolding right_length
-right_room tag n h = go (leb 128 tag) refl h
-  where
-    go : (t : Bool) → leb 128 tag ≡ t → t || ((leb 1 tag) && ((leb tag last_tag) && (eqb n (length_of tag)))) ≡ true
-        → (length_of tag ≤ n) × ((128 ≤ tag) ⊎ (n ≡ length_of tag))
-    go true e h = (omega (arith, passed_length tag (leb-true 128 tag e)), inl (leb-true 128 tag e))
-    go false e h =
-        let q = eqb-true n (length_of tag) (and_right (leb tag last_tag) _ (and_right (leb 1 tag) _ h)) in
-        (omega (arith, q), inr q)
+right_room tag n h =
+    let passed = leb-true 128 tag in
+    let none = passed_length tag in
+    let same = eqb-true n (length_of tag) in
+    (grind arith, grind arith)
 
 -- so what the tag says is there to be read
 pub event_fits : (tag n came room : ℕ) → (length_of tag ≤ n) × ((128 ≤ tag) ⊎ (n ≡ length_of tag)) → 2 + n < came → (came ≤ room) ⊎ (13 ≤ room)

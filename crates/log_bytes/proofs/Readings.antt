@@ -1,13 +1,11 @@
 -- Every byte sequence has exactly one reading, and what it is like. Assumes nothing.
 use mathlib.Core.Path.{◌≡◌, refl, sym, ap, subst, ◌∙◌}
-use mathlib.Core.Bool.{Bool, true, false, cond, ◌&&◌}
+use mathlib.Core.Bool.{true}
 use mathlib.Core.List.{List, [], ◌∷◌}
 use Prim.Native.Nat.{ℕ, zero, suc, ◌+◌, ◌-◌, ◌^◌, ◌≤◌, ◌<◌}
 use native.Mathlib.Omega.{arith}
-use borrow.Author.Tests.{eqb-true, ne_eqb}
-use lib.Dec.{eqb}
+use borrow.Author.Tests.{eqb-true}
 use lib.ListN.{length, drop, length-drop}
-use Rattle.base.proofs.Tests.{and_left, and_right}
 use Rattle.log_bytes.specs.declared.Stage.{Stage}
 use Rattle.log_bytes.specs.declared.Stage.TheVariants.{BeforeL}
 use Rattle.log_bytes.specs.declared.Event.{Event}
@@ -44,13 +42,7 @@ goes_less at bytes stage e size h =
 
 pub end_whole : (at came : ℕ) (stage : Stage) → end_in at came stage ≡ whole → (past_l stage ≡ true) × (came ≡ 0)
 unfolding end_in
-end_whole at came stage h =
-    let t = go (past_l stage && eqb came 0) h in
-    (and_left (past_l stage) _ t, eqb-true came 0 (and_right (past_l stage) _ t))
-  where
-    go : (t : Bool) → cond t whole (broken at) ≡ whole → t ≡ true
-    go true h = refl
-    go false h = cc
+end_whole at came stage h = (grind arith, grind (arith, eqb-true))
 
 pub end_here : (at : ℕ) (stage : Stage) → past_l stage ≡ true → end_in at 0 stage ≡ whole
 unfolding end_in
@@ -58,28 +50,16 @@ end_here at stage p = rw p
 
 pub end_cut : (at came : ℕ) (stage : Stage) → 0 < came → end_in at came stage ≡ broken at
 unfolding end_in
-end_cut at came stage l = rw (ne_eqb came 0 (λ e. omega (arith, l, e))) (go (past_l stage))
-  where
-    go : (t : Bool) → cond (t && false) whole (broken at) ≡ broken at
-    go true = refl
-    go false = refl
+end_cut at came stage l = grind (arith, eqb-true)
 
 -- it is broken at the offset of the cut field, and never long
 pub end_broken : (at came : ℕ) (stage : Stage) (n : ℕ) → end_in at came stage ≡ broken n → n ≡ at
 unfolding end_in
-end_broken at came stage n h = go (past_l stage && eqb came 0) h
-  where
-    go : (t : Bool) → cond t whole (broken at) ≡ broken n → n ≡ at
-    go true h = cc
-    go false h = cc
+end_broken at came stage n h = grind arith
 
 pub end_short : (at came : ℕ) (stage : Stage) → end_in at came stage ≡ long → ⊥
 unfolding end_in
-end_short at came stage h = go (past_l stage && eqb came 0) h
-  where
-    go : (t : Bool) → cond t whole (broken at) ≡ long → ⊥
-    go true h = cc
-    go false h = cc
+end_short at came stage h = grind arith
 
 -- ---- there is a reading
 

@@ -5,7 +5,7 @@ use mathlib.Core.List.{List, [], ◌∷◌, ◌++◌, append_assoc}
 use Prim.Native.Nat.{ℕ, zero, suc, ◌+◌, ◌*◌, ◌/◌, ◌%◌, ◌^◌, ◌≤◌, ◌<◌}
 use native.Mathlib.Nat.{pow-suc}
 use native.Mathlib.Omega.{arith}
-use borrow.Author.Tests.{eqb-true, ne_eqb, le-leb, leb-true}
+use borrow.Author.Tests.{eqb-true, leb-true}
 use lib.Dec.{leb, eqb, lit<, lit≤}
 use lib.ListN.{get_or, length, take, drop, length-append, length-take, length-drop, take-append-drop, drop_of_length-le}
 use lib.Seq.{get_or_at, take-add, drop-drop, drop-append_seam, take-suc, get_or-drop, length-take-le}
@@ -25,6 +25,7 @@ use Rattle.log_bytes.specs.Laws.{FieldBack, FieldOnly, LogBack, LogOnly}
 use Rattle.log_bytes.proofs.Numbers.{number_lt}
 use Rattle.log_bytes.proofs.Fields.{differ, read_is, next_steps}
 use Rattle.log_bytes.proofs.Stages.{tag_turn}
+use Rattle.log_bytes.proofs.Tags.{same_passed}
 use Rattle.log_bytes.proofs.Wholes.{none_come}
 use Rattle.log_bytes.proofs.Readings.{goes_is, end_here, ended_whole, has_reading, one_reading}
 
@@ -99,29 +100,15 @@ event_right Serve p = (refl, lit≤ tt)
 event_right Passed p = differ p
 
 is_passed_lem : (e : Event) → is_passed e ≡ true → e ≡ Passed
-is_passed_lem (Largest l) p = differ (sym p)
-is_passed_lem (Open o) p = differ (sym p)
-is_passed_lem (Close a) p = differ (sym p)
-is_passed_lem (Rename a b) p = differ (sym p)
-is_passed_lem (Arrive a b n) p = differ (sym p)
-is_passed_lem Serve p = differ (sym p)
-is_passed_lem Passed p = refl
+is_passed_lem e p = grind arith
 
 passed_event : (s : List ℕ) (tag at : ℕ) → 128 ≤ tag → event_of s tag at ≡ Passed
 unfolding event_of
-passed_event s tag at l =
-    rw (
-      ne_eqb tag 6 (λ e. omega arith),
-      ne_eqb tag 1 (λ e. omega arith),
-      ne_eqb tag 2 (λ e. omega arith),
-      ne_eqb tag 3 (λ e. omega arith),
-      ne_eqb tag 4 (λ e. omega arith),
-      ne_eqb tag 5 (λ e. omega arith),
-    )
+passed_event s tag at l = (same_passed tag l).says s at
 
 passed_right : (tag n : ℕ) → 128 ≤ tag → right_length tag n ≡ true
 unfolding right_length
-passed_right tag n l = rw (le-leb 128 tag l)
+passed_right tag n l = (same_passed tag l).has n
 
 pub field_length : (tag : ℕ) (value : List ℕ) → length (field_of tag value) ≡ 3 + length value
 unfolding field_of

@@ -28,7 +28,7 @@ pub record SameField (a b : ℕ) : Type 0 where
 same_is : (a b : ℕ) → a ≡ b → SameField a b
 same_is a b e = record { stands = λ stage. rw e; has = λ n. rw e; needs = rw e; says = λ bytes i. rw e }
 
-same_passed : (a : ℕ) → 128 ≤ a → SameField a 128
+pub same_passed : (a : ℕ) → 128 ≤ a → SameField a 128
 unfolding right_tag right_length length_of event_of
 same_passed a l =
     let passed = le-leb 128 a l in
