@@ -81,8 +81,7 @@ fn read_rest(part: &[u8], kept: &mut [u8], came: usize, at: u64, stage: Stage) -
 }
 
 // Reads on in a fragment, from where it is not taken on, behind so many bytes of a field that are kept. What is kept,
-// how many have come, the offset and the stage are no struct: the players' states, which hold them, would be taken apart
-// for it and put together again at each call.
+// how many have come, offset and stage make no struct: each call would build it of a player's state and take it apart.
 pub fn read_on(
     fragment: &[u8],
     taken: usize,

@@ -106,7 +106,7 @@ next_steps at bytes came stage =
 
 -- ---- the length
 
-pub passed_length : (tag : ℕ) → 128 ≤ tag → length_of tag ≡ 0
+passed_length : (tag : ℕ) → 128 ≤ tag → length_of tag ≡ 0
 unfolding length_of
 passed_length tag l =
     rw (

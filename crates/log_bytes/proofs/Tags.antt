@@ -14,29 +14,27 @@ use Rattle.log_bytes.specs.declared.Tag.{Tag}
 use Rattle.log_bytes.specs.declared.Tag.TheVariants.{Open, Close, Rename, Record, Serve, Largest, Passed}
 use Rattle.log_bytes.specs.declared.End.TheVariants.{Broken as broken}
 use Rattle.log_bytes.specs.declared.Next.TheVariants.{Ends}
-use Rattle.log_bytes.specs.Format.{tag_in, length_in, in_turn, is_read, next_in, last_tag, length_of, right_length, event_of, past_l, right_tag}
+use Rattle.log_bytes.specs.Format.{tag_in, length_in, in_turn, is_read, next_in, last_tag, right_length, event_of, past_l, right_tag}
 use Rattle.log_bytes.specs.Tags.{byte_of, IsTag}
-use Rattle.log_bytes.proofs.Fields.{passed_length, steps, next_steps}
+use Rattle.log_bytes.proofs.Fields.{steps, next_steps}
 
 -- all that the format asks of a field by its tag is the same of two bytes
 pub record SameField (a b : ℕ) : Type 0 where
   pub stands : (stage : Stage) → right_tag a stage ≡ right_tag b stage
   pub has : (n : ℕ) → right_length a n ≡ right_length b n
-  pub needs : length_of a ≡ length_of b
   pub says : (bytes : List ℕ) (i : ℕ) → event_of bytes a i ≡ event_of bytes b i
 
 same_is : (a b : ℕ) → a ≡ b → SameField a b
-same_is a b e = record { stands = λ stage. rw e; has = λ n. rw e; needs = rw e; says = λ bytes i. rw e }
+same_is a b e = record { stands = λ stage. rw e; has = λ n. rw e; says = λ bytes i. rw e }
 
 pub same_passed : (a : ℕ) → 128 ≤ a → SameField a 128
-unfolding right_tag right_length length_of event_of
+unfolding right_tag right_length event_of
 same_passed a l =
     let passed = le-leb 128 a l in
     let no : (k : ℕ) → k < 128 → eqb a k ≡ false = λ k m. ne_eqb a k (λ e. omega arith) in
     record {
       stands = λ stage. rw (passed, no 6 (omega arith));
       has = λ n. rw passed;
-      needs = passed_length a l;
       says = λ bytes i.
           rw (no 6 (omega arith), no 1 (omega arith), no 2 (omega arith), no 3 (omega arith), no 4 (omega arith), no 5 (omega arith));
     }

@@ -23,7 +23,7 @@ returns-in_default c =
 
 pub returns-then-not-may_stand : goal.returns-then-not-may_stand
 returns-then-not-may_stand c =
-    rw (known_tag _ _ _ _ _ c.in-Some.ensures, ← c.if-not-is_read.ensures, ← c.if-not-may_stand.ensures)
+    let e = known_tag c.args.at c.args.bytes.now c.args.came c.args.stage c.in-Some.tag c.in-Some.ensures in grind (arith, common_steps)
 
 pub returns-then-not-is_read-2 : goal.returns-then-not-is_read-2
 returns-then-not-is_read-2 c =
@@ -36,7 +36,7 @@ length_in-n-requires c =
 
 pub returns-then-not-may_have : goal.returns-then-not-may_have
 returns-then-not-may_have c =
-    rw (known_tag _ _ _ _ _ c.in-Some.ensures, ← c.if-not-is_read.ensures, ← c.if-not-may_stand.ensures, ← c.if-not-is_read-2.ensures, ← c.length_in-n.ensures.0, ← c.if-not-may_have.ensures)
+    let e = known_tag c.args.at c.args.bytes.now c.args.came c.args.stage c.in-Some.tag c.in-Some.ensures in grind (arith, common_steps)
 
 pub returns-then-not-is_read-3 : goal.returns-then-not-is_read-3
 returns-then-not-is_read-3 c =
