@@ -1,25 +1,23 @@
 -- What is written field by field is the listing, whatever comes later. Assumes nothing.
-use mathlib.Core.Path.{◌≡◌, refl, sym, ap, ap₂, ◌∙◌}
-use mathlib.Core.Bool.{Bool, true, false, cond, ◌||◌, true≢false}
+use mathlib.Core.Path.{◌≡◌, refl, sym, ap, ap₂, subst, ◌∙◌}
+use mathlib.Core.Bool.{Bool, true, false, cond, true≢false}
 use mathlib.Core.Logic.{◌⊎◌, inl, inr}
 use mathlib.Core.List.{List, [], ◌++◌, append_assoc, append-nil}
 use Prim.Native.Nat.{ℕ, ◌+◌, ◌-◌, ◌/◌, ◌^◌, ◌≤◌, ◌<◌}
 use native.Mathlib.Omega.{arith}
-use borrow.Author.Tests.{ltb-true, ltb-false, eqb-true, eq-eqb}
-use lib.Dec.{ltb, eqb}
 use lib.ListN.{length, take, drop, length-drop}
 use lib.Seq.{drop-drop}
-use Rattle.base.proofs.Numbers.{split}
 use Rattle.rules.specs.Board
+use Rattle.units.specs.declared.Bytes.{Bytes}
 use Rattle.rules.specs.Board.{Place}
 use Rattle.board.specs.declared.Board as struct
 use Rattle.board.specs.Reading.{encode, view}
 use Rattle.log_bytes.specs.declared.Stage.{Stage}
 use Rattle.log_bytes.specs.declared.Event.{Event}
 use Rattle.log_bytes.specs.declared.End.{End}
-use Rattle.log_bytes.specs.declared.Next.TheVariants.{Ends, Unfinished}
-use Rattle.log_bytes.specs.Format.{past_l, stage_after, next_in}
-use Rattle.log_bytes.specs.Rows.{Reading, next_of, read_from}
+use Rattle.log_bytes.specs.declared.Next.TheVariants.{Ends}
+use Rattle.log_bytes.specs.Format.{past_l, stage_after}
+use Rattle.log_bytes.specs.Rows.{Reading, next_of}
 use Rattle.log_bytes.proofs.Stages.{past_after}
 use Rattle.log_bytes.proofs.Wholes.{none_come}
 use Rattle.fragments.specs.Kept.{kept_bytes}
@@ -29,7 +27,7 @@ use Rattle.lines.specs.Text.{Written, Line}
 use Rattle.lines.proofs.Texts.{none, then, from_front, written_length}
 use Rattle.arrays.specs.Lists.{total_of}
 use Rattle.arrays.proofs.Totals.{total_map}
-use Rattle.listing_rules.specs.Listing.{Playing, unmade, waiting, lines_of, field_line, last_of, last_line, listing_from}
+use Rattle.listing_rules.specs.Listing.{Playing, unmade, waiting, lines_of, played, field_line, last_of, last_line, listing_from}
 use Rattle.listing_rules.proofs.Listing.{listing_whole, listing_ends}
 use Rattle.fields.specs.Fields.{Memory, memory, reads, KnownMemory, FieldPlayed}
 use Rattle.player.specs.declared.State.{State}
@@ -73,10 +71,71 @@ before_rest s ids lens e p later =
     ∙ ap (λ (t : Bool). listing_from (cond t (reads (memory s.board ids lens s.sent.0)) unmade) s.at (kept_bytes s.kept s.came ++ later)
     s.stage) p
 
--- a listing is that of what is read
-pub listing_read : (p : Playing) (at : ℕ) (a b : List ℕ) (stage : Stage) → read_from at a stage ≡ read_from at b stage
-    → listing_from p at a stage ≡ listing_from p at b stage
-listing_read p at a b stage e = ap (λ (r : Reading). lines_of p r.fields r.ends) e
+-- what is played: after L from the board in memory
+past_playing : (s : State) (ids lens : List ℕ) → past_l s.stage ≡ true → playing (held s ids lens) ≡ reads (memory s.board ids lens s.sent.0)
+past_playing s ids lens p = ap (λ (t : Bool). cond t (reads (memory s.board ids lens s.sent.0)) unmade) p
+
+-- ---- What is left behind a field
+
+module _ (s : State) (ids lens part : List ℕ) (k : CanGoOn s ids lens) where
+  -- this part of the log ends in it
+  module _ (now : ℕ) (after : List ℕ) (h : KeptOn s.at s.stage s.kept s.came part now after) where
+    abbrev pub partly : State
+    partly = record { stage = s.stage; over = s.over; at = s.at; came = now; kept = after; sent = s.sent; board = s.board }
+
+    pub partly_goes : CanGoOn partly ids lens
+    partly_goes = record {
+      going = k.going;
+      fit = h.fit;
+      low = k.low;
+      room = h.same ∙ k.room;
+      ids_all = k.ids_all;
+      lens_all = k.lens_all;
+      few = k.few;
+      good = k.good;
+    }
+
+    pub partly_rest : (later : List ℕ) → rest_of (held partly ids lens) (drop (now - s.came) part ++ later) ≡ rest_of (held s ids lens) (part ++ later)
+    partly_rest later =
+        going_rest (held partly ids lens) k.going (drop (now - s.came) part ++ later)
+        ∙ ap (λ (r : Reading). lines_of (playing (held s ids lens)) r.fields r.ends) (sym (h.is later))
+        ∙ sym (going_rest (held s ids lens) k.going (part ++ later))
+
+  -- it is whole, and what it says is done
+  module _ (e : Event) (size : ℕ) (g : GoesOnWith s.at s.stage s.kept s.came part e size) (after : List ℕ) (same : length after ≡ length s.kept)
+      (b : struct.Board) (ids' lens' : List ℕ) (sent : Bytes) (known : KnownMemory (memory b ids' lens' sent.0))
+      (few! : sent.0 / 65536 ≤ (s.at + size) / 3) (next : reads (memory b ids' lens' sent.0) ≡ played (playing (held s ids lens)) e)
+      (stage : Stage) (on : stage ≡ stage_after s.stage e) where
+    abbrev pub beyond : State
+    beyond = record { stage = stage; over = s.over; at = s.at + size; came = 0; kept = after; sent = sent; board = b }
+
+    pub beyond_past : past_l stage ≡ true
+    beyond_past = ap past_l on ∙ past_after e s.stage g.turn
+
+    pub beyond_goes : CanGoOn beyond ids' lens'
+    beyond_goes = record {
+      going = k.going;
+      fit = none_come (s.at + size) after stage;
+      low = g.low;
+      room = same ∙ k.room;
+      ids_all = known.ids_all;
+      lens_all = known.lens_all;
+      few = λ p. few!;
+      good = λ p. known;
+    }
+
+    pub beyond_rest : (later : List ℕ)
+        → field_line (playing (held s ids lens)) e ++ rest_of (held beyond ids' lens') (drop (size - s.came) part ++ later)
+        ≡ rest_of (held s ids lens) (part ++ later)
+    beyond_rest later =
+        let line = field_line (playing (held s ids lens)) e in
+        let whole = joined s.kept s.came part later in
+        ap (λ (t : List ℕ). line ++ t)
+        (past_rest beyond ids' lens' k.going beyond_past (drop (size - s.came) part ++ later)
+        ∙ ap (λ (t : List ℕ). listing_from (reads (memory b ids' lens' sent.0)) (s.at + size) t stage)
+        (kept_none after (drop (size - s.came) part ++ later) ∙ sym (rest_joined s.kept s.came part later size (omega (arith, g.begins)) g.ends))
+        ∙ ap₂ (λ (q : Playing) (t : Stage). listing_from q (s.at + size) (drop size whole) t) next on)
+        ∙ sym (listing_whole (playing (held s ids lens)) s.at whole s.stage e size (g.is later)) ∙ sym (going_rest (held s ids lens) k.going (part ++ later))
 
 -- ---- What a call that ends the listing does
 
@@ -116,197 +175,150 @@ module _ (s : Memory) (k : KnownMemory s) where
   unfolding encode
   counts_is = ap (λ (c : struct.Board). total_of c.counts) (sym k.sound.spells) ∙ total_map (λ (x : Place). length x.lane) m.places
 
-  pub last_line_lem : (e : End) (clock count : ℕ) → clock ≡ s.board.clock → count ≡ total_of s.board.counts
-      → last_of clock s.sent count e ≡ last_line (reads s) e
-  last_line_lem e clock count c n = ap₂ (λ (x y : ℕ). last_of x s.sent y e) (c ∙ clock_is) (n ∙ counts_is)
+  pub last_line_lem : (e : End) (count : ℕ) → count ≡ total_of s.board.counts → last_of s.board.clock s.sent count e ≡ last_line (reads s) e
+  last_line_lem e count n = ap₂ (λ (x y : ℕ). last_of x s.sent y e) clock_is (n ∙ counts_is)
 
--- ---- Under way: what is written so far, and the listing of what follows, is what was left at the beginning
+-- ---- Under way: what is written so far, and what is left from here on, is what was left at the beginning
 
-pub record UnderWay (whole : List ℕ → List ℕ) (from : ℕ) (fragment out₀ : List ℕ) (s : Memory) (stage : Stage) (at came : ℕ) (kept : List ℕ) (taken used : ℕ)
-    (out : List ℕ) : Type 0 where
-  pub good : KnownMemory s
-  pub past : past_l stage ≡ true
+pub record UnderWay (from : Held) (fragment out₀ : List ℕ) (s : State) (ids lens : List ℕ) (taken used : ℕ) (out : List ℕ) : Type 0 where
+  pub can : CanGoOn s ids lens
+  pub past : past_l s.stage ≡ true
   pub text : List ℕ
   pub written : Written out₀ 0 text used out
-  pub told : (later : List ℕ) → text ++ listing_from (reads s) at (joined kept came (drop taken fragment) later) stage ≡ whole later
+  pub told : (later : List ℕ) → text ++ rest_of (held s ids lens) (drop taken fragment ++ later) ≡ rest_of from (fragment ++ later)
   pub fits : used ≤ length out₀
   pub same : length out ≡ length out₀
-  pub few : s.sent / 65536 ≤ at / 3
-  pub low : at ≤ 2 ^ 48
-  pub room : length kept ≡ 13
-  pub fit : next_in at kept came stage ≡ Unfinished came
   pub within : taken ≤ length fragment
   pub moved : (0 < taken) ⊎ ((taken ≡ 0) × (used ≡ 0))
-  pub passed : at + came ≡ from + taken
+  pub passed : offset_of s ≡ offset_of from.state + taken
 
 pub under_first : (s : State) (ids lens fragment out : List ℕ) → CanGoOn s ids lens → past_l s.stage ≡ true
-    → UnderWay (λ later. rest_of (held s ids lens) (fragment ++ later)) (offset_of s) fragment out (memory s.board ids lens s.sent.0) s.stage s.at
-    s.came
-    s.kept 0 0 out
+    → UnderWay (held s ids lens) fragment out s ids lens 0 0 out
 under_first s ids lens fragment out k p = record {
-  good = k.good p;
+  can = k;
   past = p;
   text = [];
   written = none out 0;
-  told = λ later. sym (past_rest s ids lens k.going p (fragment ++ later));
+  told = λ later. refl;
   fits = omega arith;
   same = refl;
-  few = k.few p;
-  low = k.low;
-  room = k.room;
-  fit = k.fit;
   within = omega arith;
   moved = inr (refl, refl);
   passed = omega arith;
 }
 
-module _ (whole : List ℕ → List ℕ) (from : ℕ) (fragment out₀ : List ℕ) (s : Memory) (stage : Stage) (at came : ℕ) (kept : List ℕ) (taken used : ℕ)
-    (out : List ℕ)
-    (u : UnderWay whole from fragment out₀ s stage at came kept taken used out) where
-  part_length : length (drop taken fragment) ≡ length fragment - taken
+module _ (from : Held) (fragment out₀ : List ℕ) (s : State) (ids lens : List ℕ) (taken used : ℕ) (out : List ℕ)
+    (u : UnderWay from fragment out₀ s ids lens taken used out) where
+  abbrev part : List ℕ
+  part = drop taken fragment
+
+  part_length : length part ≡ length fragment - taken
   part_length = length-drop taken fragment
 
-  pub under_room : 64 ≤ length out - used → used + 64 ≤ length out
-  under_room h = omega (arith, h, u.fits, u.same)
+  -- what is left of the fragment behind its next bytes
+  behind : (h : Held) (n : ℕ) (later : List ℕ) → rest_of h (drop (taken + n) fragment ++ later) ≡ rest_of h (drop n part ++ later)
+  behind h n later = ap (λ (t : List ℕ). rest_of h (t ++ later)) (sym (drop-drop n taken fragment))
 
   -- the sum of bytes is far below its limit
-  pub under_small : s.sent < 2 ^ 63
-  under_small = omega (arith, u.few, u.low)
+  pub under_small : s.sent.0 < 2 ^ 63
+  under_small = omega (arith, u.can.few u.past, u.can.low)
 
   -- the fragment ends in a field
-  pub under_part : (now : ℕ) (after : List ℕ) → KeptOn at stage kept came (drop taken fragment) now after
-      → UnderWay whole from fragment out₀ s stage at now after (taken + (now - came)) used out
+  pub under_part : (now : ℕ) (after : List ℕ) (k : KeptOn s.at s.stage s.kept s.came part now after)
+      → UnderWay from fragment out₀ (partly s ids lens part u.can now after k) ids lens (taken + (now - s.came)) used out
   under_part now after k = record {
-    good = u.good;
+    can = partly_goes s ids lens part u.can now after k;
     past = u.past;
     text = u.text;
     written = u.written;
     told = λ later.
-        ap (λ (t : List ℕ). u.text ++ t)
-        (ap (λ (p : List ℕ). listing_from (reads s) at (joined after now p later) stage) (sym (drop-drop (now - came) taken fragment))
-        ∙ sym (listing_read (reads s) at (joined kept came (drop taken fragment) later) (joined after now (drop (now - came) (drop taken fragment)) later) stage
-        (k.is later)))
-        ∙ u.told later;
+        ap (λ (t : List ℕ). u.text ++ t) (behind _ (now - s.came) later ∙ partly_rest s ids lens part u.can now after k later) ∙ u.told later;
     fits = u.fits;
     same = u.same;
-    few = u.few;
-    low = u.low;
-    room = k.same ∙ u.room;
-    fit = k.fit;
     within = omega (arith, k.ends, k.moves, part_length, u.within);
     moved = inl (omega (arith, k.moves));
     passed = omega (arith, k.moves, u.passed);
   }
 
   -- a field is played, and the next one follows
-  pub under_next : (e : Event) (size : ℕ) → GoesOnWith at stage kept came (drop taken fragment) e size → (after : List ℕ) → length after ≡ length kept
-      → (n : Memory) (used' : ℕ) (out' : List ℕ) → FieldPlayed s e n out used used' out' → used + 64 ≤ length out
-      → (stage' : Stage) → stage' ≡ stage_after stage e
-      → UnderWay whole from fragment out₀ n stage' (at + size) 0 after (taken + (size - came)) used' out'
-  under_next e size g after same! n used' out' p room! stage' on = record {
-    good = p.good;
-    past = ap past_l on ∙ past_after e stage g.turn;
-    text = u.text ++ field_line (reads s) e;
-    written = then u.text (field_line (reads s) e) u.written p.written;
-    told = λ later.
-        append_assoc u.text (field_line (reads s) e) _ ∙ ap (λ (t : List ℕ). u.text ++ t) (goes later) ∙ u.told later;
-    fits = omega (arith, p.short, room!, u.same);
-    same = written_length out used (field_line (reads s) e) used' out' p.written ∙ u.same;
-    few = omega (arith, p.more, u.few, g.small);
-    low = g.low;
-    room = same! ∙ u.room;
-    fit = none_come (at + size) after stage';
-    within = omega (arith, g.ends, g.begins, part_length, u.within);
-    moved = inl (omega (arith, g.begins));
-    passed = omega (arith, g.begins, u.passed);
-  }
-    where
-      rest : (later : List ℕ) → joined after 0 (drop (taken + (size - came)) fragment) later ≡ drop size (joined kept came (drop taken fragment) later)
-      rest later =
-          kept_none after (drop (taken + (size - came)) fragment ++ later)
-          ∙ ap (λ (t : List ℕ). t ++ later) (sym (drop-drop (size - came) taken fragment))
-          ∙ sym (rest_joined kept came (drop taken fragment) later size (omega (arith, g.begins)) g.ends)
+  module _ (e : Event) (size : ℕ) (g : GoesOnWith s.at s.stage s.kept s.came part e size) (after : List ℕ) (same! : length after ≡ length s.kept)
+      (b : struct.Board) (ids' lens' : List ℕ) (sent : Bytes) (used' : ℕ) (out' : List ℕ)
+      (p : FieldPlayed (memory s.board ids lens s.sent.0) e (memory b ids' lens' sent.0) out used used' out') (room! : used + 64 ≤ length out)
+      (stage : Stage) (on : stage ≡ stage_after s.stage e) where
+    abbrev line : List ℕ
+    line = field_line (reads (memory s.board ids lens s.sent.0)) e
 
-      goes : (later : List ℕ)
-          → field_line (reads s) e ++ listing_from (reads n) (at + size) (joined after 0 (drop (taken + (size - came)) fragment) later) stage'
-          ≡ listing_from (reads s) at (joined kept came (drop taken fragment) later) stage
-      goes later =
-          ap (λ (b : List ℕ). field_line (reads s) e ++ listing_from (reads n) (at + size) b stage') (rest later)
-          ∙ ap₂ (λ (q : Playing) (t : Stage). field_line (reads s) e ++ listing_from q (at + size) (drop size (joined kept came (drop taken fragment) later)) t)
-          p.next on
-          ∙ sym (listing_whole (reads s) at (joined kept came (drop taken fragment) later) stage e size (g.is later))
+    few! : sent.0 / 65536 ≤ (s.at + size) / 3
+    few! = omega (arith, p.more, u.can.few u.past, g.small)
 
-  -- or the log ends with it
-  pub under_last : (s₀ : State) (ids₀ lens₀ : List ℕ) → whole ≡ (λ later. rest_of (held s₀ ids₀ lens₀) (fragment ++ later)) → (e : End)
-      (clock count : ℕ) → clock ≡ s.board.clock → count ≡ total_of s.board.counts
-      → ((later : List ℕ) → next_of at (joined kept came (drop taken fragment) later) stage ≡ Ends e) → (last : ℕ) (out' : List ℕ)
-      → Written out used (last_of clock s.sent count e) last out'
-      → last ≤ used + 64 → used + 64 ≤ length out
-      → FeedDone s₀ ids₀ lens₀ fragment out₀ (ended_piece (length fragment) last s₀) s.ids s.lens out'
-  under_last s₀ ids₀ lens₀ is e clock count c k ends last out' w small room! =
-      ended_done s₀ ids₀ lens₀ fragment out₀ last (u.text ++ last_of clock s.sent count e) s.ids s.lens out' u.good.ids_all u.good.lens_all
-      (λ later. ap (λ (f : List ℕ → List ℕ). f later) (sym is) ∙ sym (u.told later) ∙ ap (λ (t : List ℕ). u.text ++ t)
-      (listing_ends (reads s) at (joined kept came (drop taken fragment) later) stage e (ends later) ∙ sym (last_line_lem s u.good e clock count c k)))
-      (omega (arith, small, room!, u.same)) (then u.text (last_of clock s.sent count e) u.written w)
+    next! : reads (memory b ids' lens' sent.0) ≡ played (playing (held s ids lens)) e
+    next! = p.next ∙ ap (λ (q : Playing). played q e) (sym (past_playing s ids lens u.past))
 
-  -- the state from which the next call goes on
-  abbrev gone : State
-  gone = record { stage = stage; over = false; at = at; came = came; kept = kept; sent = record { 0 = s.sent }; board = s.board }
+    pub under_next : UnderWay from fragment out₀ (record { stage = stage; over = s.over; at = s.at + size; came = 0; kept = after; sent = sent; board = b })
+        ids' lens' (taken + (size - s.came)) used' out'
+    under_next = record {
+      can = beyond_goes _ _ _ _ u.can _ _ g _ same! _ _ _ _ p.good few! next! _ on;
+      past = beyond_past _ _ _ _ u.can _ _ g _ same! _ _ _ _ p.good few! next! _ on;
+      text = u.text ++ line;
+      written = then u.text line u.written p.written;
+      told = λ later.
+          append_assoc u.text line _ ∙ ap (λ (t : List ℕ). u.text ++ t)
+          (ap₂ (λ (q : Playing) (t : List ℕ). field_line q e ++ t) (sym (past_playing s ids lens u.past)) (behind _ (size - s.came) later)
+          ∙ beyond_rest _ _ _ _ u.can _ _ g _ same! _ _ _ _ p.good few! next! _ on later)
+          ∙ u.told later;
+      fits = omega (arith, p.short, room!, u.same);
+      same = written_length out used line used' out' p.written ∙ u.same;
+      within = omega (arith, g.ends, g.begins, part_length, u.within);
+      moved = inl (omega (arith, g.begins));
+      passed = omega (arith, g.begins, u.passed);
+    }
 
-  gone_goes : CanGoOn gone s.ids s.lens
-  gone_goes = record {
-    going = refl;
-    fit = u.fit;
-    low = u.low;
-    room = u.room;
-    ids_all = u.good.ids_all;
-    lens_all = u.good.lens_all;
-    few = λ p. u.few;
-    good = λ p. u.good;
-  }
+module _ (s₀ : State) (ids₀ lens₀ fragment out₀ : List ℕ) (s : State) (ids lens : List ℕ) (taken used : ℕ) (out : List ℕ)
+    (u : UnderWay (held s₀ ids₀ lens₀) fragment out₀ s ids lens taken used out) where
+  -- the log ends with a field
+  pub under_last : (lent : State) → lent ≡ s₀ → (e : End) (count : ℕ) → count ≡ total_of s.board.counts
+      → ((later : List ℕ) → next_of s.at (joined s.kept s.came (drop taken fragment) later) s.stage ≡ Ends e) → (last : ℕ) (out' : List ℕ)
+      → (Written out used (last_of s.board.clock s.sent.0 count e) last out' × (last ≤ used + 64))
+      → used + 64 ≤ length out
+      → FeedDone s₀ ids₀ lens₀ fragment out₀ (ended_piece (length fragment) last lent) ids lens out'
+  under_last lent is e count k ends last out' shown room! =
+      let here = memory s.board ids lens s.sent.0 in
+      let text = u.text ++ last_of s.board.clock s.sent.0 count e in
+      subst (λ (t : State). FeedDone s₀ ids₀ lens₀ fragment out₀ (ended_piece (length fragment) last t) ids lens out') (sym is)
+      (ended_done s₀ ids₀ lens₀ fragment out₀ last text ids lens out' u.can.ids_all u.can.lens_all
+      (λ later. sym (u.told later) ∙ ap (λ (t : List ℕ). u.text ++ t)
+      (past_rest s ids lens u.can.going u.past (drop taken fragment ++ later)
+      ∙ listing_ends (reads here) s.at (joined s.kept s.came (drop taken fragment) later) s.stage e (ends later)
+      ∙ sym (last_line_lem here (u.can.good u.past) e count k)))
+      (omega (arith, shown.1, room!, u.same)) (then u.text (last_of s.board.clock s.sent.0 count e) u.written shown.0))
 
-  -- there is no room for another line, or no byte left
-  pub under_stop : (s₀ : State) (ids₀ lens₀ : List ℕ) → whole ≡ (λ later. rest_of (held s₀ ids₀ lens₀) (fragment ++ later)) → from ≡ offset_of s₀
-      → (ltb (length out - used) 64 || eqb (length fragment - taken) 0) ≡ true
-      → FeedDone s₀ ids₀ lens₀ fragment out₀ (record { code = 0; taken = taken; used = used; state = gone }) s.ids s.lens out
-  under_stop s₀ ids₀ lens₀ is start stop = record {
+  -- there is no room for another line, or no byte left: the next call goes on from here
+  pub under_stop : (length out - used < 64) ⊎ (length fragment ≤ taken)
+      → FeedDone s₀ ids₀ lens₀ fragment out₀ (record { code = 0; taken = taken; used = used; state = s }) ids lens out
+  under_stop stop = record {
     done = refl;
     told = record {
       within = u.within;
       fits = u.fits;
-      joined = λ later.
-          ap₂ (λ (t r : List ℕ). t ++ r) l.text (past_rest gone s.ids s.lens refl u.past (drop taken fragment ++ later))
-          ∙ u.told later ∙ ap (λ (f : List ℕ → List ℕ). f later) is;
+      joined = λ later. ap (λ (t : List ℕ). t ++ rest_of (held s ids lens) (drop taken fragment ++ later)) l.text ∙ u.told later;
       untouched = l.rest;
     };
-    goes_on = can_code gone s.ids s.lens gone_goes;
-    all = either (ltb (length out - used) 64) refl stop;
-    moves = λ h k. forth h k u.moved;
-    onward = λ e. omega (arith, u.passed, start);
+    goes_on = can_code s ids lens u.can;
+    all = either stop;
+    moves = λ h k. forth h k stop u.moved;
+    onward = λ e. u.passed;
   }
     where
       l : Line out₀ u.text used out
       l = from_front out₀ u.text out used (omega (arith, u.written.ends, u.fits)) u.written
 
-      either : (t : Bool) → ltb (length out - used) 64 ≡ t → t || eqb (length fragment - taken) 0 ≡ true
+      either : (length out - used < 64) ⊎ (length fragment ≤ taken)
           → (taken ≡ length fragment) ⊎ ((length out₀ - used < 64) ⊎ (past_l s₀.stage ≡ false))
-      either true q h = inr (inl (omega (arith, ltb-true (length out - used) 64 q, u.same)))
-      either false q h = inl (omega (arith, eqb-true (length fragment - taken) 0 h, u.within))
+      either (inl h) = inr (inl (omega (arith, h, u.same)))
+      either (inr h) = inl (omega (arith, h, u.within))
 
-      forth : 64 ≤ length out₀ → 0 < length fragment → (0 < taken) ⊎ ((taken ≡ 0) × (used ≡ 0)) → 0 < taken
-      forth h k (inl m) = m
-      forth h k (inr m) = absurd (go (ltb (length out - used) 64) refl stop)
-        where
-          go : (t : Bool) → ltb (length out - used) 64 ≡ t → t || eqb (length fragment - taken) 0 ≡ true → ⊥
-          go true q e = omega (arith, ltb-true (length out - used) 64 q, m.1, h, u.same)
-          go false q e = omega (arith, eqb-true (length fragment - taken) 0 e, m.0, k)
-
--- ---- where a piece goes on: there is room for a line, and a byte
-
-pub goes_on : (room left : ℕ) (t : Bool) → t ≡ (ltb room 64 || eqb left 0) → t ≡ false → (64 ≤ room) × (0 < left)
-goes_on room left t e f = go (ltb room 64) (split left 0) refl (sym e ∙ f)
-  where
-    go : (b : Bool) → (left ≤ 0) ⊎ (0 < left) → ltb room 64 ≡ b → b || eqb left 0 ≡ false → (64 ≤ room) × (0 < left)
-    go true l q h = absurd (true≢false h)
-    go false (inl l) q h = absurd (true≢false (sym (eq-eqb left 0 (omega (arith, l))) ∙ h))
-    go false (inr l) q h = (ltb-false room 64 q, l)
+      forth : 64 ≤ length out₀ → 0 < length fragment → (length out - used < 64) ⊎ (length fragment ≤ taken)
+          → (0 < taken) ⊎ ((taken ≡ 0) × (used ≡ 0)) → 0 < taken
+      forth h k stopped (inl m) = m
+      forth h k (inl r) (inr m) = absurd (omega (arith, r, m.1, h, u.same))
+      forth h k (inr r) (inr m) = absurd (omega (arith, r, m.0, k))

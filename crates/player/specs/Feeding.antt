@@ -1,6 +1,9 @@
 -- THE LISTING FROM FRAGMENTS: what a call writes, joined with what is left after it, is what was left before it.
 use Rattle.std.specs.Prelude.{◌≡◌, Bool, true, false, cond, not, ◌&&◌, ◌||◌, ◌≢◌, ◌⊎◌, List, [], ◌++◌, ℕ, ◌+◌, ◌-◌, ◌/◌}
-use Rattle.std.specs.Prelude.{◌^◌, ◌≤◌, ◌<◌, ltb, length, replicate}
+use Rattle.std.specs.Prelude.{◌^◌, ◌≤◌, ◌<◌, ltb, length, replicate, Result, Ok, Err}
+use Rattle.numbers.specs.declared.refusal.Refusal.{Refusal}
+use Rattle.numbers.specs.Codes.{refusal_code}
+use Rattle.operands.specs.declared.Fed.{Fed}
 use Rattle.rules.specs.Board.{fresh}
 use Rattle.rules.specs.Calls.{wrong_tables}
 use Rattle.board.specs.Reading.{encode, is_sound}
@@ -12,7 +15,6 @@ use Rattle.fragments.specs.Feeding.{Told, Closed, Telling}
 use Rattle.listing_rules.specs.Listing.{Playing, unmade, listing_from, listing_of}
 use Rattle.fields.specs.Fields.{memory, reads, KnownMemory}
 use Rattle.player.specs.declared.State.{State}
-use Rattle.player.specs.declared.Piece.{Piece}
 
 -- before the first fragment: L has not been read, and there is no board yet
 abbrev pub before_first : State
@@ -82,6 +84,23 @@ pub record CanGoOn (s : State) (ids lens : List ℕ) : Type 0 where
   pub good : past_l s.stage ≡ true → KnownMemory (memory s.board ids lens s.sent.0)
 
 -- ---- What a call does
+
+-- A piece of a listing: the code of a refusal, or 0; how many bytes of the fragment were taken, and how many were
+-- written; and the state to go on from.
+pub record Piece : Type 0 where
+  pub code : ℕ
+  pub taken : ℕ
+  pub used : ℕ
+  pub state : State
+
+-- what a call that is not refused tells, and the state after it
+abbrev pub piece : Fed → State → Piece
+piece fed s = record { code = 0; taken = fed.taken; used = fed.used; state = s }
+
+-- what any call answers, and the state after it; a refusal takes and writes nothing
+abbrev pub piece_in : Result Fed Refusal → State → Piece
+piece_in (Ok fed) s = piece fed s
+piece_in (Err refusal) s = record { code = refusal_code refusal; taken = 0; used = 0; state = s }
 
 -- Nothing is written, and the state is as it was.
 abbrev pub stayed : (code taken : ℕ) → State → Piece

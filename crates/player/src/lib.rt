@@ -1,18 +1,21 @@
 // The player of a log that comes in fragments: it is lent one after the other, and writes the listing to lent buffers,
-// a line as soon as its field is whole. It works on the engine's arrays from field to field.
+// a line as soon as its field is whole.
 #![tactic(auto)]
 
-ghost use Rattle.std.specs.Prelude.{◌≡◌, true, false, ◌||◌, ltb, eqb, length};
+ghost use Rattle.std.specs.Prelude.{◌≡◌, true, false, IsOk};
+ghost use Rattle.numbers.specs.Codes.{outcome_code};
 ghost use Rattle.log_bytes.specs.Format.{past_l};
 ghost use Rattle.arrays.specs.Lists.{total_of};
-ghost use Rattle.player.specs.Feeding.{before_first, feed_code, CanGoOn, ended_state, ended_piece, stayed};
+ghost use Rattle.player.specs.Feeding.{before_first, feed_code, CanGoOn, piece, piece_in};
 ghost use Rattle.player.specs.Feeding.{FeedDone, FeedOf, CloseOf};
 
 use board::Board;
 use fragments::FIELD_ROOM;
 use lines::LINE_ROOM;
 use log_bytes::{Event, Next, Stage};
-use numbers::{PLACES, TABLE_ENTRIES, codes};
+use numbers::TABLE_ENTRIES;
+use numbers::refusal::Refusal;
+use operands::Fed;
 use units::Bytes;
 
 // A field has at least so many bytes, and sends one record at most.
@@ -34,310 +37,175 @@ pub struct State {
     pub board: Board,
 }
 
-// A piece of a listing: the code of a refusal, or DONE; how many bytes of the fragment were taken, and how many were
-// written; and the state to go on from.
-#[derive(Clone, Copy)]
-pub struct Piece {
-    pub code: u8,
-    pub taken: usize,
-    pub used: usize,
-    pub state: State,
-}
-
 // How many records wait.
-fn waiting(counts: &[u16; PLACES]) -> u32
-    ensures { result ≡ total_of counts.now }
+#[tactic(auto, using(arrays::proofs::Totals::total_plain))]
+fn waiting(b: &Board) -> u32
+    ensures { result ≡ total_of b.now.counts }
 {
-    arrays::sum(counts) as u32
+    arrays::sum(&b.counts) as u32
 }
 
-// Whether a call may go on from a state: TABLE_LENGTH for the tables, SPOILT for an offset, kept bytes, a sum or a
+// Whether a call may go on from a state: not with a table of another length, nor with an offset, kept bytes, a sum or a
 // board with which no call leaves one. Where the listing is over nothing but the tables is looked at.
-fn unready(ids: &[u32], lens: &[u16], s: State) -> u8
-    ensures { (result ≡ feed_code s ids.now lens.now)
-        × (result ≡ 0 → s.over ≡ false → CanGoOn s ids.now lens.now) }
+#[tactic(auto, unfolding(crate::specs::Feeding::feed_code, spoilt::specs::Early::early_code))]
+fn unready(s: &State, ids: &[u32], lens: &[u16]) -> Result<(), Refusal>
+    ensures code { outcome_code result ≡ feed_code s.now ids.now lens.now }
+    ensures known { IsOk result → s.now.over ≡ false → CanGoOn s.now ids.now lens.now }
 {
-    if ids.len() != TABLE_ENTRIES {
-        return codes::TABLE_LENGTH;
-    }
-    if lens.len() != TABLE_ENTRIES {
-        return codes::TABLE_LENGTH;
+    if ids.len() != TABLE_ENTRIES || lens.len() != TABLE_ENTRIES {
+        return Err(Refusal::TableLength);
     }
     if s.over {
-        return codes::DONE;
+        return Ok(());
     }
-    let stage = s.stage;
-    let kept = s.kept;
-    if !fragments::is_fit(&kept, s.came, s.at, stage) {
-        return codes::SPOILT;
+    if !fragments::is_fit(&s.kept, s.came, s.at, s.stage) {
+        return Err(Refusal::Spoilt);
     }
-    if !log_bytes::past_l(stage) {
-        return codes::DONE;
+    if !log_bytes::past_l(s.stage) {
+        return Ok(());
     }
-    let sent = s.sent;
-    if s.at / FIELD_BYTES < sent.0 / SENT_PER_FIELD {
-        return codes::SPOILT;
+    if s.at / FIELD_BYTES < s.sent.0 / SENT_PER_FIELD {
+        return Err(Refusal::Spoilt);
     }
-    spoilt::early(ids, lens, s.board)
+    spoilt::early(&s.board, ids, lens)
 }
 
-// The state in which the listing is over; nothing else of it is looked at any more.
-fn ended(s: State) -> State
-    ensures { result ≡ ended_state s }
-{
-    let stage = s.stage;
-    let kept = s.kept;
-    let sent = s.sent;
-    let board = s.board;
-    State {
-        stage: stage,
-        over: true,
-        at: s.at,
-        came: s.came,
-        kept: kept,
-        sent: sent,
-        board: board,
-    }
-}
-
-// The last piece: what was taken and written, and the listing is over.
-fn last_piece(taken: usize, used: usize, s: State) -> Piece
-    ensures { result ≡ ended_piece taken used s }
-{
-    let state = ended(s);
-    Piece {
-        code: codes::DONE,
-        taken: taken,
-        used: used,
-        state: state,
-    }
-}
-
-// A piece that leaves the state as it is, and writes nothing.
-fn nothing(code: u8, taken: usize, s: State) -> Piece
-    ensures { result ≡ stayed code taken s }
-{
-    Piece {
-        code: code,
-        taken: taken,
-        used: 0,
-        state: s,
-    }
-}
-
-// Whether a piece stops between two fields: no room is left for a line, or no byte of the fragment.
-fn stops(room: usize, left: usize) -> bool
-    ensures { result ≡ (ltb room 64 || eqb left 0) }
-{
-    if room < LINE_ROOM {
-        return true;
-    }
-    left == 0
-}
-
-// The fields after L in turn, as long as there is room for a line.
-fn next_piece(fragment: &[u8], ids: &mut [u32], lens: &mut [u16], out: &mut [u8], s: State) -> Piece
-    requires { CanGoOn s ids.old lens.old × (past_l s.stage ≡ true) }
-    ensures { FeedDone s ids.old lens.old fragment.now out.old
-        result ids.new lens.new out.new }
-{
-    let b = s.board;
-    let mut numbers = b.numbers;
-    let mut shares = b.shares;
-    let mut starts = b.starts;
-    let mut counts = b.counts;
-    let mut deficits = b.deficits;
-    let mut ready = b.ready;
-    let mut next = b.next;
-    let mut heads = b.heads;
-    let mut tails = b.tails;
-    let mut held = b.held;
-    let mut now = board::numbers_of(b);
-    let mut stage = s.stage;
-    let mut at = s.at;
-    let mut came = s.came;
-    let mut kept = s.kept;
-    let mut sent = s.sent;
-    let mut taken: usize = 0;
-    let mut used: usize = 0;
-    loop {
-        if stops(out.len() - used, fragment.len() - taken) {
-            let board = board::packed(
-                numbers, shares, starts, counts, deficits, ready, next, heads, tails, held,
-                b.largest, now,
-            );
-            return Piece {
-                code: codes::DONE,
-                taken: taken,
-                used: used,
-                state: State {
-                    stage: stage,
-                    over: false,
-                    at: at,
-                    came: came,
-                    kept: kept,
-                    sent: sent,
-                    board: board,
-                },
-            };
-        }
-        let here = fragments::read_on(fragment, taken, &mut kept, came, at, stage);
-        match here {
-            Next::Ends(end) => {
-                let last = fields::show_end(end, now.clock, sent, waiting(&counts), out, used);
-                return last_piece(fragment.len(), last, s);
-            }
-            Next::Unfinished(part) => {
-                taken += part - came;
-                came = part;
-            }
-            Next::GoesOn(event, size) => {
-                let left = now.left;
-                let moved = fields::play_field(
-                    event,
-                    sent,
-                    b.largest,
-                    now.clock,
-                    now.active,
-                    now.pending,
-                    now.slot,
-                    left,
-                    &mut numbers,
-                    &mut shares,
-                    &mut starts,
-                    &mut counts,
-                    &mut deficits,
-                    &mut ready,
-                    &mut next,
-                    &mut heads,
-                    &mut tails,
-                    &mut held,
-                    ids,
-                    lens,
-                    out,
-                    used,
-                );
-                used = moved.used;
-                taken += size - came;
-                at += size as u64;
-                came = 0;
-                stage = log_bytes::stage_after(stage, event);
-                let total = moved.sent;
-                sent = total;
-                let after = moved.after;
-                now = after;
-            }
-        }
-    }
-}
-
-// The first field: the board is made, or the listing is one line. The piece ends there.
-fn first_piece(
+// The fields after L in turn, as long as there is room for a line. A log that ends here leaves of the state all but the
+// mark that it is over, so the fields are played on a copy; and this is kept apart, since the copy is then not there
+// while the state is looked at.
+#[inline(never)]
+fn next_piece(
+    s: &mut State,
     fragment: &[u8],
     ids: &mut [u32],
     lens: &mut [u16],
     out: &mut [u8],
-    s: State,
-) -> Piece
-    requires { CanGoOn s ids.old lens.old × (past_l s.stage ≡ false) }
-    ensures { FeedDone s ids.old lens.old fragment.now out.old
-        result ids.new lens.new out.new }
+) -> Fed
+    requires { CanGoOn s.old ids.old lens.old × (past_l s.old.stage ≡ true) }
+    ensures { FeedDone s.old ids.old lens.old fragment.now out.old (piece result s.new) ids.new lens.new out.new }
 {
-    if stops(out.len(), fragment.len()) {
-        return nothing(codes::DONE, 0, s);
+    let mut on = *s;
+    let mut taken = 0;
+    let mut used = 0;
+    while LINE_ROOM <= out.len() - used && taken < fragment.len() {
+        let State {
+            stage,
+            at,
+            came,
+            sent,
+            ..
+        } = on;
+        match fragments::read_on(fragment, taken, &mut on.kept, came, at, stage) {
+            Next::Ends(end) => {
+                used = fields::show_end(end, on.board.clock, sent, waiting(&on.board), out, used);
+                s.over = true;
+                return Fed {
+                    taken: fragment.len(),
+                    used,
+                };
+            }
+            Next::Unfinished(part) => {
+                taken += part - came;
+                on.came = part;
+            }
+            Next::GoesOn(event, size) => {
+                let moved = fields::play_field(event, &mut on.board, ids, lens, sent, out, used);
+                used = moved.used;
+                taken += size - came;
+                on.stage = log_bytes::stage_after(stage, event);
+                on.at += size as u64;
+                on.came = 0;
+                on.sent = moved.sent;
+            }
+        }
     }
-    let stage = s.stage;
-    let came = s.came;
+    *s = on;
+    Fed { taken, used }
+}
+
+// The first field: the board is made, or the listing is one line. The piece ends there.
+fn first_piece(
+    s: &mut State,
+    fragment: &[u8],
+    ids: &mut [u32],
+    lens: &mut [u16],
+    out: &mut [u8],
+) -> Fed
+    requires { CanGoOn s.old ids.old lens.old × (past_l s.old.stage ≡ false) }
+    ensures { FeedDone s.old ids.old lens.old fragment.now out.old (piece result s.new) ids.new lens.new out.new }
+{
+    if out.len() < LINE_ROOM || fragment.is_empty() {
+        return Fed { taken: 0, used: 0 };
+    }
     let mut kept = s.kept;
-    let here = fragments::read_on(fragment, 0, &mut kept, came, s.at, stage);
-    match here {
+    match fragments::read_on(fragment, 0, &mut kept, s.came, s.at, s.stage) {
         Next::Ends(end) => {
-            let last = fields::show_end(end, 0, Bytes(0), 0, out, 0);
-            last_piece(fragment.len(), last, s)
+            let used = fields::show_end(end, 0, Bytes(0), 0, out, 0);
+            s.over = true;
+            Fed {
+                taken: fragment.len(),
+                used,
+            }
         }
         Next::Unfinished(part) => {
-            let sent = s.sent;
-            let board = s.board;
-            Piece {
-                code: codes::DONE,
-                taken: part - came,
-                used: 0,
-                state: State {
-                    stage: stage,
-                    over: false,
-                    at: s.at,
-                    came: part,
-                    kept: kept,
-                    sent: sent,
-                    board: board,
-                },
-            }
+            let taken = part - s.came;
+            s.kept = kept;
+            s.came = part;
+            Fed { taken, used: 0 }
         }
         Next::GoesOn(event, size) => {
-            // No other field is whole before L, so this is never taken.
+            // No other field is whole before L.
             let Event::Largest(largest) = event else {
-                return nothing(codes::DONE, 0, s);
+                unreachable!()
             };
-            let after = log_bytes::stage_after(stage, event);
-            let board = blocks::make_in(ids, lens, largest);
-            Piece {
-                code: codes::DONE,
-                taken: size - came,
-                used: 0,
-                state: State {
-                    stage: after,
-                    over: false,
-                    at: s.at + size as u64,
-                    came: 0,
-                    kept: kept,
-                    sent: Bytes(0),
-                    board: board,
-                },
-            }
+            let taken = size - s.came;
+            s.stage = log_bytes::stage_after(s.stage, event);
+            s.at += size as u64;
+            s.came = 0;
+            s.kept = kept;
+            s.sent = Bytes(0);
+            s.board = blocks::make_in(ids, lens, largest);
+            Fed { taken, used: 0 }
         }
     }
 }
 
 // The next fragment of a log: what there is to list of it, into a lent buffer.
-pub fn feed(fragment: &[u8], ids: &mut [u32], lens: &mut [u16], out: &mut [u8], s: State) -> Piece
-    ensures { FeedOf s ids.old lens.old fragment.now out.old
-        result ids.new lens.new out.new }
+pub fn feed(
+    s: &mut State,
+    fragment: &[u8],
+    ids: &mut [u32],
+    lens: &mut [u16],
+    out: &mut [u8],
+) -> Result<Fed, Refusal>
+    ensures { FeedOf s.old ids.old lens.old fragment.now out.old
+        (piece_in result s.new) ids.new lens.new out.new }
 {
-    let refusal = unready(&ids[..], &lens[..], s);
-    if refusal != codes::DONE {
-        return nothing(refusal, 0, s);
-    }
+    unready(s, ids, lens)?;
     if s.over {
-        return nothing(codes::DONE, fragment.len(), s);
+        return Ok(Fed {
+            taken: fragment.len(),
+            used: 0,
+        });
     }
-    let stage = s.stage;
-    if log_bytes::past_l(stage) {
-        return next_piece(fragment, ids, lens, out, s);
+    if log_bytes::past_l(s.stage) {
+        return Ok(next_piece(s, fragment, ids, lens, out));
     }
-    first_piece(fragment, ids, lens, out, s)
+    Ok(first_piece(s, fragment, ids, lens, out))
 }
 
 // The end of a log: its last line, into a lent buffer, unless it is written. Without room for it nothing is done.
-pub fn finish(ids: &[u32], lens: &[u16], out: &mut [u8], s: State) -> Piece
-    ensures { CloseOf s ids.now lens.now out.old result out.new }
+pub fn finish(s: &mut State, ids: &[u32], lens: &[u16], out: &mut [u8]) -> Result<Fed, Refusal>
+    ensures { CloseOf s.old ids.now lens.now out.old (piece_in result s.new) out.new }
 {
-    let refusal = unready(ids, lens, s);
-    if refusal != codes::DONE {
-        return nothing(refusal, 0, s);
+    unready(s, ids, lens)?;
+    if s.over || out.len() < LINE_ROOM {
+        return Ok(Fed { taken: 0, used: 0 });
     }
-    if s.over {
-        return nothing(codes::DONE, 0, s);
-    }
-    if out.len() < LINE_ROOM {
-        return nothing(codes::DONE, 0, s);
-    }
-    let stage = s.stage;
-    let end = log_bytes::end_in(s.at, s.came, stage);
-    let b = s.board;
-    let counts = b.counts;
-    let sent = s.sent;
-    let last = fields::show_end(end, b.clock, sent, waiting(&counts), out, 0);
-    last_piece(0, last, s)
+    let end = log_bytes::end_in(s.at, s.came, s.stage);
+    let used = fields::show_end(end, s.board.clock, s.sent, waiting(&s.board), out, 0);
+    s.over = true;
+    Ok(Fed { taken: 0, used })
 }
 
 // Where a listing begins: L has not been read, and there is no board yet.
@@ -351,6 +219,6 @@ pub fn begin() -> State
         came: 0,
         kept: [0; FIELD_ROOM],
         sent: Bytes(0),
-        board: board::blank(0),
+        board: Board::blank(0),
     }
 }

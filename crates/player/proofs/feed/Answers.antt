@@ -1,30 +1,9 @@
--- `player::feed` meets its contract. A state that is not refused goes on with the log's first field, or with the field
--- after those that were played. Assumes nothing.
-use mathlib.Core.Path.{sym, ◌∙◌}
-use Rattle.player.proofs.Ends.{refused_feed, done_feed, over_feed}
+-- `player::feed` meets its contract. Where the listing is over, all is taken and nothing written. Assumes nothing.
+use mathlib.Core.Path.{sym}
+use Rattle.player.proofs.Ends.{done_feed, over_feed}
 use Rattle.player.proofs.feed.Goals as goal
-
-pub returns-then-refusal-ne-DONE : goal.returns-then-refusal-ne-DONE
-returns-then-refusal-ne-DONE c =
-    rw c.nothing.ensures (refused_feed _ _ _ _ _ _ c.unready-refusal.ensures.0 c.if-refusal-ne-DONE.true)
 
 pub returns-then-s : goal.returns-then-s
 returns-then-s c =
-    let z = sym c.unready-refusal.ensures.0 ∙ c.if-refusal-ne-DONE.false in
-    rw c.nothing-then-s.ensures (done_feed _ _ _ _ _ _ _ _ _ z (over_feed _ _ _ _ _ z c.if-s.true))
-
-pub next_piece-requires : goal.next_piece-requires
-next_piece-requires c =
-    (c.unready-refusal.ensures.1 c.if-refusal-ne-DONE.false c.if-s.false, sym c.past_l.ensures ∙ c.if-past_l.true)
-
-pub returns-then-past_l : goal.returns-then-past_l
-returns-then-past_l c =
-    done_feed _ _ _ _ _ _ _ _ _ (sym c.unready-refusal.ensures.0 ∙ c.if-refusal-ne-DONE.false) c.next_piece.ensures
-
-pub first_piece-requires : goal.first_piece-requires
-first_piece-requires c =
-    (c.unready-refusal.ensures.1 c.if-refusal-ne-DONE.false c.if-s.false, sym c.past_l.ensures ∙ c.if-past_l.false)
-
-pub returns : goal.returns
-returns c =
-    done_feed _ _ _ _ _ _ _ _ _ (sym c.unready-refusal.ensures.0 ∙ c.if-refusal-ne-DONE.false) c.first_piece.ensures
+    let z = sym c.in_ok-unready.ensures.code in
+    done_feed _ _ _ _ _ _ _ _ _ z (over_feed _ _ _ _ _ z c.if-s.true)

@@ -1,18 +1,14 @@
-use mathlib.Core.List.{◌++◌}
+use mathlib.Core.Path.{◌≡◌}
 use Prim.Native.Nat.{◌-◌}
 use lib.ListN.{length}
-use Rattle.board.specs.Memory.{board_now}
-use Rattle.fields.specs.Fields.{memory}
-use Rattle.player.specs.Feeding.{held as between, rest_of, offset_of}
+use Rattle.player.specs.Feeding.{held as between}
 use Rattle.player.proofs.Feeding.{UnderWay}
 use Rattle.player.proofs.next_piece.Given as goal
 
-abbrev pub invariant-loop-s : goal.invariant-loop-s
-invariant-loop-s l =
-    let here = memory (board_now l.numbers l.shares l.starts l.counts l.deficits l.ready l.next l.heads l.tails l.held l.b.largest l.now)
-    l.ids l.lens l.sent.0 in
-    UnderWay (λ later. rest_of (between l.s l.initial.ids l.initial.lens) (l.fragment ++ later)) (offset_of l.s) l.fragment l.initial.out
-    here l.stage l.at l.came l.kept l.taken l.used l.out
+-- the state that was lent is as it was
+abbrev pub invariant-loop-out : goal.invariant-loop-out
+invariant-loop-out l =
+    (l.s ≡ l.initial.s) × UnderWay (between l.initial.s l.initial.ids l.initial.lens) l.fragment l.initial.out l.on l.ids l.lens l.taken l.used l.out
 
-abbrev pub decreases-loop-s : goal.decreases-loop-s
-decreases-loop-s l = length l.fragment - l.taken
+abbrev pub decreases-loop-out : goal.decreases-loop-out
+decreases-loop-out l = length l.fragment - l.taken
