@@ -10,7 +10,8 @@ use native.Mathlib.Omega.{arith}
 use lib.Dec.{lit<}
 use lib.Pow.{pow_pos, pow-lt, shl_exact}
 use lib.Bits.{bit_and, or_disjoint, and_le_l, or_lt}
-use Rattle.std.proofs.lemmas.Nat.Bits.{bit_at-lt, bit_at_or, bit_at-pow_same, bit_at-pow_other, and_pow, bit_at_lowest, bit_at-suc, same_from_bits_below, bit_at_above, bit_at_clear_same, bit_at_clear_other}
+use Rattle.std.proofs.lemmas.Nat.Bits.{bit_at-lt, bit_at_or, bit_at-pow_same, bit_at-pow_other, and_pow, bit_at_lowest, bit_at-suc, same_from_bits_below}
+use Rattle.std.proofs.lemmas.Nat.Bits.{bit_at_above, bit_at_clear_same, bit_at_clear_other}
 use Rattle.bits.specs.Sets.{bit_at, with_bit, without_bit}
 use Rattle.bits.specs.Laws.{WithOwn, WithOther, WithoutOwn, WithoutOther}
 

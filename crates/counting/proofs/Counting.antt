@@ -15,7 +15,8 @@ use Rattle.base.specs.Sums.{one_if}
 use Rattle.rules.specs.Board.{bytes_charged}
 use Rattle.rules.specs.Choice.{Sending}
 use Rattle.accounts.specs.Accounts.{Account, no_account, added, no_counts}
-use Rattle.counting.specs.Counting.{Tallies, TalliesSized, account_with, account_now, counts_now, read_counts, zero_account, zero_counts, tallies_of, account_of}
+use Rattle.counting.specs.Counting.{Tallies, TalliesSized, account_with, account_now, counts_now, read_counts, zero_account, zero_counts, tallies_of}
+use Rattle.counting.specs.Counting.{account_of}
 use Rattle.counting.proofs.Accounts.{account_at}
 use Rattle.counting.specs.Steps.{over_in, more_at, send_added, sent_in, vanished_in}
 

@@ -21,7 +21,8 @@ use Rattle.rules.specs.Spoilt.{count}
 use Rattle.board.specs.declared.Board.{Board}
 use Rattle.spoilt_places.specs.Ranges.{size_in_range, numbers_apart, in_order, place_rules, place_in_range, place_now, places_in_range, shares_fit}
 use Rattle.spoilt_places.specs.Ranges.{held_while_waiting}
-use Rattle.spoilt_orders.specs.Walks.{clock_in_range, of_class, blocks_in_order, orders_listed, class_active, class_pending, active_as_ruled, pending_as_ruled, length_of}
+use Rattle.spoilt_orders.specs.Walks.{clock_in_range, of_class, blocks_in_order, orders_listed, class_active, class_pending, active_as_ruled, pending_as_ruled}
+use Rattle.spoilt_orders.specs.Walks.{length_of}
 use Rattle.spoilt.specs.Test.{tables_whole, lane_in_range, lanes_in_range, slot_open, slot_in_range, sound_test}
 use Rattle.spoilt.proofs.Walk.{less, belongs, all_belong}
 

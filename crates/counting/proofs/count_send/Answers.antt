@@ -23,7 +23,8 @@ returns-then-given-gt-GREATEST_CREDIT-clause-stopped c =
     let a = (get_or c.args.c.now.accounts c.args.place zero_account).credit.0 in
     let e : c.if-began.given ≡ cond c.args.began (a + c.args.credit.0) a =
     elim c.if-began.branch [ then-began w ↦ rw w.if-began.true w.given-is | else-began w ↦ rw w.if-began.false w.given-is ] in
-    sym (ap (λ (x : Tallied). c.args.c.now.full || x.stops) (send_stops c.args.c.now _ _ _ _ _ c.requires _ e c.if-given-gt-GREATEST_CREDIT.true) ∙ or-true c.args.c.now.full)
+    sym (ap (λ (x : Tallied). c.args.c.now.full || x.stops) (send_stops c.args.c.now _ _ _ _ _ c.requires _ e c.if-given-gt-GREATEST_CREDIT.true)
+    ∙ or-true c.args.c.now.full)
 
 pub returns-clause-added : goal.returns-clause-added
 returns-clause-added c =
@@ -37,4 +38,5 @@ returns-clause-stopped c =
     let a = (get_or c.args.c.now.accounts c.args.place zero_account).credit.0 in
     let e : c.if-began.given ≡ cond c.args.began (a + c.args.credit.0) a =
     elim c.if-began.branch [ then-began w ↦ rw w.if-began.true w.given-is | else-began w ↦ rw w.if-began.false w.given-is ] in
-    sym (ap (λ (x : Tallied). c.args.c.now.full || x.stops) (send_goes c.args.c.now _ _ _ _ _ c.requires _ e _ c.from.ensures c.if-given-gt-GREATEST_CREDIT.false) ∙ or-false c.args.c.now.full)
+    sym (ap (λ (x : Tallied). c.args.c.now.full || x.stops)
+    (send_goes c.args.c.now _ _ _ _ _ c.requires _ e _ c.from.ensures c.if-given-gt-GREATEST_CREDIT.false) ∙ or-false c.args.c.now.full)

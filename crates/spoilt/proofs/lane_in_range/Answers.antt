@@ -15,6 +15,7 @@ unfolding lane_in_range
 returns c =
     let b = c.args.b.now in
     let count = get_or b.counts c.args.p 0 in
-    all_from_yields_List (λ j. length_in_range b.largest (get_or c.args.lens.now (lane_entry c.args.p (get_or b.starts c.args.p 0) j) 0)) _ _ _ c.all.ensures.ran
+    all_from_yields_List (λ j. length_in_range b.largest (get_or c.args.lens.now (lane_entry c.args.p (get_or b.starts c.args.p 0) j) 0)) _ _ _
+    c.all.ensures.ran
     (YieldsList-from_range 0 count count refl (sub-zero count)) (λ x r q k. search (rules, tests))
     ∙ all_range _ count

@@ -11,5 +11,6 @@ pub returns : goal.returns
 unfolding places_in_range
 returns c =
     let b = c.args.b.now in
-    all_from_yields_List (λ p. place_in_range b.largest b.slot p (place_now b p)) _ _ _ c.all.ensures.ran (YieldsList-from_range 0 64 64 refl refl) (λ x r q k. search (rules, tests))
+    all_from_yields_List (λ p. place_in_range b.largest b.slot p (place_now b p)) _ _ _ c.all.ensures.ran (YieldsList-from_range 0 64 64 refl refl)
+    (λ x r q k. search (rules, tests))
     ∙ all_range _ 64
