@@ -57,6 +57,7 @@ pub fn put_account(
     put_byte(out, e, b'\n')
 }
 
+#[tactic(auto, unfolding(crate::specs::Text::full_line, lines::specs::Text::line_of, lines::specs::Text::columns))]
 pub fn put_full(out: &mut [u8], at: usize) -> usize
     requires { at + 128 ≤ length out.old }
     ensures { Written out.old at full_line result out.new × (result ≤ at + 128) }
