@@ -4,10 +4,9 @@
 
 ghost use Rattle.std.specs.Prelude.{◌≡◌, ◌+◌, ◌^◌, ◌≤◌, length, pos, ◌-ℤ◌};
 ghost use Rattle.lines.specs.Text.{Written};
-ghost use Rattle.lines.specs.Listing.{broken_line, long_line};
 ghost use Rattle.report_lines.specs.Text.{signed, account_line, full_line};
 
-use lines::{Line, put_byte, put_columns, put_line, put_number};
+use lines::{put_byte, put_columns, put_line, put_number};
 use units::{Bytes, Parts};
 
 // Room for any line.
@@ -33,7 +32,8 @@ fn put_signed(out: &mut [u8], at: usize, d: i64) -> usize
     put_number(out, at, d.unsigned_abs())
 }
 
-// The line of a block that is open at the end.
+// The line of a block that is open at the end. Its six numbers come together for this one call alone, so a struct would
+// only name them once more.
 pub fn put_account(
     out: &mut [u8],
     at: usize,
@@ -63,18 +63,4 @@ pub fn put_full(out: &mut [u8], at: usize) -> usize
     ensures { Written out.old at full_line result out.new × (result ≤ at + 128) }
 {
     put_line(out, at, b"full", &[])
-}
-
-pub fn put_broken(out: &mut [u8], at: usize, offset: u64) -> usize
-    requires { at + 128 ≤ length out.old }
-    ensures { Written out.old at (broken_line offset) result out.new × (result ≤ at + 128) }
-{
-    Line::Broken { offset }.put(out, at)
-}
-
-pub fn put_long(out: &mut [u8], at: usize) -> usize
-    requires { at + 128 ≤ length out.old }
-    ensures { Written out.old at long_line result out.new × (result ≤ at + 128) }
-{
-    Line::Long.put(out, at)
 }
