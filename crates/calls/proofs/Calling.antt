@@ -10,8 +10,13 @@ use Rattle.rules.specs.Calls.{Single, serve!, step, Call, one, burst!, Outcome, 
 use Rattle.board.specs.declared.Board as struct
 use Rattle.board.specs.Reading.{view, is_spelt, is_sound}
 use Rattle.board.proofs.Sound.{spelt_decides}
-use Rattle.calls.specs.declared.Served.{Served}
-use Rattle.calls.specs.Contract.{not_served, served_by, good_serve, BurstOutcome, burst_now, good_burst, board_or, called_serve, bursted_by, called_burst}
+use Rattle.numbers.specs.declared.refusal.Refusal.{Refusal}
+use Rattle.numbers.specs.Codes.{refusal_code}
+use Rattle.numbers.proofs.Refusals.{refusal_not_done}
+use Rattle.std.specs.Prelude.{Result, Err}
+use Rattle.calls.specs.declared.Sent.{Sent}
+use Rattle.calls.specs.Contract.{Served, served_in, served_by, good_serve, BurstOutcome, burst_now, good_burst, board_or, called_serve, bursted_by}
+use Rattle.calls.specs.Contract.{called_burst}
 use Rattle.board.specs.Leaving.{returned, replied, ids_after, lens_after, written, Known, ruled}
 use Rattle.calls.specs.Promises.{lent, called}
 use Rattle.spoilt.specs.Early.{early_code}
@@ -38,29 +43,39 @@ module _ (b : struct.Board) (ids lens : List ℕ) (c : Call) where
   unfolding call
   call_known k = rw (k.ids_all, k.lens_all, (spelt_decides b ids lens).no k.sound.spells, k.sound.keeps)
 
--- ---- as each call meets the two: the code that was found is not 0, or the value is known to be good
+-- ---- as each call meets the two: it is refused before all else, or the value is known to be good
 
-module _ (b : struct.Board) (ids lens : List ℕ) (code : ℕ) (e : code ≡ early_code b ids lens) where
-  pub early_reply : (x : Single) → (code ≡ 0 → ⊥) → returned (replied code b) ids lens ≡ called b ids lens x
+module _ (b : struct.Board) (ids lens : List ℕ) (r : Refusal) (e : refusal_code r ≡ early_code b ids lens) where
+  early : (c : Call) → call (lent b ids lens) c ≡ refused_by (lent b ids lens) c (refusal_code r)
+  early c = call_early b ids lens c (λ z. refusal_not_done r (e ∙ z)) ∙ ap (refused_by (lent b ids lens) c) (sym e)
+
+  -- k is the code that the call answers with
+  pub early_reply : (x : Single) (k : ℕ) → k ≡ refusal_code r → returned (replied k b) ids lens ≡ called b ids lens x
   unfolding called
-  early_reply x n = rw (e, call_early b ids lens (one x) (λ z. n (e ∙ z))) (refused_reply (early_code b ids lens) (λ z. n (e ∙ z)))
+  early_reply x k is = rw (is, early (one x)) (refused_reply (refusal_code r) (refusal_not_done r))
     where
       refused_reply : (k : ℕ) → (k ≡ 0 → ⊥) → returned (replied k b) ids lens ≡ written b ids lens (refused_by (lent b ids lens) (one x) k)
       refused_reply k m = rw (eqb_no k 0 m)
 
-  pub early_serve : (code ≡ 0 → ⊥) → returned (not_served b code) ids lens ≡ called_serve b ids lens
+  pub early_serve : (o : Result Sent Refusal) → o ≡ Err r → returned (served_in o b) ids lens ≡ called_serve b ids lens
   unfolding called_serve
-  early_serve n = rw (e, call_early b ids lens (one serve!) (λ z. n (e ∙ z)))
+  early_serve o is = rw (is, early (one serve!))
 
-  pub early_burst : (bytes : ℕ) (list : List ℕ) → (code ≡ 0 → ⊥)
-      → returned (burst_now (record { count = 0; bytes = record { 0 = 0 }; code = code; board = b }) list) ids lens ≡ called_burst b ids lens bytes list
+  pub early_burst : (bytes : ℕ) (list : List ℕ)
+      → returned (burst_now (record { count = 0; bytes = record { 0 = 0 }; code = refusal_code r; board = b }) list) ids lens
+      ≡ called_burst b ids lens bytes list
   unfolding called_burst
-  early_burst bytes list n = rw (e, call_early b ids lens (burst! bytes list) (λ z. n (e ∙ z)))
+  early_burst bytes list = rw (early (burst! bytes list))
 
 module _ (b : struct.Board) (ids lens : List ℕ) (k : Known b ids lens) where
   pub called_known : (x : Single) → ruled b ids lens x ≡ called b ids lens x
   unfolding called ruled
   called_known x = ap (written b ids lens) (sym (call_known b ids lens (one x) k))
+
+  -- n is the board that a step leaves, and next the board with what the step changed
+  pub called_left : (x : Single) (code : ℕ) (n next : struct.Board) (ids' lens' : List ℕ) → n ≡ next
+      → returned (replied code next) ids' lens' ≡ ruled b ids lens x → returned (replied code n) ids' lens' ≡ called b ids lens x
+  called_left x code n next ids' lens' e w = ap (λ (c : struct.Board). returned (replied code c) ids' lens') e ∙ w ∙ called_known x
 
   pub serve_called : (r : Served) → r ≡ good_serve b ids lens → returned r ids lens ≡ called_serve b ids lens
   unfolding called_serve good_serve step

@@ -13,8 +13,7 @@ use Rattle.rules.specs.Calls.{make_by, wrong_tables, make}
 use Rattle.board.specs.Reading.{encode, view, Sound}
 use Rattle.board.proofs.Fresh.{Starts, starts}
 use Rattle.board.proofs.Sound.{fit_view}
-use Rattle.board.specs.declared.Reply.{Reply}
-use Rattle.board.specs.Leaving.{Returned, written}
+use Rattle.board.specs.Leaving.{Reply, Returned, written}
 use Rattle.calls.specs.Promises.{made}
 
 both : (s t : Bool) → not (s && t) ≡ false → (s ≡ true) × (t ≡ true)

@@ -1,8 +1,9 @@
 -- A serve and a burst on a board that is known to be good: what the code answers is what is promised, and the board after it is known to be good.
 use mathlib.Core.Path.{◌≡◌, refl, sym, ap, subst, ◌∙◌}
 use mathlib.Core.Bool.{Bool, true, false, cond}
-use mathlib.Core.Logic.{◌⊎◌, inl, inr, ◌≢◌}
+use mathlib.Core.Logic.{◌⊎◌, inl, inr}
 use mathlib.Core.List.{List, [], ◌∷◌, ◌++◌}
+use Rattle.std.specs.Prelude.{Result, Ok, Err}
 use Prim.Native.Nat.{ℕ, zero, suc, ◌+◌, ◌-◌, ◌≤◌, ◌<◌}
 use native.Mathlib.Nat.{add-zero, zero-add, sub-zero}
 use native.Mathlib.Numerals.{add-one}
@@ -17,15 +18,18 @@ use Rattle.rules.specs.Burst.{Burst, stopped, sent_first, no_room, with_room, ch
 use Rattle.board.specs.declared.Board as struct
 use Rattle.board.specs.Reading.{encode, view, Holds}
 use Rattle.board.proofs.Reading.{Fit, view_encode}
-use Rattle.calls.specs.declared.Served.{Served}
+use Rattle.numbers.specs.declared.refusal.Refusal.{Refusal}
+use Rattle.numbers.specs.Codes.{refusal_code}
 use Rattle.board.specs.Memory.{engine_of, with_engine}
-use Rattle.serving.specs.Serving.{Within, engine_after}
+use Rattle.serving.specs.declared.Served as told
+use Rattle.serving.specs.Serving.{within_in}
 use Rattle.board.specs.Leaving.{Known}
-use Rattle.calls.specs.Contract.{not_served, good_serve, BurstOutcome, burst_now, burst_by, good_burst}
+use Rattle.calls.specs.declared.Sent.{Sent}
+use Rattle.calls.specs.Contract.{not_served, served_in, good_serve, BurstOutcome, burst_now, burst_by, good_burst}
 use Rattle.board.proofs.Fields.{number_is}
 use Rattle.serving.proofs.Serves.{ByAnswer, serve_by_lem}
 use Rattle.serving.proofs.Within.{fit_serve, Stops, SendsOne}
-use Rattle.serving.proofs.Known.{within, known_encode, spells, fit, holds, by_cases, after_is, known_next}
+use Rattle.serving.proofs.Known.{within, known_encode, spells, fit, holds, known_next, sent_in, stops_in, sent_left, stops_left}
 
 module _ (b : struct.Board) (ids lens : List ℕ) (known : Known b ids lens) where
   abbrev m : Board.Board
@@ -33,62 +37,52 @@ module _ (b : struct.Board) (ids lens : List ℕ) (known : Known b ids lens) whe
 
   -- ---- A serve is one with room for a record and bytes for any
 
-  module _ (bytes : ℕ) (enough : 65536 ≤ bytes) (w : Within) (w-is : w ≡ within b lens bytes 1) where
-    pub serve_stops : w.step.code ≢ 0 → not_served b w.step.code ≡ good_serve b ids lens
+  -- n is the board that the engine leaves
+  module _ (bytes : ℕ) (enough : 65536 ≤ bytes) (n : struct.Board) (n-is : n ≡ with_engine b (engine_of n)) where
+    pub serve_stops : (e : Refusal) → within_in (Err e) n ≡ within b lens bytes 1 → (o : Result Sent Refusal) → o ≡ Err e
+        → served_in o n ≡ good_serve b ids lens
     unfolding good_serve
-    serve_stops ne = go (by_cases b ids lens known bytes 1 w w-is)
+    serve_stops e w-is o is =
+        rw is (ap (λ (c : struct.Board). not_served c (refusal_code e)) (stops_left b ids lens known n bytes 1 (Err e) n-is s) ∙ why s.why)
       where
-        go : Stops m bytes 1 w ⊎ SendsOne m ids lens bytes 1 w → not_served b w.step.code ≡ good_serve b ids lens
-        go (inr g) = absurd (ne g.code)
-        go (inl s) = why s.why
-          where
-            why : ((serve m).out ≡ refused w.step.code) ⊎ ((◌≡◌ {A = ℕ} 1 0) ⊎ ((r : Record) × (bytes < bytes_charged r) × (bytes_charged r < 65536)))
-                → not_served b w.step.code ≡ good_serve b ids lens
-            why (inl e) = rw e
-            why (inr (inl z)) = absurd (omega arith)
-            why (inr (inr x)) = absurd (omega (arith, x.1, x.2))
+        s : Stops m bytes 1 (within_in (Err e) n)
+        s = stops_in b ids lens known n bytes 1 e w-is
 
-    -- n is the board made again
-    pub serve_goes : w.step.code ≡ 0 → (n : struct.Board) → n ≡ with_engine b (engine_after w)
+        why : ((serve m).out ≡ refused (refusal_code e)) ⊎ ((◌≡◌ {A = ℕ} 1 0) ⊎ ((r : Record) × (bytes < bytes_charged r) × (bytes_charged r < 65536)))
+            → not_served b (refusal_code e) ≡ good_serve b ids lens
+        why (inl q) = rw q
+        why (inr (inl z)) = absurd (omega arith)
+        why (inr (inr x)) = absurd (omega (arith, x.1, x.2))
+
+    pub serve_goes : (s : told.Served) → within_in (Ok s) n ≡ within b lens bytes 1
         → record {
           code = 0;
-          block = get_or b.numbers w.step.place 0;
-          number = get_or ids w.step.entry 0;
-          length = get_or lens w.step.entry 0;
-          clock =
-              w.step.slot_clock;
+          block = get_or n.numbers s.place 0;
+          number = get_or ids s.entry 0;
+          length = get_or lens s.entry 0;
+          clock = s.slot_clock;
           board = n;
         } ≡ good_serve b ids lens
     unfolding good_serve
-    serve_goes z n n-is = go (by_cases b ids lens known bytes 1 w w-is)
+    serve_goes s w-is =
+        rw g.out (λ j. record {
+          code = 0;
+          block = block j;
+          number = g.number_is j;
+          length = g.bytes_is j;
+          clock = g.clock_is j;
+          board = sent_left b ids lens known n bytes 1 (Ok s) n-is g j;
+        })
       where
-        go : Stops m bytes 1 w ⊎ SendsOne m ids lens bytes 1 w
-            → ◌≡◌ {A = Served} (record {
-              code = 0;
-              block = get_or b.numbers w.step.place 0;
-              number = get_or ids w.step.entry 0;
-              length = get_or lens w.step.entry 0;
-              clock =
-                  w.step.slot_clock;
-              board = n;
-            }) (good_serve b ids lens)
-        go (inl s) = absurd (s.code z)
-        go (inr g) =
-            rw g.out (λ j. record {
-              code = 0;
-              block = block j;
-              number = g.number_is j;
-              length = g.bytes_is j;
-              clock = g.clock_is j;
-              board =
-                  (n-is ∙ after_is b ids lens known w g.next) j;
-            })
-          where
-            block : get_or b.numbers w.step.place 0 ≡ (at m g.sends.place).number
-            block =
-                ap (λ (c : struct.Board). get_or c.numbers w.step.place 0) (sym (spells b ids lens known))
-                ∙ number_is m w.step.place
-                ∙ ap (λ (p : ℕ). (at m p).number) g.place_is
+        g : SendsOne m ids lens bytes 1 (within_in (Ok s) n)
+        g = sent_in b ids lens known n bytes 1 s w-is
+
+        block : get_or n.numbers s.place 0 ≡ (at m g.sends.place).number
+        block =
+            ap (λ (c : struct.Board). get_or c.numbers s.place 0)
+            (n-is ∙ ap (λ (c : struct.Board). with_engine c (engine_of n)) (sym (spells b ids lens known)))
+            ∙ number_is m s.place
+            ∙ ap (λ (p : ℕ). (at m p).number) g.place_is
 
   -- AFTER A SERVE the board is not spoilt, and reads as the rules' next board
   pub serve_known : Known (good_serve b ids lens).board ids lens × (view (good_serve b ids lens).board ids lens ≡ (serve m).next)
@@ -157,46 +151,38 @@ sent_first_lem bytes count total list r h next m x v m-is x-is v-is =
         totals : total + (bytes_charged r + rest.total) ≡ total + bytes_charged r + rest.total
         totals = omega arith
 
-module _ (b : struct.Board) (ids lens : List ℕ) (known : Known b ids lens) (bytes count total : ℕ) (list : List ℕ) (w : Within)
-    (w-is : w ≡ within b lens (bytes - total) (length list - count)) where
+-- n is the board that the engine leaves
+module _ (b : struct.Board) (ids lens : List ℕ) (known : Known b ids lens) (bytes count total : ℕ) (list : List ℕ) (n : struct.Board)
+    (n-is : n ≡ with_engine b (engine_of n)) where
   abbrev mb : Board.Board
   mb = view b ids lens
 
-  cases : Stops mb (bytes - total) (length list - count) w ⊎ SendsOne mb ids lens (bytes - total) (length list - count) w
-  cases = by_cases b ids lens known (bytes - total) (length list - count) w w-is
-
-  -- it stops; n is the board made again
-  pub burst_stop : w.step.code ≢ 0 → (n : struct.Board) → n ≡ with_engine b (engine_after w)
-      → burst_now (record { count = count; bytes = record { 0 = total }; code = w.step.code; board = n }) list ≡ burst_from b ids lens bytes count total list
+  -- it stops
+  pub burst_stop : (e : Refusal) → within_in (Err e) n ≡ within b lens (bytes - total) (length list - count)
+      → burst_now (record { count = count; bytes = record { 0 = total }; code = refusal_code e; board = n }) list
+      ≡ burst_from b ids lens bytes count total list
   unfolding burst_from
-  burst_stop ne n n-is = go cases
+  burst_stop e w-is =
+      rw s.burst_is (λ j. burst_now
+      (record { count = sym (add-zero count) j; bytes = record { 0 = sym (add-zero total) j }; code = refusal_code e; board = board j })
+      (sym (take-append-drop count list) j))
     where
-      go : Stops mb (bytes - total) (length list - count) w ⊎ SendsOne mb ids lens (bytes - total) (length list - count) w
-          → burst_now (record { count = count; bytes = record { 0 = total }; code = w.step.code; board = n }) list
-          ≡ burst_from b ids lens bytes count total list
-      go (inr g) = absurd (ne g.code)
-      go (inl s) =
-          rw s.burst_is (λ j. burst_now
-          (record { count = sym (add-zero count) j; bytes = record { 0 = sym (add-zero total) j }; code = w.step.code; board = board j })
-          (sym (take-append-drop count list) j))
-        where
-          board : n ≡ encode mb
-          board =
-              n-is ∙ ap (λ (x : Within). with_engine b (engine_after x)) s.same
-              ∙ ap (λ (c : struct.Board). with_engine c (engine_of (encode mb))) (sym (spells b ids lens known))
+      s : Stops mb (bytes - total) (length list - count) (within_in (Err e) n)
+      s = stops_in b ids lens known n (bytes - total) (length list - count) e w-is
+
+      board : n ≡ encode mb
+      board = stops_left b ids lens known n (bytes - total) (length list - count) (Err e) n-is s ∙ sym (spells b ids lens known)
 
   -- it goes on
-  module _ (z : w.step.code ≡ 0) where
-    goes : SendsOne mb ids lens (bytes - total) (length list - count) w
-    goes = go cases
-      where
-        go : Stops mb (bytes - total) (length list - count) w ⊎ SendsOne mb ids lens (bytes - total) (length list - count) w
-            → SendsOne mb ids lens (bytes - total) (length list - count) w
-        go (inl s) = absurd (s.code z)
-        go (inr g) = g
+  module _ (s : told.Served) (w-is : within_in (Ok s) n ≡ within b lens (bytes - total) (length list - count)) where
+    goes : SendsOne mb ids lens (bytes - total) (length list - count) (within_in (Ok s) n)
+    goes = sent_in b ids lens known n (bytes - total) (length list - count) s w-is
 
-    next_is : with_engine b (engine_after w) ≡ encode (serve mb).next
-    next_is = after_is b ids lens known w goes.next
+    next_is : n ≡ encode (serve mb).next
+    next_is = sent_left b ids lens known n (bytes - total) (length list - count) (Ok s) n-is goes
+
+    pub on_inside : s.entry < 2048
+    on_inside = goes.entry
 
     pub on_room : count < length list
     on_room = go (split (length list) count)
@@ -205,22 +191,22 @@ module _ (b : struct.Board) (ids lens : List ℕ) (known : Known b ids lens) (by
         go (inl h) = absurd (goes.some (omega arith))
         go (inr h) = h
 
-    pub on_fits : w.step.bytes.0 ≤ bytes - total
+    pub on_fits : s.bytes.0 ≤ bytes - total
     on_fits = rw goes.charge_is goes.fits
 
-    pub on_known : Known (with_engine b (engine_after w)) ids lens
+    pub on_known : Known n ids lens
     on_known = subst (λ (c : struct.Board). Known c ids lens) (sym next_is) (known_next b ids lens known goes.holds)
 
-    view_is : view (with_engine b (engine_after w)) ids lens ≡ (serve mb).next
+    view_is : view n ids lens ≡ (serve mb).next
     view_is = ap (λ (c : struct.Board). view c ids lens) next_is ∙ view_encode (serve mb).next ids lens (fit_serve mb (fit b ids lens known)) goes.holds
 
     pub burst_on : burst_from b ids lens bytes count total list
-        ≡ burst_from (with_engine b (engine_after w)) ids lens bytes (count + 1) (total + w.step.bytes.0) (set list count (get_or ids w.step.entry 0))
+        ≡ burst_from n ids lens bytes (count + 1) (total + s.bytes.0) (set list count (get_or ids s.entry 0))
     unfolding burst_from
     burst_on =
         ap (then count total list) goes.burst_is
-        ∙ sent_first_lem bytes count total list goes.sends.front on_room (serve mb).next (view (with_engine b (engine_after w)) ids lens) w.step.bytes.0
-        (get_or ids w.step.entry 0) view_is goes.charge_is goes.number_is
+        ∙ sent_first_lem bytes count total list goes.sends.front on_room (serve mb).next (view n ids lens) s.bytes.0
+        (get_or ids s.entry 0) view_is goes.charge_is goes.number_is
 
 -- so many serves leave a board whose lanes the tables hold
 burst_kept : (room bytes : ℕ) (m : Board.Board) (ids lens : List ℕ) → Fit m → Holds m ids lens

@@ -1,6 +1,9 @@
 -- THE PROMISES of a serve and of a burst, from what the rules say of them (crate rules, specs/Calls.antt).
 use Rattle.std.proofs.Math.Option.{Option, none, some}
-use Rattle.std.specs.Prelude.{List, ◌++◌, ℕ, length, drop}
+use Rattle.std.specs.Prelude.{Result, Ok, Err, List, ◌++◌, ℕ, length, drop}
+use Rattle.numbers.specs.declared.refusal.Refusal.{Refusal}
+use Rattle.numbers.specs.Codes.{refusal_code}
+use Rattle.units.specs.declared.Bytes.{Bytes}
 use Rattle.rules.specs.Board
 use Rattle.rules.specs.Choice.{serve}
 use Rattle.rules.specs.Burst.{Burst, burst}
@@ -9,14 +12,30 @@ use Rattle.board.specs.declared.Board as struct
 use Rattle.board.specs.Reading.{encode, view}
 use Rattle.board.specs.Leaving.{Returned, returned, ids_after, lens_after, spelt}
 use Rattle.calls.specs.Promises.{lent}
-use Rattle.calls.specs.declared.Served.{Served}
+use Rattle.calls.specs.declared.Sent.{Sent}
 use Rattle.calls.specs.declared.Bursted.{Bursted}
 
 -- ---- A serve. It is lent both tables and changes no entry
 
+-- its answer: its code; the block that is served, the number and the length of the record sent, and the slot's clock;
+-- and the board
+pub record Served : Type 0 where
+  pub code : ℕ
+  pub block : ℕ
+  pub number : ℕ
+  pub length : ℕ
+  pub clock : ℕ
+  pub board : struct.Board
+
 -- A refusal carries its code and no other number, and the board is the same value.
 abbrev pub not_served : struct.Board → (code : ℕ) → Served
 not_served b code = record { code = code; block = 0; number = 0; length = 0; clock = 0; board = b }
+
+-- what the call comes to, and the board that it leaves
+abbrev pub served_in : Result Sent Refusal → struct.Board → Served
+served_in (Ok s) b =
+    record { code = 0; block = s.block; number = s.number; length = s.length; clock = s.clock; board = b }
+served_in (Err r) b = not_served b (refusal_code r)
 
 -- what the rules tell, and their next board written
 abbrev pub served_by : struct.Board → Answer → Board.Board → Served
@@ -31,15 +50,26 @@ good_serve b ids lens = let m = view b ids lens in served_by b (told m (serve m)
 
 -- ---- A burst. Of the lent list only the first entries, as many as the count, are written
 
+-- its answer: how many records it sent, the bytes they total, and the code that stopped it; and the board
+pub record BurstReply : Type 0 where
+  pub count : ℕ
+  pub bytes : Bytes
+  pub code : ℕ
+  pub board : struct.Board
+
 pub record BurstOutcome : Type 0 where
-  pub answer : Bursted
+  pub answer : BurstReply
   pub list : List ℕ
 
-abbrev pub burst_now : Bursted → (list : List ℕ) → BurstOutcome
+abbrev pub burst_now : BurstReply → (list : List ℕ) → BurstOutcome
 burst_now answer list = record { answer = answer; list = list }
 
-abbrev pub burst_reply : (count total code : ℕ) → struct.Board → Bursted
+abbrev pub burst_reply : (count total code : ℕ) → struct.Board → BurstReply
 burst_reply count total code b = record { count = count; bytes = record { 0 = total }; code = code; board = b }
+
+-- what the call comes to, and the board that it leaves
+abbrev pub bursted_in : Bursted → struct.Board → BurstReply
+bursted_in r b = burst_reply r.count r.bytes.0 (refusal_code r.stopped) b
 
 abbrev pub burst_by : Burst → (list : List ℕ) → BurstOutcome
 burst_by r list =

@@ -5,9 +5,8 @@ use Rattle.std.proofs.Math.Option.{none, some}
 use Rattle.rules.specs.Board.{fresh}
 use Rattle.rules.specs.Calls.{Single, one, Lent, call, make}
 use Rattle.board.specs.declared.Board as struct
-use Rattle.board.specs.declared.Reply.{Reply}
 use Rattle.board.specs.Reading.{encode, view, is_spelt}
-use Rattle.board.specs.Leaving.{Returned, written}
+use Rattle.board.specs.Leaving.{Reply, Returned, written}
 
 -- ---- A call on any value: 3, then 2, then what the rules say
 

@@ -25,11 +25,9 @@ use Rattle.rules.specs.Promises.{InRange}
 use Rattle.rules.proofs.Shape.{Shape}
 use Rattle.rules.proofs.Promises.{run_is_row}
 use Rattle.board.proofs.Sound.{fit_view}
-use Rattle.board.specs.declared.Reply.{Reply}
-use Rattle.calls.specs.declared.Served.{Served}
-use Rattle.board.specs.Leaving.{Known, Returned, returned, ruled}
+use Rattle.board.specs.Leaving.{Reply, Known, Returned, returned, ruled}
 use Rattle.calls.specs.Promises.{made}
-use Rattle.calls.specs.Contract.{served_by, good_serve, BurstOutcome, burst_now, good_burst}
+use Rattle.calls.specs.Contract.{Served, served_by, good_serve, BurstOutcome, burst_now, good_burst}
 use Rattle.board.specs.Memory.{Holding}
 use Rattle.chains.specs.Chains.{is_record, reply_tells, served_tells, burst_tells, by_reply, by_serve, by_burst, Chain, stops, goes, Made, answers_of}
 use Rattle.chains.specs.Demands.{reads, KnownHolding, CallAgrees, IsRun, ChainIsRun, ChainOfRun}

@@ -32,11 +32,9 @@ use Rattle.rules.proofs.Promises
 use Rattle.rules.proofs.Promises.{play_join}
 use Rattle.board.specs.declared.Board as struct
 use Rattle.board.specs.Reading.{view}
-use Rattle.board.specs.declared.Reply.{Reply}
-use Rattle.board.specs.Leaving.{Returned}
+use Rattle.board.specs.Leaving.{Reply, Returned}
 use Rattle.calls.specs.Promises.{called, made}
-use Rattle.calls.specs.declared.Served.{Served}
-use Rattle.calls.specs.Contract.{BurstOutcome, called_serve, called_burst}
+use Rattle.calls.specs.Contract.{Served, BurstOutcome, called_serve, called_burst}
 use Rattle.board.specs.Memory.{Holding}
 use Rattle.chains.specs.Chains.{reply_tells, served_tells, burst_tells, Did, by_reply, by_serve, by_burst, Chain, stops, goes, Made}
 use Rattle.chains.specs.Demands.{reads, clock, bytes_in, slot_bytes, NoneRefused, NotSpent, Unsent, story, last_slot, slot_after, HasRow, SameBytes, Agrees}

@@ -13,7 +13,6 @@ use Rattle.rules.specs.Board.{Record, fresh}
 use Rattle.rules.specs.Burst.{burst}
 use Rattle.rules.specs.Calls.{Single, serve!, one, burst!, Answer, gives, takes, sends, bursts, code_of, Entries, kept, Outcome, wrong_tables, make_by, done! }
 use Rattle.rules.specs.Calls.{call, make}
-use Rattle.rules.specs.Runs
 use Rattle.rules.specs.Runs.{play, records_in}
 use Rattle.rules.specs.Promises.{KeepsAll, serves}
 use Rattle.rules.proofs.Refusals.{call_by, stop_else, burst_codes}
@@ -21,12 +20,9 @@ use Rattle.rules.proofs.Promises
 use Rattle.board.specs.declared.Board as struct
 use Rattle.board.specs.Reading.{encode, view, Sound, is_spelt}
 use Rattle.board.proofs.Sound.{spelt_decides}
-use Rattle.board.specs.declared.Reply.{Reply}
-use Rattle.calls.specs.declared.Served.{Served}
-use Rattle.calls.specs.declared.Bursted.{Bursted}
-use Rattle.board.specs.Leaving.{Returned, returned, ids_after, lens_after, spelt, board_after, written}
+use Rattle.board.specs.Leaving.{Reply, Returned, returned, ids_after, lens_after, spelt, board_after, written}
 use Rattle.calls.specs.Promises.{lent, called, made}
-use Rattle.calls.specs.Contract.{served_by, board_or, BurstOutcome, burst_now, bursted_by, called_serve, called_burst}
+use Rattle.calls.specs.Contract.{Served, BurstReply, served_by, board_or, BurstOutcome, burst_now, bursted_by, called_serve, called_burst}
 use Rattle.calls.proofs.Making.{refused_spoilt}
 use Rattle.board.specs.Memory.{Holding}
 use Rattle.chains.specs.Chains.{is_record, reply_tells, served_tells, Did, by_reply, by_serve}
@@ -142,7 +138,7 @@ burst_kept b ids lens bytes list = call_by (lent b ids lens) (burst! bytes list)
     does m e (inr (inr z)) = let n = none_sent m bytes (length list) z in
         (ap encode n.0 ∙ lent_some b ids lens m e, ap (λ (l : List ℕ). l ++ drop (length l) list) n.1)
 
-refused_burst : (s : Holding) (bytes : ℕ) (list : List ℕ) (r : Bursted) (list' ids lens : List ℕ)
+refused_burst : (s : Holding) (bytes : ℕ) (list : List ℕ) (r : BurstReply) (list' ids lens : List ℕ)
     → returned (burst_now r list') ids lens ≡ called_burst s.board s.ids s.lens bytes list
     → (r.code ≡ 3) ⊎ ((r.code ≡ 2) ⊎ (r.count ≡ 0))
     → (r.board ≡ s.board) × (ids ≡ s.ids) × (lens ≡ s.lens) × (list' ≡ list)

@@ -18,9 +18,8 @@ use Rattle.rules.specs.Promises.{OfRun, serves, IsServes}
 use Rattle.rules.proofs.Tidy.{Tidy}
 use Rattle.rules.proofs.Promises.{play_join, run_is_row, burst_is_serves}
 use Rattle.board.proofs.Sound.{sound_one}
-use Rattle.calls.specs.declared.Bursted.{Bursted}
 use Rattle.board.specs.Leaving.{Returned, returned}
-use Rattle.calls.specs.Contract.{BurstOutcome, burst_now, good_burst, called_serve, called_burst}
+use Rattle.calls.specs.Contract.{BurstReply, BurstOutcome, burst_now, good_burst, called_serve, called_burst}
 use Rattle.calls.proofs.Calling
 use Rattle.board.specs.Memory.{Holding}
 use Rattle.chains.specs.Chains.{served_tells, burst_tells, Did, by_reply, by_serve, by_burst, Chain, stops, goes, Made, answers_of}
@@ -202,7 +201,7 @@ serving (suc n) s =
       lens = t.lens ∙ kept.1;
     }
 
-pub burst_is : (m : Holding) (bytes : ℕ) (list : List ℕ) (r : Bursted) (list' ids lens : List ℕ) → KnownHolding m
+pub burst_is : (m : Holding) (bytes : ℕ) (list : List ℕ) (r : BurstReply) (list' ids lens : List ℕ) → KnownHolding m
     → returned (burst_now r list') ids lens ≡ called_burst m.board m.ids m.lens bytes list → BurstIs m list r list' ids lens
 unfolding good_burst
 burst_is m bytes list r list' ids lens k p = record {

@@ -14,7 +14,7 @@ use Rattle.rules.specs.Board.{at, bytes_charged, no_record, block_class, fresh}
 use Rattle.rules.specs.Choice.{Turn, is_none, upd, go_on, joining, joins, more, taken_in, emptied, short, going, ended, send_from, send, begin, chosen}
 use Rattle.rules.specs.Choice.{left_after}
 use Rattle.rules.specs.Blocks.{closed}
-use Rattle.rules.specs.Calls.{Single, step, takes, told}
+use Rattle.rules.specs.Calls.{Single, step, told}
 use Rattle.rules.specs.Runs
 use Rattle.rules.specs.Runs.{play, answer, is_for, clock_of, closes, number_after}
 use Rattle.rules.proofs.Tidy.{Tidy}

@@ -5,13 +5,10 @@ use Rattle.rules.specs.Board
 use Rattle.rules.specs.Calls.{Single, open!, rename!, close!, record!, serve!, Call, one, burst!, Answer, gives, takes}
 use Rattle.rules.specs.Calls.{sends, bursts, done! }
 use Rattle.rules.specs.Runs.{is_serve, leaves}
-use Rattle.board.specs.declared.Reply.{Reply}
 use Rattle.board.specs.Memory.{Holding}
-use Rattle.calls.specs.declared.Served.{Served}
-use Rattle.calls.specs.declared.Bursted.{Bursted}
-use Rattle.board.specs.Leaving.{returned}
+use Rattle.board.specs.Leaving.{Reply, returned}
 use Rattle.calls.specs.Promises.{called, made}
-use Rattle.calls.specs.Contract.{burst_now, called_serve, called_burst}
+use Rattle.calls.specs.Contract.{Served, BurstReply, burst_now, called_serve, called_burst}
 
 -- ---- An answer's number and values, in the rules' words
 
@@ -30,7 +27,7 @@ served_tells r =
     cond (eqb r.code 0)
     (sends (record { block = r.block; number = r.number; bytes = r.length; clock = r.clock })) (gives r.code)
 
-abbrev pub burst_tells : Bursted → Answer
+abbrev pub burst_tells : BurstReply → Answer
 burst_tells r = bursts (record { count = r.count; total = r.bytes.0; code = r.code })
 
 -- ---- A call of a chain: its promise holds of what it was given and of what it left
@@ -42,7 +39,7 @@ pub data Did (s : Holding) : Call → Answer → Holding → Type 0 where
   by_serve : (r : Served) (ids lens : List ℕ)
       → returned r ids lens ≡ called_serve s.board s.ids s.lens
       → Did s (one serve!) (served_tells r) (record { board = r.board; ids = ids; lens = lens })
-  by_burst : (bytes : ℕ) (list : List ℕ) (r : Bursted) (list' ids lens : List ℕ)
+  by_burst : (bytes : ℕ) (list : List ℕ) (r : BurstReply) (list' ids lens : List ℕ)
       → returned (burst_now r list') ids lens ≡ called_burst s.board s.ids s.lens bytes list
       → Did s (burst! bytes list) (burst_tells r) (record { board = r.board; ids = ids; lens = lens })
 

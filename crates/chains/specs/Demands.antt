@@ -17,11 +17,9 @@ use Rattle.rules.specs.Runs.{answer, leaves, runs, lane_of, is_for, record_of, n
 use Rattle.rules.specs.Runs.{bytes_at, serves_in, Story, begins, goes_on, tells}
 use Rattle.rules.specs.Promises.{OfRun, Accounted, InRange, bound, serves}
 use Rattle.board.specs.Reading.{encode, view, Sound}
-use Rattle.calls.specs.declared.Bursted.{Bursted}
-use Rattle.board.specs.declared.Reply.{Reply}
-use Rattle.board.specs.Leaving.{returned, Known}
+use Rattle.board.specs.Leaving.{Reply, returned, Known}
 use Rattle.calls.specs.Promises.{made}
-use Rattle.calls.specs.Contract.{burst_now, called_burst}
+use Rattle.calls.specs.Contract.{BurstReply, burst_now, called_burst}
 use Rattle.board.specs.Memory.{Holding}
 use Rattle.chains.specs.Chains.{burst_tells, Did, Chain, Made, answers_of}
 
@@ -98,7 +96,7 @@ pub data SpeltOut : List Call → List Answer → List Single → List Answer �
   over : SpeltOut [] [] [] []
   single : {cs : List Call} {told said : List Answer} {xs : List Single} (x : Single) (a : Answer)
       → SpeltOut cs told xs said → SpeltOut (one x ∷ cs) (a ∷ told) (x ∷ xs) (a ∷ said)
-  as_serves : {cs : List Call} {told said : List Answer} {xs : List Single} (bytes : ℕ) (list : List ℕ) (r : Bursted)
+  as_serves : {cs : List Call} {told said : List Answer} {xs : List Single} (bytes : ℕ) (list : List ℕ) (r : BurstReply)
       (sent : List Sent)
       → length sent ≡ r.count → sum (λ (s : Sent). charged s.bytes) sent ≡ r.bytes.0
       → SpeltOut cs told xs said
@@ -126,7 +124,7 @@ SameBytes = (s e : Holding) (cs : List Call) (told : List Answer) (xs : List Sin
 
 -- A burst of a chain: the single serving calls that it is, from the value that it was given to the value that it left;
 -- the list's first entries are their records' numbers, and the others are as they were.
-pub record BurstIs (m : Holding) (list : List ℕ) (r : Bursted) (list' ids lens : List ℕ) : Type 0 where
+pub record BurstIs (m : Holding) (list : List ℕ) (r : BurstReply) (list' ids lens : List ℕ) : Type 0 where
   pub sent : List Sent
   pub serving :
       Chain m (map one (serves (length sent))) (map sends sent) (record { board = r.board; ids = ids; lens = lens })
@@ -136,7 +134,7 @@ pub record BurstIs (m : Holding) (list : List ℕ) (r : Bursted) (list' ids lens
 
 abbrev pub BurstIsServes : Type 0
 BurstIsServes = (L : ℕ) (s m : Holding) (before : List Call) (told₁ : List Answer) → Made L s → Chain s before told₁ m
-    → (bytes : ℕ) (list : List ℕ) (r : Bursted) (list' ids lens : List ℕ)
+    → (bytes : ℕ) (list : List ℕ) (r : BurstReply) (list' ids lens : List ℕ)
     → returned (burst_now r list') ids lens ≡ called_burst m.board m.ids m.lens bytes list
     → BurstIs m list r list' ids lens
 
@@ -146,7 +144,7 @@ pub record RefusalChangesNothing : Type 0 where
   -- a single call that is answered any code but 0
   pub single : (s m : Holding) (x : Single) (a : Answer) → Did s (one x) a m → code_of a ≢ 0 → m ≡ s
   -- a burst that is answered 3 or 2, or that sent nothing, whatever its code; its list too
-  pub burst : (s : Holding) (bytes : ℕ) (list : List ℕ) (r : Bursted) (list' ids lens : List ℕ)
+  pub burst : (s : Holding) (bytes : ℕ) (list : List ℕ) (r : BurstReply) (list' ids lens : List ℕ)
       → returned (burst_now r list') ids lens ≡ called_burst s.board s.ids s.lens bytes list
       → (r.code ≡ 3) ⊎ ((r.code ≡ 2) ⊎ (r.count ≡ 0))
       → (r.board ≡ s.board) × (ids ≡ s.ids) × (lens ≡ s.lens) × (list' ≡ list)

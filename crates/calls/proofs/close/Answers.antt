@@ -1,17 +1,18 @@
--- `calls::close` meets its contract: a code but 0 that comes before all others refuses the call (early_reply); else the
--- value is known, and what the rules say is the promise (called_known). Assumes nothing.
-use mathlib.Core.Path.{◌∙◌}
-use Rattle.calls.proofs.Calling.{called_known, early_reply}
+-- `calls::close` meets its contract: a refusal that comes before all others refuses the call (early_reply); else the value
+-- is known, and what the rules say is the promise (called_left). Assumes nothing.
+use mathlib.Core.Path.{refl}
+use borrow.Author.Rules.{rules}
+use Rattle.blocks.proofs.Answers.{close_needs, close_known}
+use Rattle.calls.proofs.Calling.{called_left, early_reply}
 use Rattle.calls.proofs.close.Goals as goal
 
-pub returns-then-code-ne-DONE : goal.returns-then-code-ne-DONE
-returns-then-code-ne-DONE c =
-    early_reply _ _ _ c.early-code.result c.early-code.ensures.0 _ c.if-code-ne-DONE.true
+pub returns-in_err-early : goal.returns-in_err-early
+returns-in_err-early c = early_reply _ _ _ _ c.in_err-early.ensures.early _ _ (search rules)
 
-pub close_block-requires : goal.close_block-requires
-close_block-requires c =
-    c.early-code.ensures.1 c.if-code-ne-DONE.false
+pub close_in-requires : goal.close_in-requires
+close_in-requires c = close_needs _ _ _ (c.in_ok-early.ensures.known refl)
 
 pub returns : goal.returns
 returns c =
-    c.close_block.ensures ∙ called_known _ _ _ (c.early-code.ensures.1 c.if-code-ne-DONE.false) _
+    let k = c.in_ok-early.ensures.known refl in
+    called_left _ _ _ k _ _ _ _ _ _ c.close_in.ensures.rest (close_known _ _ _ k _ _ c.close_in.ensures.closed)

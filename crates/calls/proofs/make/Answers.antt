@@ -5,37 +5,36 @@ use Rattle.calls.specs.Promises.{made}
 use Rattle.rules.specs.Calls.{make}
 use Rattle.board.specs.declared.Board as struct
 use Rattle.board.specs.Leaving.{Returned, returned, replied}
-use mathlib.Core.Path.{ap}
-use borrow.Author.Tests.{lt-leb, le-leb}
+use mathlib.Core.Path.{◌≡◌, ap}
+use mathlib.Core.Bool.{◌&&◌}
+use lib.Dec.{leb}
+use borrow.Author.Rules.{rules}
+use Rattle.calls.proofs.make.Goals.{After-contains}
+use Rattle.calls.proofs.make.Goals.{then-ids-ne-TABLE_ENTRIES-via-then-ids-ne-TABLE_ENTRIES}
+use Rattle.calls.proofs.make.Goals.{then-ids-ne-TABLE_ENTRIES-via-else-ids-ne-TABLE_ENTRIES+then-lens-ne-TABLE_ENTRIES}
 use Rattle.calls.proofs.make.Goals as goal
 
 pub returns-then-ids-ne-TABLE_ENTRIES : goal.returns-then-ids-ne-TABLE_ENTRIES
 unfolding made make
 returns-then-ids-ne-TABLE_ENTRIES c =
-    rw (ids_wrong _ _ c.if-ids-ne-TABLE_ENTRIES.true, c.blank.ensures)
+    elim c.then-ids-ne-TABLE_ENTRIES.branch [
+      | then-ids-ne-TABLE_ENTRIES-via-then-ids-ne-TABLE_ENTRIES w ↦ rw (ids_wrong _ _ w.if-ids-ne-TABLE_ENTRIES.true, c.blank.ensures)
+      | then-ids-ne-TABLE_ENTRIES-via-else-ids-ne-TABLE_ENTRIES+then-lens-ne-TABLE_ENTRIES w ↦
+          rw (lens_wrong _ _ w.if-lens-ne-TABLE_ENTRIES.true, c.blank.ensures)
+    ]
 
-pub returns-then-lens-ne-TABLE_ENTRIES : goal.returns-then-lens-ne-TABLE_ENTRIES
-unfolding made make
-returns-then-lens-ne-TABLE_ENTRIES c =
-    rw (lens_wrong _ _ c.if-lens-ne-TABLE_ENTRIES.true, c.blank-then-lens-ne-TABLE_ENTRIES.ensures)
+-- L is in its range, as the test found it
+in_range : (c : After-contains) → c.contains.result ≡ (leb 64 c.args.largest && leb c.args.largest 2048)
+in_range c = search rules
 
-pub returns-then-largest-lt-LEAST_LARGEST : goal.returns-then-largest-lt-LEAST_LARGEST
+pub returns-then-not-contains : goal.returns-then-not-contains
 unfolding made make
-returns-then-largest-lt-LEAST_LARGEST c =
+returns-then-not-contains c =
     rw (
       none_wrong _ _ c.if-ids-ne-TABLE_ENTRIES.false c.if-lens-ne-TABLE_ENTRIES.false,
-      lt-leb _ _ c.if-largest-lt-LEAST_LARGEST.true,
-      c.blank-then-largest-lt-LEAST_LARGEST.ensures,
-    )
-
-pub returns-then-largest-gt-GREATEST_LARGEST : goal.returns-then-largest-gt-GREATEST_LARGEST
-unfolding made make
-returns-then-largest-gt-GREATEST_LARGEST c =
-    rw (
-      none_wrong _ _ c.if-ids-ne-TABLE_ENTRIES.false c.if-lens-ne-TABLE_ENTRIES.false,
-      le-leb _ _ c.if-largest-lt-LEAST_LARGEST.false,
-      lt-leb _ _ c.if-largest-gt-GREATEST_LARGEST.true,
-      c.blank-then-largest-gt-GREATEST_LARGEST.ensures,
+      ← in_range (goal.at.returns-then-not-contains c).After-contains,
+      c.if-not-contains.true,
+      c.blank.ensures,
     )
 
 pub returns : goal.returns
@@ -43,7 +42,7 @@ unfolding made make
 returns c =
     rw (
       none_wrong _ _ c.if-ids-ne-TABLE_ENTRIES.false c.if-lens-ne-TABLE_ENTRIES.false,
-      le-leb _ _ c.if-largest-lt-LEAST_LARGEST.false,
-      le-leb _ _ c.if-largest-gt-GREATEST_LARGEST.false,
+      ← in_range (goal.at.returns c).After-contains,
+      c.if-not-contains.false,
     )
     (ap (λ (w : Returned struct.Board). returned (replied 0 w.reply) w.ids w.lens) c.make_in.ensures)

@@ -1,17 +1,15 @@
--- `calls::rename` meets its contract: a code but 0 that comes before all others refuses the call (early_reply); else
--- the value is known, and what the rules say is the promise (called_known). Assumes nothing.
-use mathlib.Core.Path.{◌∙◌}
-use Rattle.calls.proofs.Calling.{called_known, early_reply}
+-- `calls::rename` meets its contract: a refusal that comes before all others refuses the call (early_reply); else the value
+-- is known, and what the rules say is the promise (called_left). Assumes nothing.
+use mathlib.Core.Path.{refl}
+use borrow.Author.Rules.{rules}
+use Rattle.blocks.proofs.Answers.{rename_known}
+use Rattle.calls.proofs.Calling.{called_left, early_reply}
 use Rattle.calls.proofs.rename.Goals as goal
 
-pub returns-then-code-ne-DONE : goal.returns-then-code-ne-DONE
-returns-then-code-ne-DONE c =
-    early_reply _ _ _ c.early-code.result c.early-code.ensures.0 _ c.if-code-ne-DONE.true
-
-pub rename_block-requires : goal.rename_block-requires
-rename_block-requires c =
-    c.early-code.ensures.1 c.if-code-ne-DONE.false
+pub returns-in_err-early : goal.returns-in_err-early
+returns-in_err-early c = early_reply _ _ _ _ c.in_err-early.ensures.early _ _ (search rules)
 
 pub returns : goal.returns
 returns c =
-    c.rename_block.ensures ∙ called_known _ _ _ (c.early-code.ensures.1 c.if-code-ne-DONE.false) _
+    let k = c.in_ok-early.ensures.known refl in
+    called_left _ _ _ k _ _ _ _ _ _ c.rename_in.ensures.rest (rename_known _ _ _ k _ _ _ c.rename_in.ensures.renamed)

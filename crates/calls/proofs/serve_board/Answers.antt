@@ -1,42 +1,42 @@
 -- `calls::serve_board` meets its contract: a serve is one with room for a record and bytes for any. Assumes nothing.
 use Prim.Native.Nat.{◌<◌}
 use native.Mathlib.Omega.{arith}
-use Rattle.serving.proofs.Known.{can_known, sent_index}
+use borrow.Author.Rules.{rules}
+use Rattle.serving.proofs.Known.{can_known, sent_in}
 use Rattle.calls.proofs.Promises.{serve_stops, serve_goes}
-use Rattle.calls.proofs.serve_board.Goals.{Else-s-ne-DONE}
+use Rattle.calls.proofs.serve_board.Goals.{In_ok-served}
 use Rattle.calls.proofs.serve_board.Goals as goal
 
 -- where a record was sent, its place and its entry
-sent : (c : Else-s-ne-DONE) → (c.serve_within-s.result.place < 64) × (c.serve_within-s.result.entry < 2048)
-sent c = sent_index _ _ _ c.requires _ _ _ c.serve_within-s.ensures c.if-s-ne-DONE.false
+sent : (c : In_ok-served) → (c.in_ok-served.served.place < 64) × (c.in_ok-served.served.entry < 2048)
+sent c =
+    let g = sent_in _ _ _ c.requires c.serve_within.new.b _ _ _ c.in_ok-served.ensures.served in
+    (g.inside, g.entry)
 
-pub serve_within-s-requires : goal.serve_within-s-requires
-serve_within-s-requires c = can_known _ _ _ c.requires
+pub serve_within-requires : goal.serve_within-requires
+serve_within-requires c = can_known _ _ _ c.requires
 
-pub returns-then-s-ne-DONE : goal.returns-then-s-ne-DONE
-returns-then-s-ne-DONE c =
-    serve_stops _ _ _ c.requires 65536 (omega arith) _ c.serve_within-s.ensures c.if-s-ne-DONE.true
+pub returns-in_err-served : goal.returns-in_err-served
+returns-in_err-served c =
+    serve_stops _ _ _ c.requires 65536 (omega arith) _ c.in_err-served.ensures.rest _ c.in_err-served.ensures.served _ (search rules)
 
-pub offset_bounds-b-place : goal.offset_bounds-b-place
-offset_bounds-b-place c = omega (arith, (sent (goal.at.offset_bounds-b-place c).Else-s-ne-DONE).0)
+pub offset_bounds-b-served : goal.offset_bounds-b-served
+offset_bounds-b-served c = omega (arith, (sent (goal.at.offset_bounds-b-served c).In_ok-served).0)
 
-pub bounds-b-place : goal.bounds-b-place
-bounds-b-place c = omega (arith, (sent (goal.at.bounds-b-place c).Else-s-ne-DONE).0)
+pub bounds-b-served : goal.bounds-b-served
+bounds-b-served c = (sent (goal.at.bounds-b-served c).In_ok-served).0
 
-pub offset_bounds-ids-entry : goal.offset_bounds-ids-entry
-offset_bounds-ids-entry c = omega (arith, (sent (goal.at.offset_bounds-ids-entry c).Else-s-ne-DONE).1)
+pub offset_bounds-ids-served : goal.offset_bounds-ids-served
+offset_bounds-ids-served c = omega (arith, (sent (goal.at.offset_bounds-ids-served c).In_ok-served).1)
 
-pub bounds-ids-entry : goal.bounds-ids-entry
-bounds-ids-entry c =
-    omega (arith, (sent (goal.at.bounds-ids-entry c).Else-s-ne-DONE).1, c.requires.ids_all)
+pub bounds-ids-served : goal.bounds-ids-served
+bounds-ids-served c = omega (arith, (sent (goal.at.bounds-ids-served c).In_ok-served).1, c.requires.ids_all)
 
-pub offset_bounds-lens-entry : goal.offset_bounds-lens-entry
-offset_bounds-lens-entry c = omega (arith, (sent (goal.at.offset_bounds-lens-entry c).Else-s-ne-DONE).1)
+pub offset_bounds-lens-served : goal.offset_bounds-lens-served
+offset_bounds-lens-served c = omega (arith, (sent (goal.at.offset_bounds-lens-served c).In_ok-served).1)
 
-pub bounds-lens-entry : goal.bounds-lens-entry
-bounds-lens-entry c =
-    omega (arith, (sent (goal.at.bounds-lens-entry c).Else-s-ne-DONE).1, c.requires.lens_all)
+pub bounds-lens-served : goal.bounds-lens-served
+bounds-lens-served c = omega (arith, (sent (goal.at.bounds-lens-served c).In_ok-served).1, c.requires.lens_all)
 
 pub returns : goal.returns
-returns c =
-    serve_goes _ _ _ c.requires 65536 (omega arith) _ c.serve_within-s.ensures c.if-s-ne-DONE.false _ c.packed-board.ensures
+returns c = serve_goes _ _ _ c.requires 65536 (omega arith) _ c.in_ok-served.ensures.rest _ c.in_ok-served.ensures.served
