@@ -203,10 +203,6 @@ module _ (at : ℕ) (stage : Stage) (kept part : List ℕ) (next : Next) (room :
           ∙ sym (known_by_looks at part (joined kept 0 part []) m stage (λ i l. looks_first [] i (omega (arith, l, (first_few at stage part next is m h).0))))
           ∙ ap (λ (k : ℕ). next_in at part k stage) (first_few at stage part next is m h).0 ∙ sym is ∙ h
 
-pub first_kept : (kept part after : List ℕ) (count : ℕ) → count ≡ kept_of (tag_in part) (length part) → Behind kept 0 part count after
-    → FirstKept kept part after
-first_kept kept part after count e b = record { same = b.same; first = λ h. subst (λ (n : ℕ). Behind kept 0 part n after) e b }
-
 -- Behind what is kept so many bytes more are read as the field wants and the part has.
 module _ (at : ℕ) (stage : Stage) (kept : List ℕ) (came : ℕ) (part : List ℕ) (wanted more : ℕ) (room : length kept ≡ 13)
     (p : next_in at kept came stage ≡ Unfinished came) (w : wanted ≡ wanted_of kept came) (m : more ≡ min wanted (length part)) where

@@ -6,8 +6,6 @@ use lib.Dec.{leb}
 use Rattle.log_bytes.specs.declared.Stage.TheVariants.{BeforeL}
 use Rattle.log_bytes.specs.declared.Event.{Event}
 use Rattle.log_bytes.specs.declared.Event.TheVariants.{Largest}
-use Rattle.log_bytes.specs.declared.Next.{Next}
-use Rattle.log_bytes.specs.declared.Next.TheVariants.{GoesOn}
 use Rattle.log_bytes.specs.Format.{is_l, in_turn}
 use Rattle.log_bytes.proofs.Stages.{no_l, turn_first}
 
@@ -15,10 +13,6 @@ use Rattle.log_bytes.proofs.Stages.{no_l, turn_first}
 pub largest_range : (l : ℕ) → in_turn (Largest l) BeforeL ≡ true → (leb 64 l && leb l 2048) ≡ true
 unfolding in_turn
 largest_range l e = e
-
--- an event that is L is read as L
-pub is_largest : (x : Next) (e : Event) (size l : ℕ) → x ≡ GoesOn e size → e ≡ Largest l → x ≡ GoesOn (Largest l) size
-is_largest x e size l f q = f ∙ ap (λ (y : Event). GoesOn y size) q
 
 -- nothing but L is in turn before L
 pub not_largest : (e : Event) → in_turn e BeforeL ≡ true → ((l : ℕ) → e ≡ Largest l → ⊥) → ⊥
