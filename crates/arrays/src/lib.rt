@@ -2,7 +2,7 @@
 #![tactic(auto)]
 
 ghost use Rattle.std.specs.Prelude.{◌≡◌, ℕ, ◌*◌, ◌^◌, ◌<◌, ◌≤◌, length, map};
-ghost use Rattle.arrays.specs.Lists.{total_of, zeroed};
+ghost use Rattle.arrays.specs.Lists.{total_of};
 
 // A number below a limit, whatever its width: a bound `Into<u64>` would say nothing of its value.
 pub trait Word: Copy {
@@ -47,18 +47,4 @@ pub fn sum<T: Word>(row: &[T]) -> u64
         sum += n.wide();
     }
     sum
-}
-
-// Every number of the row becomes 0.
-pub fn clear_words(row: &mut [u32])
-    ensures { row.new ≡ zeroed row.old }
-{
-    row.fill(0);
-}
-
-// The same of shorter numbers.
-pub fn clear_shorts(row: &mut [u16])
-    ensures { row.new ≡ zeroed row.old }
-{
-    row.fill(0);
 }
