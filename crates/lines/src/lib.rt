@@ -108,7 +108,8 @@ fn digits_of(n: u64) -> usize
     n.max(1).ilog10() as usize + 1
 }
 
-// The digits of a number from one offset up to another, the last digit first.
+// The digits of a number from one offset up to another, the last digit first. By index, since no proof can know what a
+// reversed iter_mut has written.
 fn put_digits(out: &mut [u8], at: usize, end: usize, n: u64)
     requires { (end ≡ at + length (decimal n)) × (end ≤ length out.old) }
     ensures { Written out.old at (decimal n) end out.new }
