@@ -31,7 +31,6 @@ fn length_in_range(largest: u32, len: u16) -> bool
 }
 
 // The waiting lengths of place p.
-#[tactic(auto, unfolding(crate::specs::Test::lane_in_range))]
 fn lane_in_range(b: &Board, lens: &[u16], p: usize) -> bool
     requires place { p < 64 }
     requires table { length lens.now ≡ 2048 }
@@ -43,7 +42,6 @@ fn lane_in_range(b: &Board, lens: &[u16], p: usize) -> bool
 }
 
 // Waiting lengths 1 to L.
-#[tactic(auto, unfolding(crate::specs::Test::lanes_in_range))]
 fn lanes_in_range(b: &Board, lens: &[u16]) -> bool
     requires { length lens.now ≡ 2048 }
     ensures { result ≡ lanes_in_range lens.now b.now.largest b.now.starts b.now.counts }

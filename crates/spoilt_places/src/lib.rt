@@ -72,7 +72,6 @@ fn number_apart(numbers: &[u32; PLACES], n: u32) -> bool
 }
 
 // Open block numbers distinct.
-#[tactic(auto, unfolding(crate::specs::Ranges::numbers_apart))]
 pub fn numbers_apart(numbers: &[u32; PLACES]) -> bool
     ensures { result ≡ numbers_apart numbers.now }
 {
@@ -109,7 +108,7 @@ fn ring_in_range(x: PlaceNow) -> bool
 pub fn in_order(p: usize, count: u16, slot: u8) -> bool
     ensures { result ≡ in_order p count slot }
 {
-    count != 0 && (slot == NO_LINK || usize::from(slot) - 1 != p)
+    count != 0 && (slot == NO_LINK || usize::from(slot - 1) != p)
 }
 
 // Deficits under L bytes, and 0 for empty lanes and the open slot's block.
@@ -152,7 +151,6 @@ fn place_in_range(largest: u32, slot: u8, p: usize, x: PlaceNow) -> bool
 }
 
 // Every place.
-#[tactic(auto, unfolding(crate::specs::Ranges::places_in_range))]
 pub fn places_in_range(b: &Board) -> bool
     ensures { result ≡ places_in_range b.now }
 {
@@ -168,7 +166,6 @@ pub fn shares_fit(b: &Board) -> bool
 }
 
 // No share is held.
-#[tactic(auto, unfolding(crate::specs::Ranges::none_held))]
 fn none_held(held: &[u32; CLASSES]) -> bool
     ensures { result ≡ none_held held.now }
 {
