@@ -55,7 +55,9 @@ fn line_of(
                 length: lens[served.entry],
                 clock: served.slot_clock,
             }),
-            _ => Some(Line::Refused { code }),
+            Err(_) => Some(Line::Refused { code }),
+            // A serve that is done tells of its record.
+            Ok(None) => unreachable!(),
         },
         Event::Passed | Event::Largest(_) => None,
     }
