@@ -5,7 +5,7 @@
 ghost use Rattle.std.specs.Prelude.{◌≡◌, ◌^◌, ◌<◌, ◌||◌, get_or, ltb};
 ghost use Rattle.accounts.specs.Accounts.{no_counts, fits_with};
 ghost use Rattle.counting.specs.Counting.{account_of, tallies_of, read_counts, zero_counts, hand_now, fits_now};
-ghost use Rattle.counting.specs.Counting.{counts_fit_now};
+ghost use Rattle.counting.specs.Counting.{counts_fit_now, TalliesSized};
 ghost use Rattle.counting.specs.Steps.{sent_in, CanCount, vanished_in, SmallHand, SmallHands};
 
 use board::Board;
@@ -136,7 +136,8 @@ fn place_fits(b: &Board, c: &Counts, place: usize) -> bool
 // Whether the counts can be those of a run to this board: the counting has stopped, or each place's account fits.
 pub fn counts_fit(b: &Board, c: &Counts) -> bool
     requires { SmallHands b.now }
-    ensures { result ≡ counts_fit_now b.now c.now }
+    ensures fit { result ≡ counts_fit_now b.now c.now }
+    ensures sized { TalliesSized (tallies_of c.now) }
 {
     c.full || (0..PLACES).all(|place| place_fits(b, c, place))
 }
