@@ -3,6 +3,8 @@ use mathlib.Core.Path.{◌≡◌, refl, sym, ap, ap₂, subst, ◌∙◌}
 use mathlib.Core.Bool.{Bool, true, false, cond, true≢false}
 use mathlib.Core.Logic.{◌⊎◌, inl, inr}
 use Prim.Native.Nat.{ℕ, ◌^◌, ◌<◌}
+use Rattle.std.specs.Prelude.{Option, Some, None, is_some, IfSome, Ok, Err}
+use Rattle.numbers.specs.declared.refusal.Refusal.{Refusal as Refusal! }
 use native.Mathlib.Omega.{arith}
 use lib.Dec.{eqb}
 use lib.ListN.{get_or}
@@ -15,6 +17,7 @@ use Rattle.rules.specs.Choice.{Sending, Out, refused, done, sent, Turn, refuse, 
 use Rattle.rules.specs.Blocks.{meant}
 use Rattle.rules.specs.Calls.{Single, open!, rename!, close!, record!, serve!, step, told, code_of}
 use Rattle.rules.specs.Promises.{in_hand}
+use Rattle.rules.proofs.Frame.{size_step}
 use Rattle.rules.proofs.Shape.{most_pos}
 use Rattle.rules.proofs.Tidy.{Tidy}
 use Rattle.rules.proofs.Cases.{Refusal, refusal_not0, other_cases, serve_cases}
@@ -33,18 +36,18 @@ use Rattle.board.specs.Reading.{view}
 use Rattle.board.specs.Memory.{Holding, numbers_of}
 use Rattle.board.specs.Leaving.{Known}
 use Rattle.board.proofs.Sound.{fit_view}
-use Rattle.finding.specs.Finding.{found_in, found_at, by_found}
-use Rattle.finding.specs.declared.Found.{Found}
+use Rattle.finding.specs.Finding.{found_in, found_at}
 use Rattle.finding.proofs.Finding.{found_is}
-use Rattle.serving.specs.declared.Step.{Step}
-use Rattle.serving.specs.Serving.{step_of}
-use Rattle.events.specs.Events.{told_by, SendSeen, Acted}
+use Rattle.serving.specs.declared.Served.{Served}
+use Rattle.serving.specs.Serving.{Step, step_of, step_in}
+use Rattle.events.specs.Events.{told_by, SendSeen, Acted, step_of_act, serves}
 use Rattle.counting.specs.Counting.{Tallies, TalliesSized, account_now, counts_now}
-use Rattle.counting.specs.Steps.{Tallied, tallied, sent_in, vanished_in}
+use Rattle.counting.specs.Steps.{Tallied, tallied, sent_in}
 use Rattle.counting.proofs.Counting.{sized_sent, sized_closed, sent_counts, sent_stops, closed_counts}
 use Rattle.counting.proofs.Fitting.{hand_under, hand_at, hands_small}
 use Rattle.report_fields.specs.Fields.{Ledger, reads, KnownLedger, FieldCounted}
-use Rattle.report_fields.specs.Steps.{closing_place, step_credit, field_in, SendCounts, CanCountField}
+use Rattle.report_fields.specs.Steps.{closing_place, closed_in, step_credit, field_in, counted_in, SendCounts}
+use Rattle.report_fields.proofs.Steps.{serve_is, counted_by, refused_by}
 
 -- ---- What a close and a serve come to
 
@@ -108,6 +111,17 @@ fits_turn b g c h (Arrive block number bytes) = fits_step b g (record! block (re
 fits_turn b g c h Serve = fits_step b g serve! c h
 fits_turn b g c h Passed = subst (CountsFit b) (sym (counted_idle b c h)) h
 
+-- ---- L stays
+
+size_turn : (b : Board.Board) (e : Event) → (turn_of b e).next.largest ≡ b.largest
+size_turn b (Largest l) = refl
+size_turn b (Open o) = size_step b (open! (meant o))
+size_turn b (Close block) = size_step b (close! block)
+size_turn b (Rename old new) = size_step b (rename! old new)
+size_turn b (Arrive block number bytes) = size_step b (record! block (record { number = number; bytes = bytes }))
+size_turn b Serve = size_step b serve!
+size_turn b Passed = refl
+
 -- ---- On a board in memory
 
 module _ (h : Holding) (known : Known h.board h.ids h.lens) where
@@ -122,11 +136,10 @@ module _ (h : Holding) (known : Known h.board h.ids h.lens) where
   largest_is = refl
 
   -- the place that is found is the one that the rules close
-  closing_is : (block : ℕ) → where_is m block < 64 → closing_place h.board.numbers (Close block) ≡ where_is m block
+  closing_is : (block : ℕ) → where_is m block < 64 → closing_place h.board.numbers (Close block) ≡ Some (where_is m block)
   closing_is block l =
-      ap (λ (b : struct.Board). by_found (found_in b.numbers block) (λ p. p) 64) (sym known.sound.spells)
-      ∙ ap (λ (x : Found). by_found x (λ p. p) 64) (found_is m tidy block)
-      ∙ ap (λ (t : Bool). by_found (found_at t (where_is m block)) (λ p. p) 64) (lt-ltb (where_is m block) 64 l)
+      ap (λ (b : struct.Board). found_in b.numbers block) (sym known.sound.spells) ∙ found_is m tidy block
+      ∙ ap (λ (t : Bool). found_at t (where_is m block)) (lt-ltb (where_is m block) 64 l)
 
   module _ (t : Tallies) (sized : TalliesSized t) (n : Holding) (r : Step) where
     -- what is counted of a step
@@ -163,7 +176,7 @@ module _ (h : Holding) (known : Known h.board h.ids h.lens) where
           go (inl (code, (o, z))) =
               as_before (Close block) _ (refused_takes (Close block) code o z a) (counted_refused m tidy (close! block) code o (counts_now t false) fits)
           go (inr (o, l)) =
-              ap (λ (y : Tallied). counts_now y.tallies y.stops) (gone o ∙ ap (λ (p : ℕ). tallied false (vanished_in p t)) (closing_is block l))
+              ap (λ (y : Tallied). counts_now y.tallies y.stops) (gone o ∙ ap (λ (p : Option ℕ). tallied false (closed_in p t)) (closing_is block l))
               ∙ closed_counts (where_is m block) t false sized l
               ∙ (λ i. record {
                 accounts = λ p. sym (counted_closed m tidy block o (counts_now t false) refl fits p) i;
@@ -171,16 +184,16 @@ module _ (h : Holding) (known : Known h.board h.ids h.lens) where
               })
             where
               gone : (step m (close! block)).out ≡ done
-                  → takes (Close block) false r ≡ tallied false (vanished_in (closing_place h.board.numbers (Close block)) t)
+                  → takes (Close block) false r ≡ tallied false (closed_in (closing_place h.board.numbers (Close block)) t)
               gone o = ap (takes (Close block) false) (a.tells ∙ ap step_by o)
 
       -- the credit that is counted is that of a slot of the block
       credit_is : (s : Sending) → SendSeen m s n → step_credit h.board.largest n.board.shares (step_by (sent s)) ≡ credit_at m s.place
       credit_is s w = ap₂ credit_of (sym largest_is) w.share
 
-      serves : Acted h Serve n r → Counts! Serve false (takes Serve false r)
+      counts_serve : Acted h Serve n r → Counts! Serve false (takes Serve false r)
       unfolding field_in
-      serves a = go (comes m tidy serve!)
+      counts_serve a = go (comes m tidy serve!)
         where
           go : Comes m serve! (step m serve!) → Counts! Serve false (takes Serve false r)
           go (inl (code, (o, z))) = as_before Serve _ (refused_takes Serve code o z a) (counted_refused m tidy serve! code o (counts_now t false) fits)
@@ -211,7 +224,7 @@ module _ (h : Holding) (known : Known h.board h.ids h.lens) where
     counts_by false fits (Arrive block number bytes) a =
         as_before fits (Arrive block number bytes) _ (other_takes _ refl (eqb r.code 0))
         (counted_other m tidy (record! block (record { number = number; bytes = bytes })) refl refl (counts_now t false) fits)
-    counts_by false fits Serve a = serves fits a
+    counts_by false fits Serve a = counts_serve fits a
     counts_by false fits Passed a = as_before fits Passed _ (other_takes _ refl (eqb r.code 0)) (counted_idle m (counts_now t false) fits)
 
     -- the lists keep their lengths
@@ -219,12 +232,16 @@ module _ (h : Holding) (known : Known h.board h.ids h.lens) where
     sized_done true x z = z
     sized_done false x z = sized
 
+    sized_closing : (closing : Option ℕ) → TalliesSized (closed_in closing t)
+    sized_closing None = sized
+    sized_closing (Some p) = sized_closed p t sized
+
     sized_by : (full : Bool) (e : Event) → TalliesSized (takes e full r).tallies
     unfolding field_in
     sized_by true e = sized
     sized_by false (Largest l) = sized_done (eqb r.code 0) _ sized
     sized_by false (Open o) = sized_done (eqb r.code 0) _ sized
-    sized_by false (Close block) = sized_done (eqb r.code 0) _ (sized_closed _ t sized)
+    sized_by false (Close block) = sized_done (eqb r.code 0) _ (sized_closing (closing_place h.board.numbers (Close block)))
     sized_by false (Rename old new) = sized_done (eqb r.code 0) _ sized
     sized_by false (Arrive block number bytes) = sized_done (eqb r.code 0) _ sized
     sized_by false Serve = sized_done (eqb r.code 0) _ (sized_sent _ _ _ _ _ t sized)
@@ -235,13 +252,6 @@ module _ (h : Holding) (known : Known h.board h.ids h.lens) where
     not_refused : (e : Event) (code : ℕ) → (turn_of m e).out ≡ refused code → eqb code 0 ≡ false → Acted h e n r → r.code ≡ 0 → ⊥
     not_refused e code o z a q =
         true≢false (sym (eq-eqb code 0 (sym (ap (λ (s : Step). s.code) (a.tells ∙ ap step_by o)) ∙ q)) ∙ z)
-
-    close_inside : (block : ℕ) → Acted h (Close block) n r → r.code ≡ 0 → closing_place h.board.numbers (Close block) < 64
-    close_inside block a q = go (comes m tidy (close! block))
-      where
-        go : Comes m (close! block) (step m (close! block)) → closing_place h.board.numbers (Close block) < 64
-        go (inl (code, (o, z))) = absurd (not_refused (Close block) code o z a q)
-        go (inr (o, l)) = rw (closing_is block l) l
 
     module _ (fits : CountsFit m (counts_now t false)) (a : Acted h Serve n r) where
       -- a send is small enough to be counted
@@ -295,21 +305,28 @@ module _ (h : Holding) (known : Known h.board h.ids h.lens) where
 
 -- ---- The law of one field
 
-module _ (l : Ledger) (k : KnownLedger l) (e : Event) (n : Holding) (r : Step) (a : Acted l.holds e n r) where
-  pub can_count : CanCountField e (closing_place l.holds.board.numbers e) l.holds.board.largest n.board.shares r l.full l.tallies
-  can_count = record {
-    closes = λ f q block e-is.
-        subst (λ (x : Event). closing_place l.holds.board.numbers x < 64) (sym e-is)
-        (close_inside l.holds k.good l.tallies k.sized n r block (subst (λ (x : Event). Acted l.holds x n r) e-is a) q);
-    sends = λ f q e-is.
-        send_counts l.holds k.good l.tallies k.sized n r (subst (λ (t : Bool). CountsFit (reads l).board (counts_now l.tallies t)) f k.fits)
-        (subst (λ (x : Event). Acted l.holds x n r) e-is a) q;
-  }
+largest_stays : (h : Holding) (e : Event) (n : Holding) (r : Step) → Acted h e n r → n.board.largest ≡ h.board.largest
+unfolding view
+largest_stays h e n r a = ap (λ (b : Board.Board). b.largest) a.next ∙ size_turn (view h.board h.ids h.lens) e
 
-  pub field_counted_lem : is_l e ≡ false → (x : Tallied)
+-- a record that was sent is small enough to be counted
+pub can_count : (l : Ledger) → KnownLedger l → (e : Event) (n : Holding) (some : Option Served) → is_some some ≡ serves e
+    → Acted l.holds e n (step_of_act (Ok some) (numbers_of n.board)) → l.full ≡ false
+    → IfSome some (λ x. SendCounts n.board.largest n.board.shares (step_in (Ok x) (numbers_of n.board)) l.tallies)
+can_count l k e n None is a f = tt
+can_count l k e n (Some x) is a f =
+    subst (λ (largest : ℕ). SendCounts largest n.board.shares (step_in (Ok x) (numbers_of n.board)) l.tallies)
+    (sym (largest_stays l.holds e n (step_in (Ok x) (numbers_of n.board)) a))
+    (send_counts l.holds k.good l.tallies k.sized n (step_in (Ok x) (numbers_of n.board))
+    (subst (λ (t : Bool). CountsFit (reads l).board (counts_now l.tallies t)) f k.fits)
+    (subst (λ (v : Event). Acted l.holds v n (step_in (Ok x) (numbers_of n.board))) (serve_is e (sym is)) a) refl)
+
+-- what is counted of a field leaves good counts, which read as the report's definition says
+module _ (l : Ledger) (k : KnownLedger l) (e : Event) (late : is_l e ≡ false) (n : Holding) (r : Step) (a : Acted l.holds e n r) where
+  field_counted_lem : (x : Tallied)
       → x ≡ field_in e (closing_place l.holds.board.numbers e) (step_credit l.holds.board.largest n.board.shares r) r l.full l.tallies
       → FieldCounted l e (record { holds = n; tallies = x.tallies; full = x.stops })
-  field_counted_lem late x x-is = record {
+  field_counted_lem x x-is = record {
     good = record {
       good = a.good;
       fits =
@@ -326,3 +343,22 @@ module _ (l : Ledger) (k : KnownLedger l) (e : Event) (n : Holding) (r : Step) (
       counts_is =
           ap (λ (y : Tallied). counts_now y.tallies y.stops) x-is
           ∙ counts_by l.holds k.good l.tallies k.sized n r l.full k.fits e a
+
+module _ (l : Ledger) (k : KnownLedger l) (e : Event) (late : is_l e ≡ false) (n : Holding) where
+  -- of a field that is done
+  pub done_counted : (some : Option Served) → is_some some ≡ serves e → Acted l.holds e n (step_of_act (Ok some) (numbers_of n.board)) → (x : Tallied)
+      → x ≡ counted_in (closing_place l.holds.board.numbers e) some n.board.largest n.board.shares l.full l.tallies
+      → FieldCounted l e (record { holds = n; tallies = x.tallies; full = x.stops })
+  done_counted some is a x x-is =
+      field_counted_lem l k e late n (step_of_act (Ok some) (numbers_of n.board)) a x
+      (x-is
+      ∙ ap (λ (largest : ℕ). counted_in (closing_place l.holds.board.numbers e) some largest n.board.shares l.full l.tallies)
+      (largest_stays l.holds e n (step_of_act (Ok some) (numbers_of n.board)) a)
+      ∙ counted_by l.holds.board.numbers l.holds.board.largest n.board.shares (numbers_of n.board) l.full l.tallies e some is)
+
+  -- and of one that is refused
+  pub refused_counted : (refusal : Refusal!) → Acted l.holds e n (step_of_act (Err refusal) (numbers_of n.board))
+      → FieldCounted l e (record { holds = n; tallies = l.tallies; full = l.full })
+  refused_counted refusal a =
+      field_counted_lem l k e late n (step_of_act (Err refusal) (numbers_of n.board)) a (tallied l.full l.tallies)
+      (refused_by l.holds.board.numbers l.holds.board.largest n.board.shares (numbers_of n.board) l.full l.tallies e refusal)

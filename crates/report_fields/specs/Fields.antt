@@ -7,7 +7,8 @@ use Rattle.board.specs.declared.Board as struct
 use Rattle.board.specs.Reading.{view}
 use Rattle.board.specs.Memory.{Holding, holding}
 use Rattle.board.specs.Leaving.{Known}
-use Rattle.counting.specs.Counting.{Tallies, TalliesSized, counts_now}
+use Rattle.counting.specs.declared.Counts as struct-counts
+use Rattle.counting.specs.Counting.{Tallies, tallies_of, TalliesSized, counts_now}
 
 -- what stands between two fields: the board with both tables, the four lists of counts, and whether the counting has
 -- stopped
@@ -18,6 +19,10 @@ pub record Ledger : Type 0 where
 
 abbrev pub ledger : struct.Board → (ids lens : List ℕ) → Tallies → (full : Bool) → Ledger
 ledger b ids lens t full = record { holds = holding b ids lens; tallies = t; full = full }
+
+-- a board, the counts beside it and both tables
+abbrev pub ledger_now : struct.Board → struct-counts.Counts → (ids lens : List ℕ) → Ledger
+ledger_now b c ids lens = ledger b ids lens (tallies_of c) c.full
 
 -- as the report's definition reads it
 abbrev pub reads : Ledger → Reporting
