@@ -1,12 +1,12 @@
 -- What was left of a report at the beginning is left of what stands after each field of a fragment.
 use mathlib.Core.Path.{◌≡◌, refl, sym, ap, ap₂, ◌∙◌}
 use mathlib.Core.Bool.{Bool, true, false, true≢false}
-use mathlib.Core.List.{List, [], ◌++◌}
+use mathlib.Core.List.{List, ◌++◌}
+use Rattle.std.specs.Prelude.{Err}
 use Prim.Native.Nat.{ℕ, ◌+◌, ◌-◌, ◌^◌, ◌≤◌}
 use native.Mathlib.Omega.{arith}
 use lib.ListN.{length, drop, length-drop}
-use lib.Seq.{drop-length, drop-drop}
-use Rattle.board.specs.declared.Board as struct
+use lib.Seq.{drop-drop}
 use Rattle.log_bytes.specs.declared.Stage.{Stage}
 use Rattle.log_bytes.specs.declared.Event.{Event}
 use Rattle.log_bytes.specs.declared.End.{End}
@@ -17,16 +17,13 @@ use Rattle.log_bytes.specs.Format.{is_l, past_l, stage_after, next_in}
 use Rattle.log_bytes.specs.Rows.{Reading, next_of}
 use Rattle.log_bytes.proofs.Wholes.{never_whole, none_come}
 use Rattle.log_bytes.proofs.Stages.{turn_later, past_after}
-use Rattle.fragments.specs.Kept.{kept_bytes}
 use Rattle.fragments.specs.Reading.{joined, ReadOn, GoesOnWith, KeptOn}
 use Rattle.fragments.proofs.Kept.{kept_none, rest_joined}
 use Rattle.report_rules.specs.Report.{Reporting, field_counted, report_end, report_on, report_from}
 use Rattle.report_rules.proofs.Report.{report_whole, report_ends}
-use Rattle.counting.specs.declared.Counts as struct-counts
-use Rattle.counting.specs.Counting.{tallies_of}
-use Rattle.report_fields.specs.Fields.{Ledger, ledger, reads, KnownLedger, FieldCounted}
+use Rattle.report_fields.specs.Fields.{Ledger, reads, KnownLedger, FieldCounted}
 use Rattle.report_play.specs.declared.State.{State}
-use Rattle.report_play.specs.Playing.{ledger_of, offset_of, left_of, one_line, CanPlay, PlayedOn}
+use Rattle.report_play.specs.Playing.{ledger_of, offset_of, left_of, one_line, CanPlay, played_in, PlayedOn}
 
 -- ---- One line
 
@@ -127,39 +124,8 @@ module _ (s : State) (ids lens fragment : List ℕ) (here : Ledger) (stage : Sta
     played_stops e h later =
         ends_one (reads here) s.shown at (joined kept came (drop taken fragment) later) stage e (read.ends e h later) ∙ u.same later
 
--- all of the fragment is taken
-pub played_all : (s : State) (ids lens fragment : List ℕ) (board : struct.Board) (counts : struct-counts.Counts) (ids' lens' : List ℕ) (stage : Stage)
-    (at came : ℕ) (kept : List ℕ) (taken : ℕ)
-    → PlayedTo s ids lens fragment (ledger board ids' lens' (tallies_of counts) counts.full) stage at came kept taken → length fragment ≤ taken
-    → PlayedOn s ids lens fragment
-    (record {
-      ends = false;
-      end = whole;
-      full = counts.full;
-      state = record { stage = stage; over = false; at = at; came = came; kept = kept; shown = s.shown; board = board; counts = counts };
-    }) ids' lens'
-played_all s ids lens fragment board counts ids' lens' stage at came kept taken u l = record {
-  goes = λ z. (record { past = u.past; fit = u.fit; low = u.low; good = u.good }, (refl, (moved, same)));
-  stops = λ z. absurd (true≢false (sym z));
-}
-  where
-    none_left : drop taken fragment ≡ []
-    none_left =
-        let e : taken ≡ length fragment = omega (arith, l, u.within) in
-        ap (λ (k : ℕ). drop k fragment) e ∙ drop-length fragment
-
-    moved : at + came ≡ offset_of s + length fragment
-    moved = omega (arith, u.onward, l, u.within)
-
-    same : (later : List ℕ)
-        → report_from (reads (ledger board ids' lens' (tallies_of counts) counts.full)) s.shown at (kept_bytes kept came ++ later) stage
-        ≡ left_of s ids lens (fragment ++ later)
-    same later =
-        let here = ledger board ids' lens' (tallies_of counts) counts.full in
-        ap (λ (part : List ℕ). report_from (reads here) s.shown at (joined kept came part later) stage) (sym none_left) ∙ u.same later
-
 -- the log ends in it
 pub played_ends : (s : State) (ids lens fragment : List ℕ) (e : End) (full : Bool) (t : State) (ids' lens' : List ℕ)
     → ((later : List ℕ) → one_line full e ≡ left_of s ids lens (fragment ++ later))
-    → PlayedOn s ids lens fragment (record { ends = true; end = e; full = full; state = t }) ids' lens'
+    → PlayedOn s ids lens fragment (played_in (Err (record { end = e; full = full })) t) ids' lens'
 played_ends s ids lens fragment e full t ids' lens' h = record { goes = λ z. absurd (true≢false z); stops = λ z. h }

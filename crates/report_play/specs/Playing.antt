@@ -1,5 +1,5 @@
 -- A FRAGMENT PLAYED, from a state on: whatever comes later, the report of what is left is the same, or it is one line.
-use Rattle.std.specs.Prelude.{◌≡◌, Bool, true, false, cond, List, [], ◌++◌, ℕ, ◌+◌, ◌^◌, ◌≤◌, length}
+use Rattle.std.specs.Prelude.{◌≡◌, Bool, true, false, cond, List, [], ◌++◌, ℕ, ◌+◌, ◌^◌, ◌≤◌, length, Result, Ok, Err}
 use Rattle.log_bytes.specs.declared.End.{End}
 use Rattle.log_bytes.specs.declared.End.TheVariants.{Whole as whole, Broken as broken, Long as long}
 use Rattle.log_bytes.specs.declared.Next.TheVariants.{Unfinished}
@@ -8,14 +8,13 @@ use Rattle.lines.specs.Listing.{broken_line, long_line}
 use Rattle.fragments.specs.Kept.{kept_bytes}
 use Rattle.report_lines.specs.Text.{full_line}
 use Rattle.report_rules.specs.Report.{report_from}
-use Rattle.counting.specs.Counting.{tallies_of}
-use Rattle.report_fields.specs.Fields.{Ledger, ledger, reads, KnownLedger}
+use Rattle.report_fields.specs.Fields.{Ledger, ledger_now, reads, KnownLedger}
 use Rattle.report_play.specs.declared.State.{State}
-use Rattle.report_play.specs.declared.Played as declared
+use Rattle.report_play.specs.declared.Ended.{Ended}
 
 -- the board of a state with both tables, and the counts beside it
 abbrev pub ledger_of : State → (ids lens : List ℕ) → Ledger
-ledger_of s ids lens = ledger s.board ids lens (tallies_of s.counts) s.counts.full
+ledger_of s ids lens = ledger_now s.board s.counts ids lens
 
 -- the offset of the byte that comes next
 abbrev pub offset_of : State → ℕ
@@ -42,8 +41,20 @@ pub record CanPlay (s : State) (ids lens : List ℕ) : Type 0 where
   pub low : s.at ≤ 2 ^ 48
   pub good : KnownLedger (ledger_of s ids lens)
 
+-- a fragment that is played: whether the log is broken or long in it, how it ends then, and whether the counting had
+-- stopped there; and the state behind it
+pub record Played : Type 0 where
+  pub ends : Bool
+  pub end : End
+  pub full : Bool
+  pub state : State
+
+abbrev pub played_in : Result (Unit {0}) Ended → State → Played
+played_in (Ok u) s = record { ends = false; end = whole; full = s.counts.full; state = s }
+played_in (Err e) s = record { ends = true; end = e.end; full = e.full; state = s }
+
 -- What was left of the report is left of the state behind the fragment. Or it is one line, whatever comes later.
-pub record PlayedOn (s : State) (ids lens fragment : List ℕ) (r : declared.Played) (ids' lens' : List ℕ) : Type 0 where
+pub record PlayedOn (s : State) (ids lens fragment : List ℕ) (r : Played) (ids' lens' : List ℕ) : Type 0 where
   pub goes : r.ends ≡ false
       → CanPlay r.state ids' lens'
       × ((r.state.over ≡ false)

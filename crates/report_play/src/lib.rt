@@ -1,7 +1,8 @@
-// A log that comes in fragments, played with the counts beside the engine's arrays, for its report. No line is written.
+// A log that comes in fragments, played with the counts beside the board, for its report. No line is written.
 #![tactic(auto)]
 
-ghost use Rattle.report_play.specs.Playing.{CanPlay, PlayedOn};
+ghost use Rattle.std.specs.Prelude.{◌≡◌, IsErr};
+ghost use Rattle.report_play.specs.Playing.{CanPlay, played_in, PlayedOn};
 
 use board::Board;
 use counting::Counts;
@@ -23,120 +24,50 @@ pub struct State {
     pub counts: Counts,
 }
 
-// A fragment that is played: whether the log is broken or long in it, how it ends then, and whether the counting had
-// stopped there; else the state behind it.
+// How a log ends that is broken or long, and whether the counting had stopped there.
 #[derive(Clone, Copy)]
-pub struct Played {
-    pub ends: bool,
+pub struct Ended {
     pub end: End,
     pub full: bool,
-    pub state: State,
 }
 
-// The fields after L in turn, as far as they are whole in this fragment.
-pub fn play_on(fragment: &[u8], ids: &mut [u32], lens: &mut [u16], s: State) -> Played
-    requires { CanPlay s ids.old lens.old }
-    ensures { PlayedOn s ids.old lens.old fragment.now
-        result ids.new lens.new }
+// The fields after L in turn, as far as they are whole in this fragment. Where the log ends in it the state stays as it
+// was: so they are played on a copy.
+pub fn play_on(
+    s: &mut State,
+    fragment: &[u8],
+    ids: &mut [u32],
+    lens: &mut [u16],
+) -> Result<(), Ended>
+    requires { CanPlay s.old ids.old lens.old }
+    ensures played { PlayedOn s.old ids.old lens.old fragment.now (played_in result s.new) ids.new lens.new }
+    ensures stays { IsErr result → s.new ≡ s.old }
 {
-    let b = s.board;
-    let c = s.counts;
-    let mut numbers = b.numbers;
-    let mut shares = b.shares;
-    let mut starts = b.starts;
-    let mut counts = b.counts;
-    let mut deficits = b.deficits;
-    let mut ready = b.ready;
-    let mut next = b.next;
-    let mut heads = b.heads;
-    let mut tails = b.tails;
-    let mut held = b.held;
-    let mut slots = c.slots;
-    let mut credits = c.credits;
-    let mut sent = c.bytes;
-    let mut losses = c.lost;
-    let mut full = c.full;
-    let mut now = board::numbers_of(b);
-    let mut stage = s.stage;
-    let mut at = s.at;
-    let mut came = s.came;
-    let mut kept = s.kept;
+    let mut here = *s;
     let mut taken: usize = 0;
     while taken < fragment.len() {
-        let here = fragments::read_on(fragment, taken, &mut kept, came, at, stage);
-        match here {
+        let (stage, at, came) = (here.stage, here.at, here.came);
+        match fragments::read_on(fragment, taken, &mut here.kept, came, at, stage) {
             Next::Ends(end) => {
-                return Played {
-                    ends: true,
-                    end: end,
-                    full: full,
-                    state: s,
-                };
+                return Err(Ended {
+                    end,
+                    full: here.counts.full,
+                });
             }
             Next::Unfinished(part) => {
                 taken += part - came;
-                came = part;
+                here.came = part;
             }
             Next::GoesOn(event, size) => {
                 taken += size - came;
-                at += size as u64;
-                came = 0;
-                stage = log_bytes::stage_after(stage, event);
-                let left = now.left;
-                let moved = report_fields::play_counted(
-                    event,
-                    full,
-                    b.largest,
-                    now.clock,
-                    now.active,
-                    now.pending,
-                    now.slot,
-                    left,
-                    &mut numbers,
-                    &mut shares,
-                    &mut starts,
-                    &mut counts,
-                    &mut deficits,
-                    &mut ready,
-                    &mut next,
-                    &mut heads,
-                    &mut tails,
-                    &mut held,
-                    &mut slots,
-                    &mut credits,
-                    &mut sent,
-                    &mut losses,
-                    ids,
-                    lens,
-                );
-                full = moved.full;
-                let after = moved.after;
-                now = after;
+                here.at = at + size as u64;
+                here.came = 0;
+                here.stage = log_bytes::stage_after(stage, event);
+                report_fields::play_counted(event, &mut here.board, &mut here.counts, ids, lens);
             }
         }
     }
-    let board = board::packed(
-        numbers, shares, starts, counts, deficits, ready, next, heads, tails, held, b.largest, now,
-    );
-    Played {
-        ends: false,
-        end: End::Whole,
-        full: full,
-        state: State {
-            stage: stage,
-            over: false,
-            at: at,
-            came: came,
-            kept: kept,
-            shown: s.shown,
-            board: board,
-            counts: Counts {
-                slots: slots,
-                credits: credits,
-                bytes: sent,
-                lost: losses,
-                full: full,
-            },
-        },
-    }
+    here.over = false;
+    *s = here;
+    Ok(())
 }
