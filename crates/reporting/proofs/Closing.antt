@@ -28,8 +28,7 @@ use Rattle.counting.specs.Counting.{tallies_of, account_now}
 use Rattle.report_fields.specs.Fields.{reads, KnownLedger}
 use Rattle.report_play.specs.declared.State.{State}
 use Rattle.report_play.specs.Playing.{ledger_of, one_line}
-use Rattle.reporting.specs.declared.Piece.{Piece}
-use Rattle.reporting.specs.Feeding.{before_first, Held, held, reporting, rest_of, is_over, feed_code, CanGoOn, stayed, ended_state, ended_piece}
+use Rattle.reporting.specs.Feeding.{Piece, before_first, Held, held, reporting, rest_of, is_over, feed_code, CanGoOn, stayed, ended_state, ended_piece}
 use Rattle.reporting.specs.Feeding.{CloseDone, CloseOf, FeedsReport}
 use Rattle.reporting.specs.Shown.{lines_from_in, has_stopped, is_alone, showing, PlacesShown}
 use Rattle.reporting.proofs.Codes.{can_code, over_code}

@@ -4,6 +4,7 @@ use mathlib.Core.Bool.{Bool, true, false, cond, ◌&&◌, true≢false}
 use mathlib.Core.Logic.{◌⊎◌, inl, inr, ◌≢◌}
 use mathlib.Core.List.{List, [], ◌++◌, append-nil}
 use Prim.Native.Nat.{ℕ, ◌+◌, ◌-◌, ◌^◌, ◌≤◌, ◌<◌}
+use Rattle.std.specs.Prelude.{Ok, Err}
 use native.Mathlib.Omega.{arith}
 use native.Mathlib.Decide.{ℕ_discrete}
 use lib.Dec.{leb}
@@ -38,15 +39,15 @@ use Rattle.board.proofs.Fresh.{Starts, starts}
 use Rattle.blocks.specs.Blocks.{fresh_in}
 use Rattle.report_rules.specs.Report.{Reporting, unmade, report_on, report_from}
 use Rattle.report_rules.proofs.Report.{report_whole}
-use Rattle.counting.specs.Counting.{tallies_of, zero_counts}
+use Rattle.counting.specs.Counting.{tallies_of, zero_account, zero_counts}
+use Rattle.counting.proofs.Accounts.{sized_of}
 use Rattle.counting.proofs.Counting.{zero_reads}
 use Rattle.report_fields.specs.Fields.{ledger, reads, KnownLedger}
 use Rattle.report_play.specs.declared.State.{State}
-use Rattle.report_play.specs.declared.Played.{Played}
-use Rattle.report_play.specs.Playing.{offset_of, left_of, one_line, CanPlay, PlayedOn}
+use Rattle.report_play.specs.declared.Ended.{Ended}
+use Rattle.report_play.specs.Playing.{played_in, offset_of, left_of, one_line, CanPlay, PlayedOn}
 use Rattle.report_play.proofs.Playing.{ends_one}
-use Rattle.reporting.specs.declared.Piece.{Piece}
-use Rattle.reporting.specs.Feeding.{Held, held, reporting, rest_of, feed_code, CanGoOn, stayed, ended_state, ended_piece, FeedDone, FeedOf}
+use Rattle.reporting.specs.Feeding.{Piece, Held, held, reporting, rest_of, feed_code, CanGoOn, stayed, ended_state, ended_piece, FeedDone, FeedOf}
 use Rattle.reporting.proofs.Codes.{can_code, over_code, code_low}
 
 -- ---- What is left, by the state
@@ -113,22 +114,23 @@ pub can_play : (s : State) (ids lens : List ℕ) → CanGoOn s ids lens → past
 can_play s ids lens k p = record { past = p; fit = k.fit; low = k.low; good = k.good p }
 
 module _ (s : State) (ids lens fragment out : List ℕ) (k : CanGoOn s ids lens) (p : past_l s.stage ≡ true) where
-  module _ (r : Played) (ids' lens' : List ℕ) (u : PlayedOn s ids lens fragment r ids' lens') where
+  module _ (t : State) (ids' lens' : List ℕ) where
     -- all of the fragment is played
-    pub next_done : r.ends ≡ false → FeedDone s ids lens fragment out (stayed 0 (length fragment) r.state) ids' lens' out
-    next_done e = record {
+    pub next_done : PlayedOn s ids lens fragment (played_in (Ok tt) t) ids' lens'
+        → FeedDone s ids lens fragment out (stayed 0 (length fragment) t) ids' lens' out
+    next_done u = record {
       done = refl;
       told = record {
         within = omega arith;
         fits = omega arith;
         joined = λ later.
-            ap (λ (t : List ℕ). rest_of (held r.state ids' lens') (t ++ later)) (drop-length fragment)
-            ∙ past_rest r.state ids' lens' going.1.0 going.0.past later
+            ap (λ (x : List ℕ). rest_of (held t ids' lens') (x ++ later)) (drop-length fragment)
+            ∙ past_rest t ids' lens' going.1.0 going.0.past later
             ∙ going.1.1.1 later
             ∙ sym (past_rest s ids lens k.going p (fragment ++ later));
         untouched = refl;
       };
-      goes_on = can_code r.state ids' lens' (record {
+      goes_on = can_code t ids' lens' (record {
         going = going.1.0;
         fit = going.0.fit;
         low = going.0.low;
@@ -142,19 +144,20 @@ module _ (s : State) (ids lens fragment out : List ℕ) (k : CanGoOn s ids lens)
       onward = λ q. going.1.1.0;
     }
       where
-        going : CanPlay r.state ids' lens'
-            × ((r.state.over ≡ false)
-            × ((offset_of r.state ≡ offset_of s + length fragment)
-            × ((later : List ℕ) → left_of r.state ids' lens' later ≡ left_of s ids lens (fragment ++ later))))
-        going = u.goes e
+        going : CanPlay t ids' lens'
+            × ((t.over ≡ false)
+            × ((offset_of t ≡ offset_of s + length fragment)
+            × ((later : List ℕ) → left_of t ids' lens' later ≡ left_of s ids lens (fragment ++ later))))
+        going = u.goes refl
 
-    -- the log ends in it
-    pub next_last : r.ends ≡ true → length ids' ≡ length ids → length lens' ≡ length lens → (used : ℕ) (out' : List ℕ)
-        → Written out 0 (one_line r.full r.end) used out' → used ≤ length out
-        → FeedDone s ids lens fragment out (ended_piece (length fragment) used s) ids' lens' out'
-    next_last e a d used out' w fits =
-        ended_done s ids lens fragment out used (one_line r.full r.end) ids' lens' out' (a ∙ k.ids_all) (d ∙ k.lens_all)
-        (λ later. u.stops e later ∙ sym (past_rest s ids lens k.going p (fragment ++ later))) fits w
+    -- the log ends in it, and leaves the state
+    pub next_last : (e : Ended) → PlayedOn s ids lens fragment (played_in (Err e) t) ids' lens' → t ≡ s → length ids' ≡ length ids → length lens' ≡ length lens
+        → (used : ℕ) (out' : List ℕ) → Written out 0 (one_line e.full e.end) used out' → used ≤ length out
+        → FeedDone s ids lens fragment out (ended_piece (length fragment) used t) ids' lens' out'
+    next_last e u same a d used out' w fits =
+        subst (λ (x : State). FeedDone s ids lens fragment out (ended_piece (length fragment) used x) ids' lens' out') (sym same)
+        (ended_done s ids lens fragment out used (one_line e.full e.end) ids' lens' out' (a ∙ k.ids_all) (d ∙ k.lens_all)
+        (λ later. u.stops refl later ∙ sym (past_rest s ids lens k.going p (fragment ++ later))) fits w)
 
 -- ---- The first field
 
@@ -180,11 +183,11 @@ module _ (s : State) (ids lens fragment out : List ℕ) (k : CanGoOn s ids lens)
   module _ (now : ℕ) (after : List ℕ) (h : KeptOn s.at s.stage s.kept s.came fragment now after) where
     abbrev partly : State
     partly =
-        record { stage = s.stage; over = false; at = s.at; came = now; kept = after; shown = s.shown; board = s.board; counts = s.counts }
+        record s { came = now; kept = after }
 
     partly_goes : CanGoOn partly ids lens
     partly_goes = record {
-      going = refl;
+      going = k.going;
       fit = h.fit;
       low = k.low;
       ids_all = k.ids_all;
@@ -199,7 +202,7 @@ module _ (s : State) (ids lens fragment out : List ℕ) (k : CanGoOn s ids lens)
         within = omega (arith, h.ends, h.moves);
         fits = omega arith;
         joined = λ later.
-            before_rest partly ids lens refl p (drop (now - s.came) fragment ++ later)
+            before_rest partly ids lens k.going p (drop (now - s.came) fragment ++ later)
             ∙ sym (ap (λ (x : Reading). report_on unmade s.shown x.fields x.ends) (h.is later))
             ∙ sym (before_rest s ids lens k.going p (fragment ++ later));
         untouched = refl;
@@ -233,25 +236,20 @@ module _ (s : State) (ids lens fragment out : List ℕ) (k : CanGoOn s ids lens)
     made_known = record {
       good = made_starts.good;
       fits = subst (λ (r : Reporting). CountsFit r.board r.counts) (sym reads_made) (fits_fresh l);
-      sized = record {
-        slots = length-replicate {A = ℕ} 64 0;
-        credits = length-replicate {A = ℕ} 64 0;
-        bytes = length-replicate {A = ℕ} 64 0;
-        lost = length-replicate {A = ℕ} 64 0;
-      };
+      sized = sized_of zero_counts (length-replicate 64 zero_account);
     }
 
     module _ (stage : Stage) (on : stage ≡ stage_after s.stage (Largest l)) where
       abbrev made : State
       made =
-          record { stage = stage; over = false; at = s.at + size; came = 0; kept = after; shown = s.shown; board = b; counts = zero_counts }
+          record s { stage = stage; at = s.at + size; came = 0; kept = after; board = b; counts = zero_counts }
 
       past! : past_l stage ≡ true
       past! = ap past_l on ∙ past_after (Largest l) s.stage g.turn
 
       made_goes : CanGoOn made ids' lens'
       made_goes = record {
-        going = refl;
+        going = k.going;
         fit = none_come (s.at + size) after stage;
         low = g.low;
         ids_all = made_starts.good.ids_all;
@@ -267,7 +265,7 @@ module _ (s : State) (ids lens fragment out : List ℕ) (k : CanGoOn s ids lens)
           fits = omega arith;
           joined = λ later.
               let whole = joined s.kept s.came fragment later in
-              past_rest made ids' lens' refl past! (drop (size - s.came) fragment ++ later)
+              past_rest made ids' lens' k.going past! (drop (size - s.came) fragment ++ later)
               ∙ ap (λ (t : List ℕ). report_from (reads (ledger b ids' lens' (tallies_of zero_counts) false)) s.shown (s.at + size) t stage)
               (kept_none after (drop (size - s.came) fragment ++ later)
               ∙ sym (rest_joined s.kept s.came fragment later size (omega (arith, g.begins)) g.ends))

@@ -25,7 +25,7 @@ use Rattle.report_fields.specs.Fields.{ledger, reads}
 use Rattle.report_play.specs.declared.State.{State}
 use Rattle.report_play.specs.Playing.{one_line}
 use Rattle.reporting.specs.Feeding.{ended_piece}
-use Rattle.reporting.specs.Shown.{line_by, line_at, lines_in, lines_from_in, is_alone, showing, PlacesShown}
+use Rattle.reporting.specs.Shown.{line_by, line_at, lines_in, lines_from_in, is_alone, PlacesShown}
 
 -- ---- The lines on the arrays
 
@@ -143,28 +143,35 @@ module _ (s : State) (out₀ : List ℕ) (p used : ℕ) (out : List ℕ) (u : Sh
   abbrev line : Line out₀ u.text used out
   line = showing_line s.board (tallies_of s.counts) s.shown out₀ p used out u
 
-  -- there is no room for another
-  pub showing_more : 128 ≤ length out₀ → length out - used < 128 → PlacesShown s out₀ (record { code = 0; taken = 0; used = used; state = showing s p }) out
-  showing_more enough full = record {
-    done = refl;
-    none = refl;
-    fits = u.fits;
-    joined = ap (λ (x : List ℕ). x ++ lines_from_in s.board (tallies_of s.counts) p) line.text ∙ u.joined;
-    rest = line.rest;
-    stays = inr (refl, go u.moved);
-  }
-    where
-      go : ((s.shown < p) × (p ≤ 64)) ⊎ ((s.shown ≡ p) × (used ≡ 0)) → (s.shown < p) × (p ≤ 64)
-      go (inl m) = m
-      go (inr m) = absurd (omega (arith, m.1, u.same, enough, full))
+  module _ (t : State) (same : t ≡ s) where
+    -- there is no room for another
+    pub showing_more : s.over ≡ false → 128 ≤ length out₀ → length out - used < 128
+        → PlacesShown s out₀ (record { code = 0; taken = 0; used = used; state = record t { shown = p } }) out
+    showing_more going enough full =
+        subst (λ (x : State). PlacesShown s out₀ (record { code = 0; taken = 0; used = used; state = record x { shown = p } }) out) (sym same)
+        (subst (λ (o : Bool). PlacesShown s out₀ (record { code = 0; taken = 0; used = used; state = record s { over = o; shown = p } }) out) (sym going)
+        (record {
+          done = refl;
+          none = refl;
+          fits = u.fits;
+          joined = ap (λ (x : List ℕ). x ++ lines_from_in s.board (tallies_of s.counts) p) line.text ∙ u.joined;
+          rest = line.rest;
+          stays = inr (refl, go u.moved);
+        }))
+      where
+        go : ((s.shown < p) × (p ≤ 64)) ⊎ ((s.shown ≡ p) × (used ≡ 0)) → (s.shown < p) × (p ≤ 64)
+        go (inl m) = m
+        go (inr m) = absurd (omega (arith, m.1, u.same, enough, full))
 
-  -- or there is none
-  pub showing_last : 64 ≤ p → PlacesShown s out₀ (ended_piece 0 used s) out
-  showing_last h = record {
-    done = refl;
-    none = refl;
-    fits = u.fits;
-    joined = append-nil (take used out) ∙ line.text ∙ showing_none s.board (tallies_of s.counts) s.shown out₀ p used out u h;
-    rest = line.rest;
-    stays = inl refl;
-  }
+    -- or there is none
+    pub showing_last : 64 ≤ p → PlacesShown s out₀ (ended_piece 0 used t) out
+    showing_last h =
+        subst (λ (x : State). PlacesShown s out₀ (ended_piece 0 used x) out) (sym same)
+        (record {
+          done = refl;
+          none = refl;
+          fits = u.fits;
+          joined = append-nil (take used out) ∙ line.text ∙ showing_none s.board (tallies_of s.counts) s.shown out₀ p used out u h;
+          rest = line.rest;
+          stays = inl refl;
+        })

@@ -1,6 +1,9 @@
 -- THE REPORT FROM FRAGMENTS: what a call writes, joined with what is left after it, is what was left before it.
 use Rattle.std.specs.Prelude.{◌≡◌, Bool, true, false, cond, not, ◌&&◌, ◌||◌, ◌≢◌, ◌⊎◌, List, [], ◌++◌, ℕ, ◌+◌, ◌^◌, ◌≤◌}
-use Rattle.std.specs.Prelude.{◌<◌, length, replicate}
+use Rattle.std.specs.Prelude.{◌<◌, length, replicate, Result, Ok, Err}
+use Rattle.numbers.specs.declared.refusal.Refusal.{Refusal}
+use Rattle.numbers.specs.Codes.{refusal_code}
+use Rattle.operands.specs.declared.Fed.{Fed}
 use Rattle.rules.specs.Board.{fresh}
 use Rattle.rules.specs.Calls.{wrong_tables}
 use Rattle.board.specs.Reading.{encode, is_sound}
@@ -14,7 +17,6 @@ use Rattle.counting.specs.Counting.{zero_counts, counts_fit_now}
 use Rattle.report_fields.specs.Fields.{reads, KnownLedger}
 use Rattle.report_play.specs.declared.State.{State}
 use Rattle.report_play.specs.Playing.{ledger_of, offset_of}
-use Rattle.reporting.specs.declared.Piece.{Piece}
 
 -- before the first fragment: L has not been read, there is no board yet, and nothing is counted or shown
 abbrev pub before_first : State
@@ -77,6 +79,21 @@ pub record CanGoOn (s : State) (ids lens : List ℕ) : Type 0 where
   pub good : past_l s.stage ≡ true → KnownLedger (ledger_of s ids lens)
 
 -- ---- What a call does
+
+-- A piece of a report: the code of a refusal, or 0; how many bytes of the fragment were taken, and how many were
+-- written; and the state to go on from.
+pub record Piece : Type 0 where
+  pub code : ℕ
+  pub taken : ℕ
+  pub used : ℕ
+  pub state : State
+
+abbrev pub piece : Fed → State → Piece
+piece fed s = record { code = 0; taken = fed.taken; used = fed.used; state = s }
+
+abbrev pub piece_in : Result Fed Refusal → State → Piece
+piece_in (Ok fed) s = piece fed s
+piece_in (Err refusal) s = record { code = refusal_code refusal; taken = 0; used = 0; state = s }
 
 -- Nothing is written, and this is the state to go on from.
 abbrev pub stayed : (code taken : ℕ) → State → Piece

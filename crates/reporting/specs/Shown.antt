@@ -11,8 +11,7 @@ use Rattle.accounts.specs.Accounts.{Account}
 use Rattle.report_rules.specs.Report.{difference}
 use Rattle.counting.specs.Counting.{Tallies, tallies_of, account_now}
 use Rattle.report_play.specs.declared.State.{State}
-use Rattle.reporting.specs.declared.Piece.{Piece}
-use Rattle.reporting.specs.Feeding.{ended_state}
+use Rattle.reporting.specs.Feeding.{Piece, ended_state}
 
 -- the line of a block with this share, number and account; none where no block has the place
 abbrev pub line_by : (share number : ℕ) → Account → List ℕ

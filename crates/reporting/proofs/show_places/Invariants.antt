@@ -1,10 +1,11 @@
-use Prim.Native.Nat.{◌-◌}
+use mathlib.Core.Path.{◌≡◌}
 use Rattle.counting.specs.Counting.{tallies_of}
 use Rattle.reporting.proofs.Shown.{Showing}
 use Rattle.reporting.proofs.show_places.Given as goal
 
-abbrev pub invariant-loop-p : goal.invariant-loop-p
-invariant-loop-p l = Showing l.s.board (tallies_of l.s.counts) l.s.shown l.initial.out l.p l.used l.out
-
-abbrev pub decreases-loop-p : goal.decreases-loop-p
-decreases-loop-p l = 64 - l.p
+abbrev pub invariant-loop-place : goal.invariant-loop-place
+invariant-loop-place l =
+    let s = l.initial.s in record {
+      same_state : l.s ≡ s;
+      showing : Showing s.board (tallies_of s.counts) s.shown l.initial.out l.place l.used l.out;
+    }
