@@ -1,18 +1,21 @@
 -- A feeder in C is the player's state, and what C is told of a piece is the piece. Assumes nothing.
-use mathlib.Core.Path.{◌≡◌, refl, sym, ap, subst}
-use mathlib.Core.Bool.{Bool, true, false, cond, not}
-use mathlib.Core.Logic.{◌≢◌}
+use mathlib.Core.Path.{◌≡◌, refl, sym, subst}
+use mathlib.Core.Bool.{Bool, true, false, not}
 use mathlib.Core.List.{List}
 use Prim.Native.Nat.{ℕ}
-use borrow.Author.Tests.{eqb-false, ne_eqb}
 use lib.Dec.{eqb}
+use Rattle.std.specs.Prelude.{Result, Ok, Err}
+use Rattle.numbers.specs.declared.refusal.Refusal.{Refusal}
+use Rattle.numbers.specs.Codes.{outcome_code}
+use Rattle.numbers.proofs.Refusals.{refusal_not_done}
+use Rattle.operands.specs.declared.Fed.{Fed}
 use Rattle.log_bytes.specs.declared.Stage.{Stage}
 use Rattle.log_bytes.specs.declared.Stage.TheVariants.{BeforeL, AfterL}
 use Rattle.log_bytes.specs.Format.{past_l}
-use Rattle.player.specs.declared.Piece.{Piece}
-use Rattle.player.specs.Feeding.{FeedOf, CloseOf}
+use Rattle.player.specs.declared.State.{State}
+use Rattle.player.specs.Feeding.{Piece, piece_in, FeedOf, CloseOf}
 use Rattle.c_calls.specs.declared.Feeder.{Feeder}
-use Rattle.c_calls.specs.Feeding.{stage_of, mark_of, state_of, feeder_of, reply_of, piece_of}
+use Rattle.c_calls.specs.Feeding.{stage_of, mark_of, state_of, feeder_of, fed_in, piece_of}
 use Rattle.c_calls.specs.Feeding.{FeederFed, FeederFinished, ZeroBegins, StoredBack}
 
 pub zero_begins : ZeroBegins
@@ -39,38 +42,38 @@ stored_back s = λ j. record {
   board = s.board;
 }
 
-module _ (r : Piece) (f : Feeder) where
-  -- where it is done, the state is stored; where it is refused, it is the feeder's, and the feeder stays
-  state_back : (r.code ≢ 0 → r.state ≡ state_of f) → (t : Bool) → eqb r.code 0 ≡ t → state_of (cond t (feeder_of r.state) f) ≡ r.state
-  state_back h true e = stored_back r.state
-  state_back h false e = sym (h (eqb-false _ _ e))
+-- what is done is stored
+stored : (t : Fed) (s : State) → piece_in (Ok t) s ≡ piece_of 0 t (feeder_of s)
+stored t s = λ j. record { code = 0; taken = t.taken; used = t.used; state = sym (stored_back s) j }
 
-  piece_back : (r.code ≢ 0 → r.state ≡ state_of f) → piece_of (reply_of r f).code (reply_of r f).fed (reply_of r f).feeder ≡ r
-  unfolding reply_of
-  piece_back h = λ j. record {
-    code = r.code;
-    taken = r.taken;
-    used = r.used;
-    state = state_back h (eqb r.code 0) refl j;
+module _ (f : Feeder) (ids lens fragment out ids' lens' out' : List ℕ) (s : State) where
+  pub fed_refused : (e : Refusal) → FeedOf (state_of f) ids lens fragment out (piece_in (Err e) s) ids' lens' out' → (o : Result Fed Refusal) → o ≡ Err e
+      → FeederFed f ids lens fragment out (outcome_code o) (fed_in o) f ids' lens' out'
+  fed_refused e p o is =
+      rw is (record {
+        fed = subst (λ (x : Piece). FeedOf (state_of f) ids lens fragment out x ids' lens' out') (p.refused (refusal_not_done e)).0 p;
+        same = λ ne. refl;
+      })
+
+  pub fed_done : (t : Fed) → FeedOf (state_of f) ids lens fragment out (piece_in (Ok t) s) ids' lens' out'
+      → FeederFed f ids lens fragment out 0 t (feeder_of s) ids' lens' out'
+  fed_done t p = record {
+    fed = subst (λ (x : Piece). FeedOf (state_of f) ids lens fragment out x ids' lens' out') (stored t s) p;
+    same = λ ne. absurd (ne refl);
   }
 
-  stays_same : (reply_of r f).code ≢ 0 → (reply_of r f).feeder ≡ f
-  unfolding reply_of
-  stays_same ne = ap (λ (t : Bool). cond t (feeder_of r.state) f) (ne_eqb _ _ ne)
+module _ (f : Feeder) (ids lens out out' : List ℕ) (s : State) where
+  pub finish_refused : (e : Refusal) → CloseOf (state_of f) ids lens out (piece_in (Err e) s) out' → (o : Result Fed Refusal) → o ≡ Err e
+      → FeederFinished f ids lens out (outcome_code o) (fed_in o) f out'
+  finish_refused e p o is =
+      rw is (record {
+        finished = subst (λ (x : Piece). CloseOf (state_of f) ids lens out x out') (p.refused (refusal_not_done e)).0 p;
+        same = λ ne. refl;
+      })
 
-  pub reply_fed : (ids lens fragment out ids' lens' out' : List ℕ) → FeedOf (state_of f) ids lens fragment out r ids' lens' out'
-      → FeederFed f ids lens fragment out (reply_of r f).code (reply_of r f).fed (reply_of r f).feeder ids' lens' out'
-  reply_fed ids lens fragment out ids' lens' out' p = record {
-    fed =
-        subst (λ (x : Piece). FeedOf (state_of f) ids lens fragment out x ids' lens' out')
-        (sym (piece_back (λ ne. ap (λ (x : Piece). x.state) (p.refused ne).0))) p;
-    same = stays_same;
-  }
-
-  pub reply_finished : (ids lens out out' : List ℕ) → CloseOf (state_of f) ids lens out r out'
-      → FeederFinished f ids lens out (reply_of r f).code (reply_of r f).fed (reply_of r f).feeder out'
-  reply_finished ids lens out out' p = record {
-    finished =
-        subst (λ (x : Piece). CloseOf (state_of f) ids lens out x out') (sym (piece_back (λ ne. ap (λ (x : Piece). x.state) (p.refused ne).0))) p;
-    same = stays_same;
+  pub finish_done : (t : Fed) → CloseOf (state_of f) ids lens out (piece_in (Ok t) s) out'
+      → FeederFinished f ids lens out 0 t (feeder_of s) out'
+  finish_done t p = record {
+    finished = subst (λ (x : Piece). CloseOf (state_of f) ids lens out x out') (stored t s) p;
+    same = λ ne. absurd (ne refl);
   }

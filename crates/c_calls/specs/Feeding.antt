@@ -1,16 +1,16 @@
 -- A FEEDER IN C, as the player's state, and what the calls with a fragment promise of it
-use Rattle.std.specs.Prelude.{◌≡◌, Bool, cond, not, ◌≢◌, List, ℕ, eqb, replicate}
+use Rattle.std.specs.Prelude.{◌≡◌, Bool, cond, not, ◌≢◌, List, ℕ, Result, eqb, replicate}
+use Rattle.std.specs.Result.{result_unwrap_or}
+use Rattle.numbers.specs.declared.refusal.Refusal.{Refusal}
+use Rattle.operands.specs.declared.Fed.{Fed}
 use Rattle.rules.specs.Board.{fresh}
 use Rattle.board.specs.Reading.{encode}
 use Rattle.log_bytes.specs.declared.Stage.{Stage}
 use Rattle.log_bytes.specs.declared.Stage.TheVariants.{BeforeL, AfterL}
 use Rattle.log_bytes.specs.Format.{past_l}
 use Rattle.player.specs.declared.State.{State}
-use Rattle.player.specs.declared.Piece.{Piece}
-use Rattle.player.specs.Feeding.{before_first, FeedOf, CloseOf}
+use Rattle.player.specs.Feeding.{Piece, before_first, FeedOf, CloseOf}
 use Rattle.c_calls.specs.declared.Feeder.{Feeder}
-use Rattle.c_calls.specs.declared.Fed.{Fed}
-use Rattle.c_calls.specs.declared.FeedReply.{FeedReply}
 
 -- A mark is 0 for no; every other number is yes.
 abbrev pub stage_of : (mark : ℕ) → Stage
@@ -49,14 +49,9 @@ abbrev pub zero_feeder : Feeder
 zero_feeder =
     record { board = encode (fresh 0); at = 0; sent = 0; came = 0; kept = replicate 13 0; made = 0; over = 0 }
 
--- what C is told of a piece: a refusal leaves the feeder as it was, byte for byte
-unfoldable pub reply_of : Piece → Feeder → FeedReply
-reply_of r f =
-    record {
-      code = r.code;
-      fed = record { taken = r.taken; used = r.used };
-      feeder = cond (eqb r.code 0) (feeder_of r.state) f;
-    }
+-- what C is told of what came of a call; after a refusal all of it is 0
+abbrev pub fed_in : Result Fed Refusal → Fed
+fed_in r = result_unwrap_or r (record { taken = 0; used = 0 })
 
 -- the player's piece, from what C is told
 abbrev pub piece_of : (code : ℕ) → Fed → Feeder → Piece

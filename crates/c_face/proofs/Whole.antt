@@ -12,13 +12,21 @@ use Rattle.lines.proofs.Texts.{none, then, from_front}
 use Rattle.listing_rules.specs.Listing.{listing_of}
 use Rattle.fragments.proofs.Reading.{from_taken}
 use Rattle.player.specs.declared.State.{State}
-use Rattle.player.specs.declared.Piece.{Piece}
-use Rattle.player.specs.Feeding.{before_first, held, rest_of, feed_code, FeedOf, CloseOf}
+use Rattle.std.specs.Prelude.{Result, Ok, Err, IsOk}
+use Rattle.numbers.specs.declared.refusal.Refusal.{Refusal}
+use Rattle.numbers.proofs.Refusals.{refusal_not_done}
+use Rattle.operands.specs.declared.Fed.{Fed}
+use Rattle.player.specs.Feeding.{Piece, piece_in, before_first, held, rest_of, feed_code, FeedOf, CloseOf}
 use Rattle.player.proofs.Feeding.{over_rest}
 use Rattle.player.proofs.Ends.{before_first_rest}
 use Rattle.c_face.specs.Listed.{Listed, Moved}
 
 -- ---- One piece
+
+-- what is done was not refused
+pub fed_ok : (outcome : Result Fed Refusal) (s : State) → (piece_in outcome s).code ≡ 0 → IsOk outcome
+fed_ok (Ok fed) s e = refl
+fed_ok (Err refusal) s e = absurd (refusal_not_done refusal e)
 
 module _ (s : State) (ids lens piece : List ℕ) (r : Piece) (ids' lens' piece' : List ℕ) (z : feed_code s ids lens ≡ 0) (room : 64 ≤ length piece) where
   pub moved_fed : (log : List ℕ) (taken : ℕ) → taken < length log → FeedOf s ids lens (take (length log - taken) (drop taken log)) piece r ids' lens' piece'

@@ -3,8 +3,7 @@ use Rattle.std.specs.Prelude.{◌≡◌, true, ◌⊎◌, List, ◌++◌, ℕ, �
 use Rattle.lines.specs.Text.{Line}
 use Rattle.listing_rules.specs.Listing.{listing_of}
 use Rattle.player.specs.declared.State.{State}
-use Rattle.player.specs.declared.Piece.{Piece}
-use Rattle.player.specs.Feeding.{held, rest_of, feed_code}
+use Rattle.player.specs.Feeding.{Piece, held, rest_of, feed_code}
 
 -- The first bytes are those of the listing and all others are as they were; they are the whole listing where it has
 -- room, and each piece has room for a line.

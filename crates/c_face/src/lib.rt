@@ -1,7 +1,6 @@
 // The box with each board behind one reference, and so each table: what `c_face_c` exports for programs in C. Each
 // function promises what the call or the player below it promises, and asks nothing of a caller but what the types say.
-// It passes what it is given and the value of the board or feeder to one function, stores the reply's structs whole and
-// returns the code; whatever is more stands in the function of `c_calls` below it, most of whose proofs need no file.
+// It passes on what it is given, and answers with the code of what came of it.
 #![tactic(auto)]
 
 ghost use Rattle.std.specs.Prelude.{◌≡◌, ◌≤◌, length, drop};
@@ -10,16 +9,20 @@ ghost use Rattle.rules.specs.Calls.{open!, rename!, close!, record! };
 ghost use Rattle.board.specs.Leaving.{returned, replied};
 ghost use Rattle.calls.specs.Promises.{called, made};
 ghost use Rattle.calls.specs.Contract.{burst_now, called_serve, called_burst};
-ghost use Rattle.player.specs.Feeding.{feed_code};
+ghost use Rattle.player.specs.Feeding.{piece_in, feed_code};
 ghost use Rattle.c_calls.specs.Told.{served_of, bursted_of};
 ghost use Rattle.c_calls.specs.Feeding.{FeederFed, FeederFinished};
 ghost use Rattle.c_face.specs.Listed.{Listed, Moved};
 
 use board::Board;
-use c_calls::{Fed, Feeder, Sent, Total};
+use c_calls::{Feeder, Total};
+use calls::Sent;
 use lines::LINE_ROOM;
 use numbers::TABLE_ENTRIES;
-use player::{Piece, State};
+use numbers::refusal::code_of;
+use operands::{Fed, Opening};
+use player::State;
+use units::Bytes;
 
 // A board is made, and both tables are cleared; a refusal leaves the board of all zeros.
 pub fn box_make(
@@ -31,9 +34,7 @@ pub fn box_make(
     ensures { returned (replied result b.new) ids.new lens.new
         ≡ made ids.old lens.old largest }
 {
-    let reply = c_calls::make_on(ids, lens, largest);
-    *b = reply.board;
-    reply.code
+    code_of(&calls::make(b, ids, lens, largest))
 }
 
 // A block opens, with this number and this share.
@@ -47,9 +48,11 @@ pub fn box_open(
     ensures { returned (replied result b.new) ids.now lens.now
         ≡ called b.old ids.now lens.now (open! (opening block share)) }
 {
-    let reply = c_calls::open_on(ids, lens, block, share, *b);
-    *b = reply.board;
-    reply.code
+    let opening = Opening {
+        number: block,
+        share,
+    };
+    code_of(&calls::open(b, ids, lens, opening))
 }
 
 // The block with the old number takes the new one.
@@ -63,9 +66,7 @@ pub fn box_rename(
     ensures { returned (replied result b.new) ids.now lens.now
         ≡ called b.old ids.now lens.now (rename! old new) }
 {
-    let reply = c_calls::rename_on(ids, lens, old, new, *b);
-    *b = reply.board;
-    reply.code
+    code_of(&calls::rename(b, ids, lens, old, new))
 }
 
 // The block with this number closes.
@@ -78,9 +79,7 @@ pub fn box_close(
     ensures { returned (replied result b.new) ids.now lens.now
         ≡ called b.old ids.now lens.now (close! block) }
 {
-    let reply = c_calls::close_on(ids, lens, block, *b);
-    *b = reply.board;
-    reply.code
+    code_of(&calls::close(b, ids, lens, block))
 }
 
 // A record comes for the block with this number.
@@ -96,9 +95,7 @@ pub fn box_record(
         ≡ called b.old ids.old lens.old
         (record! block (record { number = id; bytes = length })) }
 {
-    let reply = c_calls::record_on(ids, lens, block, id, length, *b);
-    *b = reply.board;
-    reply.code
+    code_of(&calls::record(b, ids, lens, block, id, length))
 }
 
 // The next record is sent, and C is told of it; after a refusal all that it is told is 0.
@@ -111,10 +108,9 @@ pub fn box_serve(
     ensures { returned (served_of result sent.new b.new) ids.now lens.now
         ≡ called_serve b.old ids.now lens.now }
 {
-    let reply = c_calls::serve_on(ids, lens, *b);
-    *b = reply.board;
-    *sent = reply.sent;
-    reply.code
+    let served = calls::serve(b, ids, lens);
+    *sent = served.unwrap_or_default();
+    code_of(&served)
 }
 
 // Records are sent as long as the next one is no longer than what remains of the bytes and the list has room.
@@ -130,10 +126,12 @@ pub fn box_burst(
         ids.now lens.now
         ≡ called_burst b.old ids.now lens.now bytes list.old }
 {
-    let reply = c_calls::burst_on(ids, lens, bytes, list, *b);
-    *b = reply.board;
-    *total = reply.total;
-    reply.code
+    let bursted = calls::burst(b, ids, lens, Bytes(bytes), list);
+    *total = Total {
+        count: bursted.count,
+        bytes: bursted.bytes.0,
+    };
+    bursted.stopped.code()
 }
 
 // The next fragment of a log: what there is to list of it goes to the front of a lent buffer, and C is told how much of
@@ -150,10 +148,9 @@ pub fn box_feed(
         out.old result fed.new feeder.new
         ids.new lens.new out.new }
 {
-    let reply = c_calls::feed_on(ids, lens, fragment, out, *feeder);
-    *feeder = reply.feeder;
-    *fed = reply.fed;
-    reply.code
+    let outcome = c_calls::feed_on(feeder, ids, lens, fragment, out);
+    *fed = outcome.unwrap_or(Fed { taken: 0, used: 0 });
+    code_of(&outcome)
 }
 
 // The end of a log: its last line goes to the front of a lent buffer, unless it is written.
@@ -167,29 +164,28 @@ pub fn box_finish(
     ensures { FeederFinished feeder.old ids.now lens.now out.old
         result fed.new feeder.new out.new }
 {
-    let reply = c_calls::finish_on(ids, lens, out, *feeder);
-    *feeder = reply.feeder;
-    *fed = reply.fed;
-    reply.code
+    let outcome = c_calls::finish_on(feeder, ids, lens, out);
+    *fed = outcome.unwrap_or(Fed { taken: 0, used: 0 });
+    code_of(&outcome)
 }
 
 // The next piece of a listing whose log is all here: of what is not taken of it, or its last line.
 fn next_piece(
+    s: &mut State,
     log: &[u8],
     taken: usize,
     ids: &mut [u32],
     lens: &mut [u16],
     piece: &mut [u8],
-    s: State,
-) -> Piece
-    requires { (taken ≤ length log.now) × ((64 ≤ length piece.old) × (feed_code s ids.old lens.old ≡ 0)) }
-    ensures { Moved s ids.old lens.old (drop taken log.now) piece.old
-        result ids.new lens.new piece.new }
+) -> Fed
+    requires { (taken ≤ length log.now) × ((64 ≤ length piece.old) × (feed_code s.old ids.old lens.old ≡ 0)) }
+    ensures { Moved s.old ids.old lens.old (drop taken log.now) piece.old
+        (piece_in (Ok result) s.new) ids.new lens.new piece.new }
 {
     if log.len() <= taken {
-        return player::finish(&ids[..], &lens[..], piece, s);
+        return player::finish(s, ids, lens, piece).unwrap();
     }
-    player::feed(&log[taken..], ids, lens, piece, s)
+    player::feed(s, &log[taken..], ids, lens, piece).unwrap()
 }
 
 // The listing of a log, by pieces that each go through a lent buffer; the answer is how many bytes of it were written.
@@ -204,18 +200,16 @@ pub fn box_listing(log: &[u8], piece: &mut [u8], out: &mut [u8]) -> usize
     if piece.len() < LINE_ROOM {
         return 0;
     }
-    loop {
-        let listed = next_piece(log, taken, &mut ids, &mut lens, piece, state);
-        let used = listed.used;
+    'pieces: loop {
+        let fed = next_piece(&mut state, log, taken, &mut ids, &mut lens, piece);
+        let used = fed.used;
         if out.len() - end < used {
             return end;
         }
-        end = lines::put_text(&mut *out, end, &piece[..used]);
-        let after = listed.state;
-        if after.over {
+        end = lines::put_text(out, end, &piece[..used]);
+        if state.over {
             return end;
         }
-        taken += listed.taken;
-        state = after;
+        taken += fed.taken;
     }
 }

@@ -1,6 +1,10 @@
--- `c_calls::feed_on` meets its contract. Assumes nothing.
-use Rattle.c_calls.proofs.Feeding.{reply_fed}
+-- `c_calls::feed_on` meets its contract: a refusal leaves the feeder, and what is done is stored. Assumes nothing.
+use borrow.Author.Rules.{rules}
+use Rattle.c_calls.proofs.Feeding.{fed_refused, fed_done}
 use Rattle.c_calls.proofs.feed_on.Goals as goal
 
+pub returns-in_err-fed : goal.returns-in_err-fed
+returns-in_err-fed c = fed_refused _ _ _ _ _ _ _ _ c.feed.new.s c.in_err-fed.field-0.0 (rw (← c.from-s.ensures) c.in_err-fed.ensures) _ (search rules)
+
 pub returns : goal.returns
-returns c = rw c.reply_of.ensures (reply_fed _ _ _ _ _ _ _ _ _ (rw (← c.state_of-s.ensures) c.feed-piece.ensures))
+returns c = rw c.from.ensures (fed_done _ _ _ _ _ _ _ _ _ _ (rw (← c.from-s.ensures) c.in_ok-fed.ensures))

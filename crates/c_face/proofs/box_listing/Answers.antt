@@ -12,8 +12,8 @@ use Rattle.c_face.proofs.box_listing.Goals as goal
 pub returns-then-piece-lt-LINE_ROOM : goal.returns-then-piece-lt-LINE_ROOM
 returns-then-piece-lt-LINE_ROOM c = no_room _ _ _ c.if-piece-lt-LINE_ROOM.true
 
-pub loop-out-init : goal.loop-out-init
-loop-out-init c =
+pub pieces-init : goal.pieces-init
+pieces-init c =
     rw c.begin-state.ensures
     (record {
       ids_all = search rules;
@@ -27,77 +27,77 @@ loop-out-init c =
 
 pub slice_bounds-next_piece-end : goal.slice_bounds-next_piece-end
 slice_bounds-next_piece-end c =
-    sym c.loop-out.invariant.ids_all
+    sym c.pieces.invariant.ids_all
 
-pub slice_bounds-next_piece-end-in-loop-out : goal.slice_bounds-next_piece-end-in-loop-out
-slice_bounds-next_piece-end-in-loop-out c =
-    sym c.loop-out.invariant.lens_all
+pub slice_bounds-next_piece-end-in-pieces : goal.slice_bounds-next_piece-end-in-pieces
+slice_bounds-next_piece-end-in-pieces c =
+    sym c.pieces.invariant.lens_all
 
-pub next_piece-listed-requires : goal.next_piece-listed-requires
-next_piece-listed-requires c =
-    (c.loop-out.invariant.within, (c.loop-out.invariant.roomy, c.loop-out.invariant.code))
+pub next_piece-fed-requires : goal.next_piece-fed-requires
+next_piece-fed-requires c =
+    (c.pieces.invariant.within, (c.pieces.invariant.roomy, c.pieces.invariant.code))
 
 pub overflow_sub-out : goal.overflow_sub-out
 overflow_sub-out c =
-    omega (arith, c.loop-out.invariant.so_far.fits, c.loop-out.invariant.so_far.same)
+    omega (arith, c.pieces.invariant.so_far.fits, c.pieces.invariant.so_far.same)
 
 pub shape_of-piece-then-out-end : goal.shape_of-piece-then-out-end
 shape_of-piece-then-out-end c =
-    c.next_piece-listed.auto.piece ∙ c.loop-out.invariant.as_long
+    c.next_piece-fed.auto.piece ∙ c.pieces.invariant.as_long
 
 pub shape_of-out-then-out-end : goal.shape_of-out-then-out-end
 shape_of-out-then-out-end c =
-    c.loop-out.invariant.so_far.same
+    c.pieces.invariant.so_far.same
 
 pub returns-then-out-end : goal.returns-then-out-end
 returns-then-out-end c =
-    too_long _ _ _ _ _ _ _ _ c.loop-out.invariant.so_far _ _ _ _ _ c.next_piece-listed.ensures c.next_piece-listed.auto.piece
+    too_long _ _ _ _ _ _ _ _ c.pieces.invariant.so_far _ _ _ _ _ c.next_piece-fed.ensures c.next_piece-fed.auto.piece
     c.if-out-end.true _
 
 pub slice_bounds-put_text-end : goal.slice_bounds-put_text-end
 slice_bounds-put_text-end c =
-    omega (arith, c.next_piece-listed.ensures.fits, c.next_piece-listed.auto.piece)
+    omega (arith, c.next_piece-fed.ensures.fits, c.next_piece-fed.auto.piece)
 
-pub slice_bounds-put_text-end-in-loop-out : goal.slice_bounds-put_text-end-in-loop-out
-slice_bounds-put_text-end-in-loop-out c =
-    sym (length-take-le _ _ (omega (arith, c.next_piece-listed.ensures.fits, c.next_piece-listed.auto.piece)))
+pub slice_bounds-put_text-end-in-pieces : goal.slice_bounds-put_text-end-in-pieces
+slice_bounds-put_text-end-in-pieces c =
+    sym (length-take-le _ _ (omega (arith, c.next_piece-fed.ensures.fits, c.next_piece-fed.auto.piece)))
 
 pub put_text-end-requires : goal.put_text-end-requires
 put_text-end-requires c =
-    piece_room _ _ _ _ _ _ _ _ c.loop-out.invariant.so_far _ _ _ _ _ c.next_piece-listed.ensures c.next_piece-listed.auto.piece
+    piece_room _ _ _ _ _ _ _ _ c.pieces.invariant.so_far _ _ _ _ _ c.next_piece-fed.ensures c.next_piece-fed.auto.piece
     c.if-out-end.false
 
-pub shape_of-piece-then-after : goal.shape_of-piece-then-after
-shape_of-piece-then-after c =
-    c.next_piece-listed.auto.piece ∙ c.loop-out.invariant.as_long
+pub shape_of-piece-then-state : goal.shape_of-piece-then-state
+shape_of-piece-then-state c =
+    c.next_piece-fed.auto.piece ∙ c.pieces.invariant.as_long
 
-pub shape_of-out-then-after : goal.shape_of-out-then-after
-shape_of-out-then-after c =
-    c.put_text-end.auto.out ∙ c.loop-out.invariant.so_far.same
+pub shape_of-out-then-state : goal.shape_of-out-then-state
+shape_of-out-then-state c =
+    c.put_text-end.auto.out ∙ c.pieces.invariant.so_far.same
 
-pub returns-then-after : goal.returns-then-after
-returns-then-after c =
-    all_written _ _ _ _ _ _ _ _ c.loop-out.invariant.so_far _ _ _ _ _ c.next_piece-listed.ensures c.next_piece-listed.auto.piece
-    c.if-out-end.false _ _ c.put_text-end.ensures c.put_text-end.auto.out c.if-after.true _
+pub returns-then-state : goal.returns-then-state
+returns-then-state c =
+    all_written _ _ _ _ _ _ _ _ c.pieces.invariant.so_far _ _ _ _ _ c.next_piece-fed.ensures c.next_piece-fed.auto.piece
+    c.if-out-end.false _ _ c.put_text-end.ensures c.put_text-end.auto.out c.if-state.true _
 
 pub overflow_add-taken : goal.overflow_add-taken
 overflow_add-taken c =
-    omega (arith, c.well_formed.0, (must_move _ _ _ _ _ _ _ _ _ _ c.loop-out.invariant.within c.next_piece-listed.ensures c.if-after.false).1)
+    omega (arith, c.well_formed.0, (must_move _ _ _ _ _ _ _ _ _ _ c.pieces.invariant.within c.next_piece-fed.ensures c.if-state.false).1)
 
-pub loop-out-smaller : goal.loop-out-smaller
-loop-out-smaller c =
-    (must_move _ _ _ _ _ _ _ _ _ _ c.loop-out.invariant.within c.next_piece-listed.ensures c.if-after.false).0
+pub pieces-smaller : goal.pieces-smaller
+pieces-smaller c =
+    (must_move _ _ _ _ _ _ _ _ _ _ c.pieces.invariant.within c.next_piece-fed.ensures c.if-state.false).0
 
-pub loop-out-preserved : goal.loop-out-preserved
-loop-out-preserved c =
+pub pieces-preserved : goal.pieces-preserved
+pieces-preserved c =
     record {
-      ids_all = c.next_piece-listed.auto.ids ∙ c.loop-out.invariant.ids_all;
-      lens_all = c.next_piece-listed.auto.lens ∙ c.loop-out.invariant.lens_all;
-      roomy = omega (arith, c.next_piece-listed.auto.piece, c.loop-out.invariant.roomy);
-      as_long = c.next_piece-listed.auto.piece ∙ c.loop-out.invariant.as_long;
-      code = c.next_piece-listed.ensures.goes_on;
-      within = (must_move _ _ _ _ _ _ _ _ _ _ c.loop-out.invariant.within c.next_piece-listed.ensures c.if-after.false).1;
+      ids_all = c.next_piece-fed.auto.ids ∙ c.pieces.invariant.ids_all;
+      lens_all = c.next_piece-fed.auto.lens ∙ c.pieces.invariant.lens_all;
+      roomy = omega (arith, c.next_piece-fed.auto.piece, c.pieces.invariant.roomy);
+      as_long = c.next_piece-fed.auto.piece ∙ c.pieces.invariant.as_long;
+      code = c.next_piece-fed.ensures.goes_on;
+      within = (must_move _ _ _ _ _ _ _ _ _ _ c.pieces.invariant.within c.next_piece-fed.ensures c.if-state.false).1;
       so_far =
-          one_more _ _ _ _ _ _ _ _ c.loop-out.invariant.so_far _ _ _ _ _ c.next_piece-listed.ensures c.next_piece-listed.auto.piece
+          one_more _ _ _ _ _ _ _ _ c.pieces.invariant.so_far _ _ _ _ _ c.next_piece-fed.ensures c.next_piece-fed.auto.piece
           c.if-out-end.false _ _ c.put_text-end.ensures c.put_text-end.auto.out;
     }
