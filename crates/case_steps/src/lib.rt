@@ -1,9 +1,9 @@
-// The steps of a case file on values: the field that each sets and what stands there, the tables, the answers of the
-// calls and the digest of what each leaves. Nothing is read or written here: the program `cases` does that.
+// The steps of a case file: what each does, the fields of a board, the tables, what is told of a call and the digest of
+// what it leaves; and how the bytes and numbers of a case are read. The program `cases` plays them.
 #![tactic(auto)]
 
 pub mod answers;
-mod digest;
+pub mod digest;
 pub mod fields;
 pub mod spelling;
 pub mod steps;

@@ -1,21 +1,26 @@
-// An operand of a step.
-ghost use Rattle.std.specs.Prelude.{◌+◌, ◌≤◌, ◌<◌};
+// The bytes of a case as they come. Where the input ends in what is read, the case is not whole, and the error says so.
+ghost use Rattle.std.specs.Prelude.{◌≡◌, ℕ, List, [], ◌∷◌, length, IfOk};
+ghost use Rattle.std.specs.Int.{w64, from_be_bytes};
+ghost use Rattle.std.specs.Io.KnownBytes.{Consumes};
 
-// High byte first.
-fn pair(high: u8, low: u8) -> u64
-    ensures { result < 65536 }
+use std::io;
+use std::io::Read;
+
+// The next byte.
+pub fn byte<R: Read>(case: &mut R) -> io::Result<u8>
+    ensures { IfOk result (λ b. Consumes (R.remaining case.old) (R.remaining case.new) (b ∷ [])) }
 {
-    (high as u64) * 256 + low as u64
+    let mut byte = [0u8; 1];
+    case.read_exact(&mut byte)?;
+    Ok(byte[0])
 }
 
-fn half(bytes: &[u8; 8], at: usize) -> u64
-    requires { at + 4 ≤ 8 }
-    ensures { result < 4294967296 }
+// The next number: eight bytes, high byte first.
+pub fn number<R: Read>(case: &mut R) -> io::Result<u64>
+    ensures { IfOk result (λ n. (bytes : List ℕ) × Consumes (R.remaining case.old) (R.remaining case.new) bytes
+        × (length bytes ≡ 8) × (n ≡ from_be_bytes w64 bytes)) }
 {
-    pair(bytes[at], bytes[at + 1]) * 65536 + pair(bytes[at + 2], bytes[at + 3])
-}
-
-// The number that eight bytes spell.
-pub fn number(bytes: &[u8; 8]) -> u64 {
-    half(bytes, 0) * 4294967296 + half(bytes, 4)
+    let mut bytes = [0u8; 8];
+    case.read_exact(&mut bytes)?;
+    Ok(u64::from_be_bytes(bytes))
 }

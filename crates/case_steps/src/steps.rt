@@ -1,56 +1,84 @@
-// The byte of each step, as docs/CASES.md lists them.
-pub const CASE: u8 = 1;
+// The steps of a case file, by the byte of each and its word, as docs/CASES.md lists them.
+use crate::fields::Field;
+use std::fmt;
 
-pub const TABLES: u8 = 2;
+#[derive(Clone, Copy, Debug, PartialEq, Eq)]
+pub enum Step {
+    Case,
+    Tables,
+    Set(Field),
+    Entry,
+    Call(Call),
+}
 
-pub const LARGEST: u8 = 3;
+// A step that is answered by a line of its own, which begins with the call's word.
+#[derive(Clone, Copy, Debug, PartialEq, Eq)]
+pub enum Call {
+    Make,
+    Open,
+    Rename,
+    Close,
+    Record,
+    Serve,
+    Burst,
+    Spoilt,
+    Show,
+}
 
-pub const CLOCK: u8 = 4;
+// A byte that names no step.
+#[derive(Clone, Copy, Debug, PartialEq, Eq)]
+pub struct UnknownStep;
 
-pub const ACTIVE: u8 = 5;
+impl TryFrom<u8> for Step {
+    type Error = UnknownStep;
 
-pub const PENDING: u8 = 6;
+    fn try_from(byte: u8) -> Result<Step, UnknownStep> {
+        Ok(match byte {
+            1 => Step::Case,
+            2 => Step::Tables,
+            3 => Step::Set(Field::Largest),
+            4 => Step::Set(Field::Clock),
+            5 => Step::Set(Field::Active),
+            6 => Step::Set(Field::Pending),
+            7 => Step::Set(Field::Slot),
+            8 => Step::Set(Field::Left),
+            9 => Step::Set(Field::Number),
+            10 => Step::Set(Field::Share),
+            11 => Step::Set(Field::Deficit),
+            12 => Step::Set(Field::Start),
+            13 => Step::Set(Field::Count),
+            14 => Step::Set(Field::Ready),
+            15 => Step::Set(Field::Next),
+            16 => Step::Set(Field::Head),
+            17 => Step::Set(Field::Tail),
+            18 => Step::Set(Field::Held),
+            19 => Step::Entry,
+            20 => Step::Call(Call::Make),
+            21 => Step::Call(Call::Open),
+            22 => Step::Call(Call::Rename),
+            23 => Step::Call(Call::Close),
+            24 => Step::Call(Call::Record),
+            25 => Step::Call(Call::Serve),
+            26 => Step::Call(Call::Burst),
+            27 => Step::Call(Call::Spoilt),
+            28 => Step::Call(Call::Show),
+            _ => return Err(UnknownStep),
+        })
+    }
+}
 
-pub const SLOT: u8 = 7;
-
-pub const LEFT: u8 = 8;
-
-pub const NUMBER: u8 = 9;
-
-pub const SHARE: u8 = 10;
-
-pub const DEFICIT: u8 = 11;
-
-pub const START: u8 = 12;
-
-pub const COUNT: u8 = 13;
-
-pub const READY: u8 = 14;
-
-pub const NEXT: u8 = 15;
-
-pub const HEAD: u8 = 16;
-
-pub const TAIL: u8 = 17;
-
-pub const HELD: u8 = 18;
-
-pub const ENTRY: u8 = 19;
-
-pub const MAKE: u8 = 20;
-
-pub const OPEN: u8 = 21;
-
-pub const RENAME: u8 = 22;
-
-pub const CLOSE: u8 = 23;
-
-pub const RECORD: u8 = 24;
-
-pub const SERVE: u8 = 25;
-
-pub const BURST: u8 = 26;
-
-pub const SPOILT: u8 = 27;
-
-pub const SHOW: u8 = 28;
+impl fmt::Display for Call {
+    fn fmt<W: fmt::Write>(&self, f: &mut fmt::Formatter<W>) -> fmt::Result {
+        f.write_str(match self {
+            Call::Make => "make",
+            Call::Open => "open",
+            Call::Rename => "rename",
+            Call::Close => "close",
+            Call::Record => "record",
+            Call::Serve => "serve",
+            Call::Burst => "burst",
+            Call::Spoilt => "spoilt",
+            Call::Show => "show",
+        })
+    }
+}

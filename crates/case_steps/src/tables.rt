@@ -3,56 +3,31 @@
 // Entries of a table or of a burst's list in a case file, at most.
 pub const MOST: usize = 4096;
 
-fn cut_words(row: &mut [u32], from: usize) {
-    if row.len() <= from {
-        return;
-    }
-    arrays::clear_words(&mut row[from..]);
-}
-
-fn cut_shorts(row: &mut [u16], from: usize) {
-    if row.len() <= from {
-        return;
-    }
-    arrays::clear_shorts(&mut row[from..]);
-}
-
 pub fn cut(ids: &mut [u32], lens: &mut [u16], numbers: usize, lengths: usize) {
-    cut_words(ids, numbers);
-    cut_shorts(lens, lengths);
-}
-
-fn put_word(row: &mut [u32], i: usize, v: u32) {
-    if i < row.len() {
-        row[i] = v;
+    for id in ids.iter_mut().skip(numbers) {
+        *id = 0;
     }
-}
-
-fn put_short(row: &mut [u16], i: usize, v: u16) {
-    if i < row.len() {
-        row[i] = v;
+    for length in lens.iter_mut().skip(lengths) {
+        *length = 0;
     }
 }
 
 // A table that is too short for entry i is left alone.
 pub fn set_entry(ids: &mut [u32], lens: &mut [u16], i: usize, number: u32, length: u16) {
-    put_word(ids, i, number);
-    put_short(lens, i, length);
+    if let Some(id) = ids.get_mut(i) {
+        *id = number;
+    }
+    if let Some(len) = lens.get_mut(i) {
+        *len = length;
+    }
 }
 
-pub fn word_at(row: &[u32], i: usize) -> u32 {
-    if i < row.len() { row[i] } else { 0 }
-}
-
-pub fn short_at(row: &[u16], i: usize) -> u16 {
-    if i < row.len() { row[i] } else { 0 }
-}
-
-fn larger(a: usize, b: usize) -> usize {
-    if a < b { b } else { a }
+// Entry i of a row, and 0 behind its last.
+pub fn at<T: Copy + Into<u64>>(row: &[T], i: usize) -> u64 {
+    row.get(i).map_or(0, |v| (*v).into())
 }
 
 // The entries of the longer table.
 pub fn entries(ids: &[u32], lens: &[u16]) -> usize {
-    larger(ids.len(), lens.len())
+    ids.len().max(lens.len())
 }

@@ -1,111 +1,91 @@
 // The steps that make a call: each reads its operands and writes the answer line.
 ghost use Rattle.std.specs.Prelude.{◌≡◌, length};
 
-use crate::{input, output, show};
+use crate::{input, show};
 use board::Board;
-use case_steps::answers::{Answer, NUMBERS};
-use case_steps::{answers, steps, tables};
+use case_steps::answers::Answer;
+use case_steps::steps::Call;
+use case_steps::{answers, digest, tables};
+use operands::Opening;
 use std::io;
 use std::io::{Read, Write};
+use units::Bytes;
 
-fn numbers<W: Write>(lines: &mut W, count: usize, told: &[u64; NUMBERS]) {
-    let mut i: usize = 0;
-    while i < NUMBERS {
-        if i < count {
-            output::number(lines, told[i]);
-        }
-        i += 1;
-    }
+// A write that fails is not tried again: whoever reads the answers finds them short.
+fn line<W: Write>(lines: &mut W, call: Call, answer: &Answer, digest: u64) {
+    let _ = writeln!(lines, "{call}{answer} #{digest}");
 }
 
-// The rest of the line, behind its word; the board goes on.
-fn answered<W: Write>(lines: &mut W, a: Answer) -> Board {
-    numbers(lines, a.count, &a.numbers);
-    output::text(lines, b" #");
-    output::decimal(lines, a.digest);
-    output::text(lines, b"\n");
-    a.board
-}
-
-fn word<W: Write>(lines: &mut W, step: u8) {
-    match step {
-        steps::MAKE => output::text(lines, b"make"),
-        steps::OPEN => output::text(lines, b"open"),
-        steps::RENAME => output::text(lines, b"rename"),
-        steps::CLOSE => output::text(lines, b"close"),
-        _ => output::text(lines, b"record"),
-    }
-}
-
-fn second_word<R: Read>(case: &mut R, step: u8) -> io::Result<u32> {
-    if step == steps::MAKE || step == steps::CLOSE {
-        return Ok(0);
-    }
-    input::word(case)
-}
-
-fn third_short<R: Read>(case: &mut R, step: u8) -> io::Result<u16> {
-    if step == steps::RECORD {
-        return input::short(case);
-    }
-    Ok(0)
-}
-
-// The calls that answer with a code alone.
-pub fn coded<R: Read, W: Write>(
+pub fn answer<R: Read, W: Write>(
     case: &mut R,
     lines: &mut W,
-    step: u8,
+    call: Call,
     ids: &mut [u32],
     lens: &mut [u16],
-    b: Board,
-) -> io::Result<Board> {
-    let first = input::word(case)?;
-    let second = second_word(case, step)?;
-    let third = third_short(case, step)?;
-    word(lines, step);
-    Ok(answered(
-        lines,
-        answers::coded(step, ids, lens, first, second, third, b),
-    ))
-}
-
-pub fn serve<W: Write>(lines: &mut W, ids: &[u32], lens: &[u16], b: Board) -> Board {
-    output::text(lines, b"serve");
-    answered(lines, answers::serve(ids, lens, b))
+    b: &mut Board,
+) -> io::Result<()> {
+    let answer = match call {
+        Call::Make => {
+            let largest = input::word(case)?;
+            Answer::Coded(calls::make(b, ids, lens, largest))
+        }
+        Call::Open => {
+            let number = input::word(case)?;
+            let share = input::word(case)?;
+            Answer::Coded(calls::open(b, ids, lens, Opening { number, share }))
+        }
+        Call::Rename => {
+            let old = input::word(case)?;
+            let new = input::word(case)?;
+            Answer::Coded(calls::rename(b, ids, lens, old, new))
+        }
+        Call::Close => {
+            let block = input::word(case)?;
+            Answer::Coded(calls::close(b, ids, lens, block))
+        }
+        Call::Record => {
+            let block = input::word(case)?;
+            let id = input::word(case)?;
+            let length = input::short(case)?;
+            Answer::Coded(calls::record(b, ids, lens, block, id, length))
+        }
+        Call::Serve => Answer::Served(calls::serve(b, ids, lens)),
+        Call::Burst => return burst(case, lines, ids, lens, b),
+        Call::Spoilt => answers::spoilt(ids, lens, b),
+        Call::Show => {
+            show::all(lines, ids, lens, b);
+            Answer::Shown
+        }
+    };
+    line(lines, call, &answer, digest::left_by_call(ids, lens, b));
+    Ok(())
 }
 
 // The list of a burst before the call.
 fn unwritten() -> [u32; tables::MOST]
     ensures { 4096 ≡ length result }
 {
-    [4294967295; tables::MOST]
+    [u32::MAX; tables::MOST]
 }
 
-pub fn burst<R: Read, W: Write>(
+// A burst is answered apart, so that its list is on the stack for no other call.
+fn burst<R: Read, W: Write>(
     case: &mut R,
     lines: &mut W,
     ids: &[u32],
     lens: &[u16],
-    b: Board,
-) -> io::Result<Board> {
+    b: &mut Board,
+) -> io::Result<()> {
     let bytes = input::number(case, u64::MAX)?;
     let room = input::index(case, tables::MOST)?;
     let mut list = unwritten();
-    output::text(lines, b"burst");
-    Ok(answered(
+    let list = &mut list[..room];
+    let answer = Answer::Bursted(calls::burst(b, ids, lens, Bytes(bytes), list));
+    line(
         lines,
-        answers::burst(ids, lens, bytes, &mut list[..room], b),
-    ))
-}
-
-pub fn spoilt<W: Write>(lines: &mut W, ids: &[u32], lens: &[u16], b: Board) -> Board {
-    output::text(lines, b"spoilt");
-    answered(lines, answers::spoilt(ids, lens, b))
-}
-
-pub fn show<W: Write>(lines: &mut W, ids: &[u32], lens: &[u16], b: Board) -> Board {
-    show::all(lines, ids, lens, b);
-    output::text(lines, b"show");
-    answered(lines, answers::show(ids, lens, b))
+        Call::Burst,
+        &answer,
+        digest::left_by_burst(ids, lens, list, b),
+    );
+    Ok(())
 }

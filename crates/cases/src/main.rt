@@ -2,26 +2,35 @@
 // byte form of docs/CASES.md and answered line by line on standard output.
 #![tactic(auto)]
 
+use crate::play::CaseState;
 use case_steps::tables;
+use std::io;
+use std::io::{Read, Write};
 
 mod answers;
 mod input;
-mod output;
 mod play;
 mod set;
 mod show;
 
-// A proved loop has to end, and nothing says that the input does: it has more turns than any run uses up.
-fn main(rt: HostRuntime) {
-    let (mut case, mut lines) = (rt.stdin(), rt.stdout());
+// Plays step by step until the input ends, or a step is refused: one that is not whole. A proved loop has to end, and
+// nothing says that the input does: it has more turns than any run uses up.
+fn play_all<R: Read, W: Write>(case: &mut R, lines: &mut W) -> io::Result<()> {
     let mut ids = [0u32; tables::MOST];
     let mut lens = [0u16; tables::MOST];
-    let mut state = play::fresh(&mut ids, &mut lens);
+    let mut state = CaseState::fresh();
     for _ in 0..u64::MAX {
-        let next = play::turn(&mut case, &mut lines, &mut ids, &mut lens, state);
-        let Some(next) = next else {
-            return;
+        let Some(step) = input::step(case)? else {
+            return Ok(());
         };
-        state = next;
+        state.play(case, lines, step, &mut ids, &mut lens)?;
+    }
+    Ok(())
+}
+
+fn main(rt: HostRuntime) {
+    let (mut case, mut lines) = (rt.stdin(), rt.stdout());
+    if play_all(&mut case, &mut lines).is_err() {
+        let _ = writeln!(lines, "refused");
     }
 }

@@ -1,7 +1,8 @@
 // The steps that set a field of the board or an entry of the tables: each reads its operands.
 use crate::input;
 use board::Board;
-use case_steps::{fields, tables};
+use case_steps::fields::Field;
+use case_steps::tables;
 use std::io;
 use std::io::Read;
 
@@ -13,15 +14,10 @@ fn which<R: Read>(case: &mut R, count: usize) -> io::Result<usize> {
     input::index(case, count - 1)
 }
 
-// A byte that names no field names no step here.
-pub fn field<R: Read>(case: &mut R, step: u8, b: Board) -> io::Result<Board> {
-    let count = fields::entries(step);
-    if count == 0 {
-        return Err(input::not_whole());
-    }
-    let i = which(case, count)?;
-    let v = input::number(case, fields::most(step))?;
-    Ok(fields::with(step, i, v, b))
+pub fn field<R: Read>(case: &mut R, field: Field, b: &mut Board) -> io::Result<()> {
+    let i = which(case, field.entries())?;
+    let v = input::number(case, u64::MAX)?;
+    field.set(i, v, b).ok_or_else(input::not_whole)
 }
 
 pub fn entry<R: Read>(case: &mut R, ids: &mut [u32], lens: &mut [u16]) -> io::Result<()> {
