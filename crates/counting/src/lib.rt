@@ -59,6 +59,7 @@ const NOTHING: Account = Account {
 };
 
 // Nothing has been counted.
+#[tactic(auto, using(crate::proofs::Counting::zero_reads))]
 pub fn blank() -> Counts
     ensures { (result ≡ zero_counts) × (read_counts result ≡ no_counts) }
 {
@@ -134,6 +135,7 @@ fn place_fits(b: &Board, c: &Counts, place: usize) -> bool
 }
 
 // Whether the counts can be those of a run to this board: the counting has stopped, or each place's account fits.
+#[tactic(auto, using(crate::proofs::Accounts::sized_of), unfolding(crate::specs::Counting::counts_fit_now))]
 pub fn counts_fit(b: &Board, c: &Counts) -> bool
     requires { SmallHands b.now }
     ensures fit { result ≡ counts_fit_now b.now c.now }

@@ -33,6 +33,7 @@ fn is_alone(full: bool, end: End) -> bool
 }
 
 // That line, at the front; a whole log that is counted to its end has none.
+#[tactic(auto, unfolding(report_play::specs::Playing::one_line))]
 fn put_end(full: bool, end: End, out: &mut [u8]) -> usize
     requires { 128 ≤ length out.old }
     ensures { Written out.old 0 (one_line full end) result out.new × (result ≤ 128) }
