@@ -44,7 +44,7 @@ pub fn play_on(
     ensures stays { IsErr result → s.new ≡ s.old }
 {
     let mut here = *s;
-    let mut taken: usize = 0;
+    let mut taken = 0;
     while taken < fragment.len() {
         let (stage, at, came) = (here.stage, here.at, here.came);
         match fragments::read_on(fragment, taken, &mut here.kept, came, at, stage) {

@@ -80,7 +80,7 @@ fn show_places(s: &mut State, out: &mut [u8]) -> Fed
     requires room { 128 ≤ length out.old }
     ensures { PlacesShown s.old out.old (piece result s.new) out.new }
 {
-    let mut used: usize = 0;
+    let mut used = 0;
     for place in s.shown..PLACES {
         if out.len() - used < REPORT_ROOM {
             s.shown = place;
