@@ -3,9 +3,10 @@
 // all the same.
 #![tactic(auto)]
 
-ghost use Rattle.std.specs.Prelude.{◌≡◌, false, ◌+◌, ◌≤◌, length, IfOk, OnErr};
-ghost use Rattle.player.specs.Feeding.{feed_code, offset_of};
-ghost use Rattle.player.specs.declared.State.{State};
+ghost use Rattle.std.specs.Prelude.{◌≡◌, false, [], ◌+◌, ◌≤◌, length, OnOk, OnErr};
+ghost use Rattle.listing_rules.specs.Listing.{listing_of};
+ghost use Rattle.player.specs.Feeding.{feed_code, held, offset_of, rest_of};
+ghost use Rattle.log_input.specs.Telling.{TellsPart, TellsWhole};
 
 use numbers::TABLE_ENTRIES;
 use player::State;
@@ -22,77 +23,64 @@ enum Failure {
     Unwritten(io::Error),
 }
 
-// Writes the lines of a fragment, a full buffer at a time, and answers the state behind it. A write that fails ends it,
-// so that what was written is always the listing's beginning; then the tables fit the state of the piece that failed.
+// Writes the lines of a fragment, a full buffer at a time. A write that fails ends it, so that what was written is
+// always the listing's beginning; the tables fit the state all the same.
 fn list_fragment<W: Write>(
     listing: &mut W,
     fragment: &[u8],
     ids: &mut [u32],
     lens: &mut [u16],
     out: &mut [u8],
-    s: State,
-) -> io::Result<State>
-    requires { (64 ≤ length out.old)
-        × ((length ids.old ≡ 2048)
-        × ((length lens.old ≡ 2048) × ((s.over ≡ false) × (feed_code s ids.old lens.old ≡ 0)))) }
-    ensures played { IfOk result (λ next. (feed_code next ids.new lens.new ≡ 0)
-        × (next.over ≡ false → offset_of next ≡ offset_of s + length fragment.now)) }
-    ensures failed { OnErr result ((there : State) × (feed_code there ids.new lens.new ≡ 0)) }
+    s: &mut State,
+) -> io::Result<()>
+    requires room { 64 ≤ length out.old }
+    requires fit { feed_code s.old ids.old lens.old ≡ 0 }
+    requires tables { (length ids.old ≡ 2048) × (length lens.old ≡ 2048) }
+    ensures played { OnOk result ((feed_code s.new ids.new lens.new ≡ 0)
+        × (s.new.over ≡ false → offset_of s.new ≡ offset_of s.old + length fragment.now)) }
+    ensures listed { OnOk result (TellsPart rest_of (W.contents listing.old) (W.contents listing.new)
+        (held s.old ids.old lens.old) (held s.new ids.new lens.new) fragment.now []) }
+    ensures failed { OnErr result (feed_code s.new ids.new lens.new ≡ 0) }
 {
-    let mut state = s;
     let mut taken: usize = 0;
-    while taken < fragment.len() {
-        let piece = player::feed(&fragment[taken..], &mut *ids, &mut *lens, &mut *out, state);
-        let used = piece.used;
-        let next = piece.state;
-        listing.write_all(&out[..used])?;
-        if next.over {
-            return Ok(next);
-        }
-        state = next;
-        taken += piece.taken;
+    while taken < fragment.len() && !s.over {
+        let fed = player::feed(s, &fragment[taken..], ids, lens, out).unwrap();
+        listing.write_all(&out[..fed.used])?;
+        taken += fed.taken;
     }
-    Ok(state)
-}
-
-// Writes the last line of the listing.
-fn list_end<W: Write>(
-    listing: &mut W,
-    ids: &[u32],
-    lens: &[u16],
-    out: &mut [u8],
-    s: State,
-) -> io::Result<()> {
-    let piece = player::finish(ids, lens, &mut *out, s);
-    let used = piece.used;
-    listing.write_all(&out[..used])
+    Ok(())
 }
 
 // Plays the log fragment by fragment. The last line is written only where the log has ended.
-fn list_log<R: Read, W: Write>(log: &mut R, listing: &mut W) -> Result<(), Failure> {
+fn list_log<R: Read, W: Write>(log: &mut R, listing: &mut W) -> Result<(), Failure>
+    ensures { OnOk result (TellsWhole listing_of (R.remaining log.old) (W.contents listing.old)
+        (W.contents listing.new)) }
+{
     let mut ids = [0u32; TABLE_ENTRIES];
     let mut lens = [0u16; TABLE_ENTRIES];
     let mut fragment = [0u8; ROOM];
     let mut out = [0u8; ROOM];
     let mut state = player::begin();
-    loop {
+    while !state.over {
         let n = log_input::next_fragment(log, &mut fragment).map_err(Failure::Unread)?;
         if n == 0 {
-            return list_end(listing, &ids, &lens, &mut out, state).map_err(Failure::Unwritten);
+            let fed = player::finish(&mut state, &ids, &lens, &mut out).unwrap();
+            listing
+                .write_all(&out[..fed.used])
+                .map_err(Failure::Unwritten)?;
+            return Ok(());
         }
-        state = list_fragment(
+        list_fragment(
             listing,
             &fragment[..n],
             &mut ids,
             &mut lens,
             &mut out,
-            state,
+            &mut state,
         )
         .map_err(Failure::Unwritten)?;
-        if state.over {
-            return Ok(());
-        }
     }
+    Ok(())
 }
 
 fn main(rt: HostRuntime) {

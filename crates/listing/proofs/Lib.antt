@@ -1,0 +1,2 @@
+-- What a call does, as the program goes by it.
+mod Calls
