@@ -23,7 +23,7 @@ use Rattle.report_rules.specs.Report.{Reporting, field_counted, report_end, repo
 use Rattle.report_rules.proofs.Report.{report_whole, report_ends}
 use Rattle.report_fields.specs.Fields.{Ledger, reads, KnownLedger, FieldCounted}
 use Rattle.report_play.specs.declared.State.{State}
-use Rattle.report_play.specs.Playing.{ledger_of, offset_of, left_of, one_line, CanPlay, played_in, PlayedOn}
+use Rattle.report_play.specs.Playing.{offset_of, left_of, one_line, played_in, PlayedOn}
 
 -- ---- One line
 
@@ -53,11 +53,6 @@ pub record PlayedTo (s : State) (ids lens fragment : List ℕ) (here : Ledger) (
   pub onward : at + came ≡ offset_of s + taken
   pub same : (later : List ℕ)
       → report_from (reads here) s.shown at (joined kept came (drop taken fragment) later) stage ≡ left_of s ids lens (fragment ++ later)
-
-pub played_first : (s : State) (ids lens fragment : List ℕ) → length s.kept ≡ 13 → CanPlay s ids lens
-    → PlayedTo s ids lens fragment (ledger_of s ids lens) s.stage s.at s.came s.kept 0
-played_first s ids lens fragment room c =
-    record { good = c.good; past = c.past; fit = c.fit; low = c.low; room = room; within = omega arith; onward = omega arith; same = λ later. refl }
 
 module _ (s : State) (ids lens fragment : List ℕ) (here : Ledger) (stage : Stage) (at came : ℕ) (kept : List ℕ) (taken : ℕ)
     (u : PlayedTo s ids lens fragment here stage at came kept taken) where

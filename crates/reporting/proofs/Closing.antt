@@ -1,10 +1,10 @@
 -- The end of a report, and the promise of the call that writes it; and however the log is cut, the report is that of the
 -- joined log. Assumes nothing.
 use mathlib.Core.Path.{◌≡◌, refl, sym, ap, ◌∙◌}
-use mathlib.Core.Bool.{Bool, true, false, cond, ◌&&◌, true≢false}
-use mathlib.Core.Logic.{◌⊎◌, inl, inr, ◌≢◌}
+use mathlib.Core.Bool.{Bool, true, false, cond, ◌&&◌}
+use mathlib.Core.Logic.{◌⊎◌, inl, inr}
 use mathlib.Core.List.{List, [], ◌++◌, append-nil}
-use Prim.Native.Nat.{ℕ, ◌-◌, ◌≤◌, ◌<◌}
+use Prim.Native.Nat.{ℕ, ◌≤◌, ◌<◌}
 use native.Mathlib.Omega.{arith}
 use native.Mathlib.Decide.{ℕ_discrete}
 use lib.ListN.{length, take}
@@ -28,7 +28,7 @@ use Rattle.counting.specs.Counting.{tallies_of, account_now}
 use Rattle.report_fields.specs.Fields.{reads, KnownLedger}
 use Rattle.report_play.specs.declared.State.{State}
 use Rattle.report_play.specs.Playing.{ledger_of, one_line}
-use Rattle.reporting.specs.Feeding.{Piece, before_first, Held, held, reporting, rest_of, is_over, feed_code, CanGoOn, stayed, ended_state, ended_piece}
+use Rattle.reporting.specs.Feeding.{Piece, before_first, Held, held, reporting, rest_of, is_over, feed_code, CanGoOn, ended_state, ended_piece}
 use Rattle.reporting.specs.Feeding.{CloseDone, CloseOf, FeedsReport}
 use Rattle.reporting.specs.Shown.{lines_from_in, has_stopped, is_alone, showing, PlacesShown}
 use Rattle.reporting.proofs.Codes.{can_code, over_code}
@@ -44,20 +44,6 @@ full_is s ids lens = go (past_l s.stage)
     go false = refl
 
 module _ (s : State) (ids lens out : List ℕ) where
-  -- it is over, or there is no room for a line
-  pub close_none : feed_code s ids lens ≡ 0 → (s.over ≡ true) ⊎ (length out < 128) → CloseDone s ids lens out (stayed 0 0 s) out
-  close_none z h = record {
-    done = refl;
-    none = refl;
-    closed = record { fits = omega arith; joined = refl; untouched = refl };
-    goes_on = z;
-    moves = λ r. go h r;
-  }
-    where
-      go : (s.over ≡ true) ⊎ (length out < 128) → 128 ≤ length out → (s.over ≡ true) ⊎ ((s.shown < s.shown) × (s.shown ≤ 64))
-      go (inl e) r = inl e
-      go (inr l) r = absurd (omega (arith, l, r))
-
   module _ (k : CanGoOn s ids lens) (room : length s.kept ≡ 13) (e : End) (is : e ≡ end_in s.at s.came s.stage) (full : Bool)
       (stopped : full ≡ has_stopped s) where
     -- what is left at the log's end, from any place on
@@ -162,9 +148,6 @@ module _ (s : State) (ids lens out : List ℕ) where
 
   -- ---- The promise of a call at the log's end
 
-  pub refused_close : (code : ℕ) → code ≡ feed_code s ids lens → code ≢ 0 → CloseOf s ids lens out (stayed code 0 s) out
-  refused_close code e ne = record { code = e; refused = λ q. (refl, refl); done = λ z. absurd (ne z) }
-
   pub done_close : (r : Piece) (out' : List ℕ) → feed_code s ids lens ≡ 0 → CloseDone s ids lens out r out' → CloseOf s ids lens out r out'
   done_close r out' z d = record { code = d.done ∙ sym z; refused = λ ne. absurd (ne d.done); done = λ q. d }
 
@@ -177,14 +160,6 @@ module _ (s : State) (ids lens out : List ℕ) (r : Piece) (out' : List ℕ) (p 
       go : Dec (r.code ≡ 0) → r.used ≤ length out
       go (yes z) = (p.done z).closed.fits
       go (no n) = omega (arith, ap (λ (x : Piece). x.used) (p.refused n).0)
-
-  -- with room for a line there are fewer places to show, if the report is not over
-  pub close_less : r.code ≡ 0 → 128 ≤ length out → r.state.over ≡ false → 64 - r.state.shown < 64 - s.shown
-  close_less z room e = go ((p.done z).moves room)
-    where
-      go : (r.state.over ≡ true) ⊎ ((s.shown < r.state.shown) × (r.state.shown ≤ 64)) → 64 - r.state.shown < 64 - s.shown
-      go (inl q) = absurd (true≢false (sym q ∙ e))
-      go (inr m) = omega (arith, m.0, m.1)
 
 -- ---- HOWEVER THE LOG IS CUT, what is written is its report
 

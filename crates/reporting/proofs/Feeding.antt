@@ -1,9 +1,9 @@
 -- A fragment that is played leaves what was left of the report, whatever comes later. Assumes nothing.
 use mathlib.Core.Path.{◌≡◌, refl, sym, ap, ap₂, subst, ◌∙◌}
 use mathlib.Core.Bool.{Bool, true, false, cond, ◌&&◌, true≢false}
-use mathlib.Core.Logic.{◌⊎◌, inl, inr, ◌≢◌}
+use mathlib.Core.Logic.{inl, inr}
 use mathlib.Core.List.{List, [], ◌++◌, append-nil}
-use Prim.Native.Nat.{ℕ, ◌+◌, ◌-◌, ◌^◌, ◌≤◌, ◌<◌}
+use Prim.Native.Nat.{ℕ, ◌+◌, ◌-◌, ◌^◌, ◌≤◌}
 use Rattle.std.specs.Prelude.{Ok, Err}
 use native.Mathlib.Omega.{arith}
 use native.Mathlib.Decide.{ℕ_discrete}
@@ -29,7 +29,6 @@ use Rattle.log_bytes.proofs.First.{largest_range}
 use Rattle.fragments.specs.Kept.{kept_bytes}
 use Rattle.fragments.specs.Reading.{joined, GoesOnWith, KeptOn}
 use Rattle.fragments.proofs.Kept.{kept_none, rest_joined}
-use Rattle.fragments.proofs.Feeding.{told_nothing}
 use Rattle.lines.specs.Text.{Written, Line}
 use Rattle.lines.proofs.Texts.{from_front}
 use Rattle.arrays.specs.Lists.{zeroed}
@@ -109,9 +108,6 @@ ended_done s ids lens fragment out used line ids' lens' out' a d is fits! w = re
     l = from_front out line out' used (omega (arith, w.ends, fits!)) w
 
 -- ---- The fields after L
-
-pub can_play : (s : State) (ids lens : List ℕ) → CanGoOn s ids lens → past_l s.stage ≡ true → CanPlay s ids lens
-can_play s ids lens k p = record { past = p; fit = k.fit; low = k.low; good = k.good p }
 
 module _ (s : State) (ids lens fragment out : List ℕ) (k : CanGoOn s ids lens) (p : past_l s.stage ≡ true) where
   module _ (t : State) (ids' lens' : List ℕ) where
@@ -284,9 +280,6 @@ module _ (s : State) (ids lens fragment out : List ℕ) (k : CanGoOn s ids lens)
 -- ---- The promise of a call with a fragment
 
 module _ (s : State) (ids lens fragment out : List ℕ) where
-  pub refused_feed : (code : ℕ) → code ≡ feed_code s ids lens → code ≢ 0 → FeedOf s ids lens fragment out (stayed code 0 s) ids lens out
-  refused_feed code e ne = record { code = e; refused = λ q. (refl, (refl, (refl, refl))); done = λ z. absurd (ne z) }
-
   pub done_feed : (r : Piece) (ids' lens' out' : List ℕ) → feed_code s ids lens ≡ 0 → FeedDone s ids lens fragment out r ids' lens' out'
       → FeedOf s ids lens fragment out r ids' lens' out'
   done_feed r ids' lens' out' z d = record { code = d.done ∙ sym z; refused = λ ne. absurd (ne d.done); done = λ q. d }
@@ -308,22 +301,6 @@ module _ (s : State) (ids lens fragment out : List ℕ) where
     moves = λ q n. n;
     onward = λ q. absurd (true≢false (sym e ∙ q));
   }
-
-  -- without room for a line, or without a byte, nothing is
-  pub none_feed : feed_code s ids lens ≡ 0 → (length out < 128) ⊎ (length fragment ≡ 0) → FeedDone s ids lens fragment out (stayed 0 0 s) ids lens out
-  none_feed z h = record {
-    done = refl;
-    told = told_nothing rest_of (held s ids lens) fragment out;
-    goes_on = z;
-    quiet = λ q. refl;
-    all = λ r. inl (none h r);
-    moves = λ r n. absurd (omega (arith, none h r, n));
-    onward = λ q. omega arith;
-  }
-    where
-      none : (length out < 128) ⊎ (length fragment ≡ 0) → 128 ≤ length out → 0 ≡ length fragment
-      none (inl l) r = absurd (omega (arith, l, r))
-      none (inr e) r = sym e
 
 -- ---- What a program goes by from call to call
 

@@ -2,13 +2,11 @@
 -- nothing.
 use mathlib.Core.Path.{◌≡◌, refl, sym, ap, ap₂, subst, ◌∙◌}
 use mathlib.Core.Bool.{Bool, true, false, cond, true≢false}
-use mathlib.Core.Logic.{◌⊎◌, inl, inr, ◌≢◌}
+use mathlib.Core.Logic.{◌⊎◌, inl, inr}
 use mathlib.Core.List.{List, [], ◌++◌, append_assoc, append-nil}
-use Prim.Native.Nat.{ℕ, zero, suc, ◌+◌, ◌-◌, ◌*◌, ◌≤◌, ◌<◌}
+use Prim.Native.Nat.{ℕ, zero, suc, ◌+◌, ◌-◌, ◌≤◌, ◌<◌}
 use native.Mathlib.Omega.{arith}
-use lib.IntN.{ℤ, pos, ◌-ℤ◌}
 use lib.ListN.{length, get_or, take}
-use borrow.Author.Tests.{lt-ltb}
 use Rattle.rules.specs.Board.{at}
 use Rattle.board.specs.declared.Board as struct
 use Rattle.board.specs.Reading.{view}
@@ -18,9 +16,9 @@ use Rattle.log_bytes.specs.declared.End.{End}
 use Rattle.log_bytes.specs.declared.End.TheVariants.{Whole as whole, Broken as broken, Long as long}
 use Rattle.lines.specs.Text.{Written, Line}
 use Rattle.lines.proofs.Texts.{none, then, written_length, from_front}
-use Rattle.report_lines.specs.Text.{account_line, full_line}
+use Rattle.report_lines.specs.Text.{full_line}
 use Rattle.report_rules.specs.Report.{Reporting, place_line, place_lines, report_end}
-use Rattle.counting.specs.Counting.{Tallies, tallies_of, account_with, account_now}
+use Rattle.counting.specs.Counting.{Tallies, tallies_of, account_now}
 use Rattle.report_fields.specs.Fields.{ledger, reads}
 use Rattle.report_play.specs.declared.State.{State}
 use Rattle.report_play.specs.Playing.{one_line}
@@ -49,22 +47,6 @@ module _ (b : struct.Board) (ids lens : List ℕ) (k : Known b ids lens) (t : Ta
   pub whole_report : full ≡ false → (p : ℕ) → lines_from_in b t p ≡ report_end (reads (ledger b ids lens t full)) p whole
   unfolding report_end
   whole_report h p = lines_is (64 - p) p ∙ sym (ap (λ (x : Bool). cond x full_line (place_lines (reads (ledger b ids lens t full)) p (64 - p))) h)
-
--- the line of an open place, with the difference of its account
-pub place_line_lem : (share number slots credit bytes lost : ℕ) (d : ℤ) → share ≢ 0 → d ≡ pos (bytes * 65536) -ℤ pos credit
-    → (out : List ℕ) (used used' : ℕ) (out' : List ℕ)
-    → Written out used (account_line number slots credit bytes d lost) used' out' × (used' ≤ used + 128)
-    → Written out used (line_by share number (account_with slots credit bytes lost)) used' out' × (used' ≤ used + 128)
-place_line_lem share number slots credit bytes lost d ne e out used used' out' (w, few) =
-    (subst (λ (text : List ℕ). Written out used text used' out') same w, few)
-  where
-    same : account_line number slots credit bytes d lost ≡ line_by share number (account_with slots credit bytes lost)
-    same =
-        ap (λ (x : ℤ). account_line number slots credit bytes x lost) e
-        ∙ sym (ap (λ (t : Bool). cond t (account_line number slots credit bytes (pos (bytes * 65536) -ℤ pos credit) lost) []) (lt-ltb 0 share (omega arith)))
-
-pub no_line : (out : List ℕ) (used : ℕ) → Written out used [] used out × (used ≤ used + 128)
-no_line out used = (none out used, omega arith)
 
 -- ---- A report of one line
 

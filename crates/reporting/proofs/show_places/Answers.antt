@@ -1,15 +1,7 @@
 -- `reporting::show_places` meets its contract. What is written so far, and the lines of the places that follow, are what
 -- was left at the beginning. Assumes nothing.
-use mathlib.Core.Path.{refl}
-use native.Mathlib.Omega.{arith}
-use Rattle.reporting.proofs.Shown.{showing_first, showing_next, showing_more, showing_last}
+use Rattle.reporting.proofs.Shown.{showing_next, showing_more, showing_last}
 use Rattle.reporting.proofs.show_places.Goals as goal
-
-pub loop-place-init : goal.loop-place-init
-loop-place-init c = record { same_state = refl; showing = showing_first _ _ _ _ }
-
-pub overflow_sub-out : goal.overflow_sub-out
-overflow_sub-out c = omega (arith, c.loop-place.invariant.showing.fits, c.loop-place.invariant.showing.same)
 
 pub returns-then-out-used-lt-REPORT_ROOM : goal.returns-then-out-used-lt-REPORT_ROOM
 returns-then-out-used-lt-REPORT_ROOM c =
