@@ -4,3 +4,4 @@ pub mod Loops
 pub mod Numbers
 pub mod Sums
 pub mod Tests
+pub mod Iterations

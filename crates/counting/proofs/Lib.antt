@@ -1,5 +1,4 @@
 -- The laws of this crate, for those that stand on it.
 pub mod Accounts
-pub mod Ranges
 pub mod Counting
 pub mod Fitting

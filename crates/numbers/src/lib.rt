@@ -1,15 +1,11 @@
-// The numbers of document 01 by name, and the codes in a file of their own.
-// A name means one thing, in the width of what it is held against; a number that means two things has two names.
+// The numbers of document 01 by name, and its refusals with their codes in a file of their own. A name means one thing,
+// in the width of what it is held against; a number that means two things has two names.
 #![tactic(auto)]
 
-pub mod codes;
 pub mod refusal;
 
 // Places for blocks.
 pub const PLACES: usize = 64;
-
-// What a search among the places gives where none is found.
-pub const NO_PLACE: usize = PLACES;
 
 // A link to place p is p + 1: the link to the last place.
 pub const LAST_LINK: u8 = PLACES as u8;

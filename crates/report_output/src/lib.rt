@@ -4,7 +4,6 @@
 ghost use Rattle.std.specs.Prelude.{◌≡◌, true, false, ◌+◌, ◌^◌, ◌≤◌, ◌<◌, length, IfOk, OnErr};
 ghost use Rattle.report_play.specs.Playing.{offset_of};
 
-use numbers::codes;
 use report_play::State;
 use std::io;
 use std::io::Write;
@@ -20,7 +19,7 @@ pub struct Fed {
 fn goes_on(code: u8, over: bool) -> bool
     ensures { result ≡ true → (code ≡ 0) × (over ≡ false) }
 {
-    if code != codes::DONE {
+    if code != numbers::refusal::DONE {
         return false;
     }
     !over

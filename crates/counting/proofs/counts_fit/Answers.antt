@@ -5,7 +5,7 @@ use Rattle.std.proofs.Common.{rules}
 use Rattle.std.proofs.lemmas.Iterator.{serves_from_Range, YieldsList-from_range}
 use Rattle.std.proofs.lemmas.Iterator.Search.{all_from_yields_List}
 use Rattle.counting.specs.Counting.{tallies_of, fits_now, counts_fit_now}
-use Rattle.counting.proofs.Ranges.{all_range}
+use Rattle.base.proofs.Iterations.{all_range}
 use Rattle.counting.proofs.counts_fit.Goals as goal
 
 pub all-requires-clause-callable : goal.all-requires-clause-callable

@@ -6,7 +6,7 @@ use Rattle.std.proofs.Common.{rules, tests}
 use Rattle.std.proofs.lemmas.Iterator.{YieldsList-from_range}
 use Rattle.std.proofs.lemmas.Iterator.Search.{all_from_yields_List}
 use Rattle.lanes.specs.Lanes.{lane_entry}
-use Rattle.spoilt_places.proofs.Iterations.{all_range}
+use Rattle.base.proofs.Iterations.{all_range}
 use Rattle.spoilt.specs.Test.{length_in_range, lane_in_range}
 use Rattle.spoilt.proofs.lane_in_range.Goals as goal
 

@@ -4,7 +4,7 @@ use lib.ListN.{get_or}
 use Rattle.std.proofs.Common.{rules, tests}
 use Rattle.std.proofs.lemmas.Iterator.{YieldsList-from_range}
 use Rattle.std.proofs.lemmas.Iterator.Search.{all_from_yields_List}
-use Rattle.spoilt_places.proofs.Iterations.{all_range}
+use Rattle.base.proofs.Iterations.{all_range}
 use Rattle.spoilt.specs.Test.{lane_in_range, lanes_in_range}
 use Rattle.spoilt.proofs.lanes_in_range.Goals as goal
 

@@ -4,7 +4,7 @@ use lib.ListN.{get_or}
 use Rattle.std.proofs.Common.{rules, tests}
 use Rattle.std.proofs.lemmas.Iterator.{YieldsList-from_range}
 use Rattle.std.proofs.lemmas.Iterator.Consumers.{YieldsList-at, YieldsList-from_filter, count_from_yields_List}
-use Rattle.spoilt_places.proofs.Iterations.{count_range}
+use Rattle.base.proofs.Iterations.{count_range}
 use Rattle.spoilt_places.specs.Ranges.{in_order}
 use Rattle.spoilt_orders.specs.Walks.{blocks_in_order}
 use Rattle.spoilt_orders.proofs.blocks_in_order.Goals as goal

@@ -4,7 +4,7 @@ use lib.Dec.{eqb}
 use Rattle.std.proofs.Common.{rules, tests}
 use Rattle.std.proofs.lemmas.Iterator.{YieldsList-from_slice}
 use Rattle.std.proofs.lemmas.Iterator.Search.{all_from_yields_List}
-use Rattle.spoilt_places.proofs.Iterations.{all_list}
+use Rattle.base.proofs.Iterations.{all_list}
 use Rattle.spoilt_places.specs.Ranges.{none_held}
 use Rattle.spoilt_places.proofs.none_held.Goals as goal
 

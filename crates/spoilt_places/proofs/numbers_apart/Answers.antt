@@ -3,7 +3,7 @@ use mathlib.Core.Path.{◌∙◌}
 use Rattle.std.proofs.Common.{rules, tests}
 use Rattle.std.proofs.lemmas.Iterator.{YieldsList-from_slice}
 use Rattle.std.proofs.lemmas.Iterator.Search.{all_from_yields_List}
-use Rattle.spoilt_places.proofs.Iterations.{all_list}
+use Rattle.base.proofs.Iterations.{all_list}
 use Rattle.spoilt_places.specs.Ranges.{number_apart, numbers_apart}
 use Rattle.spoilt_places.proofs.numbers_apart.Goals as goal
 

@@ -3,7 +3,7 @@ use mathlib.Core.Path.{refl, ◌∙◌}
 use Rattle.std.proofs.Common.{rules, tests}
 use Rattle.std.proofs.lemmas.Iterator.{YieldsList-from_range}
 use Rattle.std.proofs.lemmas.Iterator.Search.{all_from_yields_List}
-use Rattle.spoilt_places.proofs.Iterations.{all_range}
+use Rattle.base.proofs.Iterations.{all_range}
 use Rattle.spoilt_places.specs.Ranges.{place_now, place_in_range, places_in_range}
 use Rattle.spoilt_places.proofs.places_in_range.Goals as goal
 

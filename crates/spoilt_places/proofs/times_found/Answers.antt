@@ -7,7 +7,7 @@ use lib.ListN.{get_or}
 use Rattle.base.proofs.Loops.{below_more, below_none}
 use Rattle.base.proofs.Sums.{one_if_le}
 use Rattle.base.specs.Sums.{one_if}
-use Rattle.spoilt_places.proofs.Iterations.{byte_is}
+use Rattle.base.proofs.Iterations.{byte_is}
 use Rattle.spoilt_places.proofs.times_found.Goals as goal
 
 pub loop-m-init : goal.loop-m-init

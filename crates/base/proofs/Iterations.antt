@@ -5,6 +5,7 @@ use mathlib.Core.List.{List, [], ◌∷◌}
 use Prim.Native.Nat.{ℕ, zero, suc, ◌+◌, ◌<◌}
 use native.Mathlib.Omega.{arith}
 use lib.ListN.{length, get_or}
+use Rattle.std.proofs.Math.Bool.{and_assoc}
 use Rattle.std.specs.List.{list_all, filter, range_with_len}
 use Rattle.std.proofs.lemmas.List.FromFn.{length-range_with_len, get_or-range_with_len}
 use mir.Val.{bool_byte}
@@ -16,10 +17,6 @@ all_ext : (t u : ℕ → Bool) (n : ℕ) → ((i : ℕ) → i < n → t i ≡ u 
 unfolding all_below
 all_ext t u zero e = refl
 all_ext t u (suc n) e = rw (all_ext t u n (λ i h. e i (omega arith)), e n (omega arith))
-
-and_assoc : (a b c : Bool) → (a && b) && c ≡ a && (b && c)
-and_assoc true b c = refl
-and_assoc false b c = refl
 
 all_first : (t : ℕ → Bool) (n : ℕ) → all_below (suc n) t ≡ t 0 && all_below n (λ i. t (suc i))
 unfolding all_below
