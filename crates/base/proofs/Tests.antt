@@ -2,9 +2,8 @@
 use mathlib.Core.Path.{◌≡◌, refl, sym, ◌∙◌}
 use mathlib.Core.Bool.{Bool, true, false, cond, ◌&&◌, true≢false, false≢true}
 use mathlib.Core.Logic.{◌⊎◌, inl, inr}
-use Prim.Native.Nat.{ℕ, zero, suc, ◌+◌, ◌≤◌, ◌<◌}
+use Prim.Native.Nat.{ℕ, zero, suc, ◌≤◌, ◌<◌}
 use native.Mathlib.Nat.{eq-or-lt_of_le, le_of_suc-le-suc}
-use native.Mathlib.Numerals.{add-one}
 use native.Mathlib.Omega.{arith}
 use Rattle.base.specs.Tests.{all_below, least}
 use Rattle.base.proofs.Numbers.{split}
@@ -94,11 +93,3 @@ least_none t n none = go (split n (least t n))
     go : (n ≤ least t n) ⊎ (least t n < n) → least t n ≡ n
     go (inl l) = omega (arith, least_le t n)
     go (inr g) = absurd (true≢false (sym (least_true t n g) ∙ none (least t n) g))
-
--- a fact at every number below i, and at i, is a fact at every number below i + 1
-pub below_next : (P : ℕ → Type 0) (i : ℕ) → ((j : ℕ) → j < i → P j) → P i → (j : ℕ) → j < i + 1 → P j
-below_next P i h here j l = go (eq-or-lt_of_le (le_of_suc-le-suc (rw (add-one i) at l)))
-  where
-    go : (j ≡ i) ⊎ (j < i) → P j
-    go (inl e) = rw e here
-    go (inr g) = h j g

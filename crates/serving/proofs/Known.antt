@@ -3,7 +3,7 @@ use Rattle.std.specs.Prelude.{Result, Ok, Err}
 use mathlib.Core.Path.{◌≡◌, refl, sym, ap, subst, ◌∙◌}
 use mathlib.Core.Logic.{◌⊎◌, inl, inr}
 use mathlib.Core.List.{List}
-use Prim.Native.Nat.{ℕ, ◌<◌}
+use Prim.Native.Nat.{ℕ}
 use lib.ListN.{length}
 use Rattle.rules.specs.Board
 use Rattle.rules.specs.Choice.{Out, refused, serve}
@@ -52,14 +52,6 @@ module _ (b : struct.Board) (ids lens : List ℕ) (known : Known b ids lens) whe
 
   pub after_is : (w : Within) → with_engine (encode m) (engine_after w) ≡ encode (serve m).next → with_engine b (engine_after w) ≡ encode (serve m).next
   after_is w e = ap (λ (c : struct.Board). with_engine c (engine_after w)) (sym spells) ∙ e
-
-  -- where a record is sent: its place, and its entry in both tables
-  pub sent_index : (bytes room : ℕ) (w : Within) → w ≡ within b lens bytes room → w.step.code ≡ 0 → (w.step.place < 64) × (w.step.entry < 2048)
-  sent_index bytes room w e z = go (by_cases bytes room w e)
-    where
-      go : Stops m bytes room w ⊎ SendsOne m ids lens bytes room w → (w.step.place < 64) × (w.step.entry < 2048)
-      go (inl s) = absurd (s.code z)
-      go (inr g) = (g.inside, g.entry)
 
   pub known_next : Holds (serve m).next ids lens → Known (encode (serve m).next) ids lens
   known_next h = known_encode (serve m).next ids lens (fit_serve m fit) h known.ids_all known.lens_all
