@@ -1,6 +1,7 @@
 // The numbers and fragments of a feed case. Where the input ends in one, the case is not whole, and the error says so.
 ghost use Rattle.std.specs.Prelude.{◌≡◌, ◌≤◌, length, take, IfOk, IfSome};
 
+use case_steps::spelling;
 use std::io;
 use std::io::{ErrorKind, Read};
 
@@ -10,35 +11,50 @@ pub const MOST: usize = 4096;
 // The length that says that the log has ended.
 const END: usize = 65535;
 
+// What a case plays of its log: the listing, or the report.
+#[derive(Clone, Copy, Debug, PartialEq, Eq)]
+pub enum Kind {
+    Listing,
+    Report,
+}
+
+// A byte that names no kind.
+#[derive(Clone, Copy, Debug, PartialEq, Eq)]
+pub struct UnknownKind;
+
+impl TryFrom<u8> for Kind {
+    type Error = UnknownKind;
+
+    fn try_from(byte: u8) -> Result<Kind, UnknownKind> {
+        match byte {
+            0 => Ok(Kind::Listing),
+            1 => Ok(Kind::Report),
+            _ => Err(UnknownKind),
+        }
+    }
+}
+
 // The error of a case whose bytes are there, but have other values than docs/CASES.md says.
 pub fn not_whole() -> io::Error {
     io::Error::from(ErrorKind::InvalidData)
 }
 
-// The kind of the next case; there is none where the input ends, or cannot be read.
-pub fn kind<R: Read>(cases: &mut R) -> Option<u8> {
-    let mut byte = [0u8; 1];
-    cases.read_exact(&mut byte).ok()?;
-    Some(byte[0])
+// The kind of the next case. There is none where the input ends, or cannot be read; a byte that names none is an error.
+pub fn next_kind<R: Read>(cases: &mut R) -> io::Result<Option<Kind>> {
+    let Ok(byte) = spelling::byte(cases) else {
+        return Ok(None);
+    };
+    match Kind::try_from(byte) {
+        Ok(kind) => Ok(Some(kind)),
+        Err(_) => Err(not_whole()),
+    }
 }
 
-// The next number of eight bytes.
-pub fn number<R: Read>(cases: &mut R) -> io::Result<u64> {
-    let mut bytes = [0u8; 8];
-    cases.read_exact(&mut bytes)?;
-    Ok(case_steps::spelling::number(&bytes))
-}
-
-// High byte first.
-fn pair(high: u8, low: u8) -> usize {
-    high as usize * 256 + low as usize
-}
-
-// The next number of two bytes.
+// The next number of two bytes, high byte first.
 pub fn short<R: Read>(cases: &mut R) -> io::Result<usize> {
     let mut bytes = [0u8; 2];
     cases.read_exact(&mut bytes)?;
-    Ok(pair(bytes[0], bytes[1]))
+    Ok(usize::from(u16::from_be_bytes(bytes)))
 }
 
 // The next fragment, and how many bytes it has. Where the log has ended there is none.

@@ -3,6 +3,7 @@
 // output. What fails is said on standard error.
 #![tactic(auto)]
 
+use crate::input::Kind;
 use lines::LINE_ROOM;
 use numbers::LOG_END;
 use report_lines::REPORT_ROOM;
@@ -10,40 +11,32 @@ use std::io;
 use std::io::{Read, Write};
 
 mod input;
-mod listing;
-mod report;
-
-// The kinds of a case: the listing of a log, or its report.
-const LISTING: u8 = 0;
-
-const REPORT: u8 = 1;
+mod play;
+mod players;
 
 // The least room of a buffer: what a line of a listing may take, and one of a report.
-fn least_room(kind: u8) -> usize {
-    if kind == REPORT {
-        return REPORT_ROOM;
+fn least_room(kind: Kind) -> usize {
+    match kind {
+        Kind::Listing => LINE_ROOM,
+        Kind::Report => REPORT_ROOM,
     }
-    LINE_ROOM
 }
 
 // Plays the next case, and answers whether there was one. One that is not whole is an error.
 fn next_case<R: Read, W: Write>(cases: &mut R, answers: &mut W) -> io::Result<bool> {
-    let Some(kind) = input::kind(cases) else {
+    let Some(kind) = input::next_kind(cases)? else {
         return Ok(false);
     };
-    let first = input::number(cases)?;
+    let first = case_steps::spelling::number(cases)?;
     let room = input::short(cases)?;
-    if LOG_END < first || room < least_room(kind) {
-        return Err(input::not_whole());
-    }
-    if input::MOST < room {
+    if LOG_END < first || room < least_room(kind) || input::MOST < room {
         return Err(input::not_whole());
     }
     let mut out = [0u8; input::MOST];
+    let out = &mut out[..room];
     match kind {
-        LISTING => listing::play(cases, answers, &mut out[..room], first)?,
-        REPORT => report::play(cases, answers, &mut out[..room], first)?,
-        _ => return Err(input::not_whole()),
+        Kind::Listing => play::play::<R, W, player::State>(cases, answers, out, first)?,
+        Kind::Report => play::play::<R, W, report_play::State>(cases, answers, out, first)?,
     }
     let _ = answers.write_all(b"--\n");
     Ok(true)

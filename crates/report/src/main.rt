@@ -2,7 +2,13 @@
 // no report. What fails is said on standard error, and the exit status is 0 all the same.
 #![tactic(auto)]
 
+ghost use Rattle.std.specs.Prelude.{OnOk};
+ghost use Rattle.log_input.specs.Telling.{TellsWhole};
+ghost use Rattle.report_rules.specs.Report.{report_of};
+
 use numbers::TABLE_ENTRIES;
+use report_output::Failure;
+use std::io::{Read, Write};
 
 // The bytes that are read at a time at most.
 const FRAGMENT: usize = 65536;
@@ -10,46 +16,35 @@ const FRAGMENT: usize = 65536;
 // The bytes of the buffer for a piece of the report.
 const ROOM: usize = 4096;
 
-// Says so where a report could not be written.
-fn say(rt: &impl Eprint, written: bool) {
-    if !written {
-        let _ = rt.eprintln("report: the report cannot be written");
-    }
-}
-
-fn main(rt: HostRuntime) {
-    let mut log = rt.stdin();
-    let mut report = rt.stdout();
+// Plays the log fragment by fragment. The report is written only where the log has ended.
+fn report_log<R: Read, W: Write>(log: &mut R, report: &mut W) -> Result<(), Failure>
+    ensures { OnOk result (TellsWhole report_of (R.remaining log.old) (W.contents report.old)
+        (W.contents report.new)) }
+{
     let mut ids = [0u32; TABLE_ENTRIES];
     let mut lens = [0u16; TABLE_ENTRIES];
     let mut fragment = [0u8; FRAGMENT];
     let mut out = [0u8; ROOM];
     let mut state = reporting::begin();
-    loop {
-        let Ok(n) = log_input::next_fragment(&mut log, &mut fragment) else {
-            let _ = rt.eprintln("report: the log cannot be read");
-            return;
-        };
-        if n == 0 {
-            let end = report_output::write_end(&mut report, &ids, &lens, &mut out, state);
-            say(&rt, end.is_ok());
-            return;
-        }
-        let fed = report_output::write_fragment(
-            &mut report,
-            &fragment[..n],
+    while !state.over {
+        report_output::report_next(
+            log,
+            report,
+            &mut fragment,
             &mut ids,
             &mut lens,
             &mut out,
-            state,
-        );
-        let Ok(fed) = fed else {
-            say(&rt, false);
-            return;
-        };
-        if !fed.goes {
-            return;
-        }
-        state = fed.state;
+            &mut state,
+        )?;
     }
+    Ok(())
+}
+
+fn main(rt: HostRuntime) {
+    let (mut log, mut report) = (rt.stdin(), rt.stdout());
+    let _ = match report_log(&mut log, &mut report) {
+        Ok(()) | Err(Failure::Refused(_)) => Ok(()),
+        Err(Failure::Unread(_)) => rt.eprintln("report: the log cannot be read"),
+        Err(Failure::Unwritten(_)) => rt.eprintln("report: the report cannot be written"),
+    };
 }

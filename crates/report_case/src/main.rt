@@ -5,59 +5,40 @@
 
 use numbers::TABLE_ENTRIES;
 use report_lines::REPORT_ROOM;
+use report_output::Failure;
+use std::io::{Read, Write};
 
 mod begun;
 mod handed;
 
-fn say_unread(rt: &impl Eprint) {
-    let _ = rt.eprintln("report_case: the case cannot be read");
-}
-
-// Says so where a report could not be written.
-fn say(rt: &impl Eprint, written: bool) {
-    if !written {
-        let _ = rt.eprintln("report_case: the report cannot be written");
-    }
-}
-
 // The log is read byte by byte, since a byte opens one block at most.
-fn main(rt: HostRuntime) {
-    let mut case = rt.stdin();
-    let mut report = rt.stdout();
-    let Ok(given) = handed::counts(&mut case) else {
-        say_unread(&rt);
-        return;
-    };
+fn play_case<R: Read, W: Write>(case: &mut R, report: &mut W) -> Result<(), Failure> {
+    let given = handed::accounts(case).map_err(Failure::Unread)?;
     let mut ids = [0u32; TABLE_ENTRIES];
     let mut lens = [0u16; TABLE_ENTRIES];
     let mut byte = [0u8; 1];
     let mut out = [0u8; REPORT_ROOM];
     let mut state = reporting::begin();
-    loop {
-        let Ok(n) = log_input::next_fragment(&mut case, &mut byte) else {
-            say_unread(&rt);
-            return;
-        };
-        if n == 0 {
-            let end = report_output::write_end(&mut report, &ids, &lens, &mut out, state);
-            say(&rt, end.is_ok());
-            return;
-        }
-        let fed = report_output::write_fragment(
-            &mut report,
-            &byte,
-            &mut ids,
-            &mut lens,
-            &mut out,
-            state,
+    while !state.over {
+        let before = state.board.shares;
+        report_output::report_next(
+            case, report, &mut byte, &mut ids, &mut lens, &mut out, &mut state,
+        )?;
+        begun::hand_in(
+            &before,
+            &state.board.shares,
+            &given,
+            &mut state.counts.accounts,
         );
-        let Ok(fed) = fed else {
-            say(&rt, false);
-            return;
-        };
-        if !fed.goes {
-            return;
-        }
-        state = begun::state(state, fed.state, given);
     }
+    Ok(())
+}
+
+fn main(rt: HostRuntime) {
+    let (mut case, mut report) = (rt.stdin(), rt.stdout());
+    let _ = match play_case(&mut case, &mut report) {
+        Ok(()) | Err(Failure::Refused(_)) => Ok(()),
+        Err(Failure::Unread(_)) => rt.eprintln("report_case: the case cannot be read"),
+        Err(Failure::Unwritten(_)) => rt.eprintln("report_case: the report cannot be written"),
+    };
 }

@@ -1,89 +1,105 @@
 // A report as it is written, for the programs that report on a log.
 #![tactic(auto)]
 
-ghost use Rattle.std.specs.Prelude.{◌≡◌, true, false, ◌+◌, ◌^◌, ◌≤◌, ◌<◌, length, IfOk, OnErr};
+ghost use Rattle.std.specs.Prelude.{◌≡◌, true, false, [], ◌+◌, ◌^◌, ◌≤◌, ◌<◌, length, OnOk, OnErr};
+ghost use Rattle.std.specs.Io.KnownBytes.{Appends};
+ghost use Rattle.log_input.specs.Telling.{TellsOn, TellsPart};
+ghost use Rattle.report_output.specs.declared.Failure.TheVariants.{Refused};
 ghost use Rattle.report_play.specs.Playing.{offset_of};
+ghost use Rattle.reporting.specs.Feeding.{held, rest_of};
 
+use numbers::refusal::Refusal;
 use report_play::State;
 use std::io;
-use std::io::Write;
+use std::io::{Read, Write};
 
-// What became of a fragment whose report is written: whether the log is read on behind it, and the state there.
+// Why a log has no whole report.
 #[derive(Drop)]
-pub struct Fed {
-    pub goes: bool,
-    pub state: State,
+pub enum Failure {
+    Unread(io::Error),
+    Unwritten(io::Error),
+    Refused(Refusal),
 }
 
-// Whether another piece follows: nothing is refused, and the report is not over.
-fn goes_on(code: u8, over: bool) -> bool
-    ensures { result ≡ true → (code ≡ 0) × (over ≡ false) }
-{
-    if code != numbers::refusal::DONE {
-        return false;
+impl From<Refusal> for Failure {
+    ghost from_gives = { λ refusal failure. failure ≡ Refused refusal };
+
+    fn from(refusal: Refusal) -> Failure {
+        Failure::Refused(refusal)
     }
-    !over
 }
 
-// Feeds a fragment to a report, and writes what there is to write of it. A write that fails ends it, so that what was
-// written is always the report's beginning; its error is the only one, and tables and buffer keep their lengths.
+// Feeds a fragment to a report, and writes what there is to write of it. A call that is refused and a write that fails
+// end it, so that what was written is always the report's beginning; tables and buffer keep their lengths.
 pub fn write_fragment<W: Write>(
     report: &mut W,
     fragment: &[u8],
     ids: &mut [u32],
     lens: &mut [u16],
     out: &mut [u8],
-    s: State,
-) -> io::Result<Fed>
+    s: &mut State,
+) -> Result<(), Failure>
     requires { 128 ≤ length out.old }
-    ensures fed { IfOk result (λ fed. fed.goes ≡ true → 0 < length fragment.now
-        → (offset_of fed.state ≡ offset_of s + length fragment.now) × (offset_of fed.state ≤ 2 ^ 48)) }
+    ensures fed { OnOk result (s.new.over ≡ false → 0 < length fragment.now
+        → (offset_of s.new ≡ offset_of s.old + length fragment.now) × (offset_of s.new ≤ 2 ^ 48)) }
+    ensures told { OnOk result (TellsPart rest_of (W.contents report.old) (W.contents report.new)
+        (held s.old ids.old lens.old) (held s.new ids.new lens.new) fragment.now []) }
     ensures failed { OnErr result ((length ids.new ≡ length ids.old)
         × ((length lens.new ≡ length lens.old) × (length out.new ≡ length out.old))) }
 {
-    let mut state = s;
     let mut taken: usize = 0;
-    while taken < fragment.len() {
-        let piece = reporting::feed(&fragment[taken..], &mut *ids, &mut *lens, &mut *out, state);
-        let used = piece.used;
-        let next = piece.state;
-        report.write_all(&out[..used])?;
-        if !goes_on(piece.code, next.over) {
-            return Ok(Fed {
-                goes: false,
-                state: next,
-            });
-        }
-        state = next;
-        taken += piece.taken;
+    while taken < fragment.len() && !s.over {
+        let fed = reporting::feed(s, &fragment[taken..], ids, lens, out)?;
+        report
+            .write_all(&out[..fed.used])
+            .map_err(Failure::Unwritten)?;
+        taken += fed.taken;
     }
-    Ok(Fed {
-        goes: true,
-        state: state,
-    })
+    Ok(())
 }
 
-// Writes what is left of a report where its log has ended, a piece at a time. The error of a write that fails is the
-// only one.
+// Writes what is left of a report where its log has ended, a piece at a time.
 pub fn write_end<W: Write>(
     report: &mut W,
     ids: &[u32],
     lens: &[u16],
     out: &mut [u8],
-    s: State,
-) -> io::Result<()>
+    s: &mut State,
+) -> Result<(), Failure>
     requires { 128 ≤ length out.old }
-    ensures { OnErr result (length out.new ≡ length out.old) }
+    ensures told { OnOk result ((s.new.over ≡ true) × Appends (W.contents report.old) (W.contents report.new)
+        (rest_of (held s.old ids.now lens.now) [])) }
+    ensures failed { OnErr result (length out.new ≡ length out.old) }
 {
-    let mut state = s;
-    loop {
-        let piece = reporting::finish(ids, lens, &mut *out, state);
-        let used = piece.used;
-        let next = piece.state;
-        report.write_all(&out[..used])?;
-        if !goes_on(piece.code, next.over) {
-            return Ok(());
-        }
-        state = next;
+    while !s.over {
+        let fed = reporting::finish(s, ids, lens, out)?;
+        report
+            .write_all(&out[..fed.used])
+            .map_err(Failure::Unwritten)?;
     }
+    Ok(())
+}
+
+// Reads what has come of a log, and writes what there is to write of it; where the log has ended, what is left.
+pub fn report_next<R: Read, W: Write>(
+    log: &mut R,
+    report: &mut W,
+    fragment: &mut [u8],
+    ids: &mut [u32],
+    lens: &mut [u16],
+    out: &mut [u8],
+    s: &mut State,
+) -> Result<(), Failure>
+    requires { (0 < length fragment.old) × (128 ≤ length out.old) }
+    ensures onward { OnOk result (s.new.over ≡ false
+        → (offset_of s.old < offset_of s.new) × (offset_of s.new ≤ 2 ^ 48)) }
+    ensures told { OnOk result (TellsOn rest_of (R.remaining log.old) (R.remaining log.new)
+        (W.contents report.old) (W.contents report.new)
+        (held s.old ids.old lens.old) (held s.new ids.new lens.new)) }
+{
+    let n = log_input::next_fragment(log, fragment).map_err(Failure::Unread)?;
+    if n == 0 {
+        return write_end(report, ids, lens, out, s);
+    }
+    write_fragment(report, &fragment[..n], ids, lens, out, s)
 }

@@ -1,6 +1,15 @@
--- From call to call there are fewer places to show.
-use Rattle.std.proofs.Common.{◌-◌}
+-- What was left is what is written and what is left now. From call to call there are fewer places to show.
+use Rattle.std.proofs.Common.{◌≡◌, [], ◌++◌, List, ℕ}
+use Rattle.std.specs.Io.KnownBytes.{Appends}
+use Rattle.reporting.specs.Feeding.{held, rest_of}
+use Rattle.report_output.proofs.Calls.{places_left}
 use Rattle.report_output.proofs.write_end.Given as goal
 
-abbrev pub decreases-loop-state : goal.decreases-loop-state
-decreases-loop-state g l = 64 - l.state.shown
+abbrev pub invariant-loop-s : goal.invariant-loop-s
+invariant-loop-s g l =
+    (text : List ℕ)
+    × (Appends (g.W.Write.contents l.fn.report) (g.W.Write.contents l.report) text
+    × (text ++ rest_of (held l.s l.ids l.lens) [] ≡ rest_of (held l.fn.s l.ids l.lens) []))
+
+abbrev pub decreases-loop-s : goal.decreases-loop-s
+decreases-loop-s g l = places_left l.s.over l.s.shown

@@ -1,0 +1,2 @@
+-- What there is to write of a log before it comes.
+mod Begins

@@ -1,0 +1,2 @@
+-- The laws of this crate, for those that stand on it.
+mod Calls
