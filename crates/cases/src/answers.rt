@@ -1,6 +1,4 @@
 // The steps that make a call: each reads its operands and writes the answer line.
-ghost use Rattle.std.specs.Prelude.{◌≡◌, length};
-
 use crate::{input, show};
 use board::Board;
 use case_steps::answers::Answer;
@@ -26,27 +24,27 @@ pub fn answer<R: Read, W: Write>(
 ) -> io::Result<()> {
     let answer = match call {
         Call::Make => {
-            let largest = input::word(case)?;
+            let largest = input::operand(case)?;
             Answer::Coded(calls::make(b, ids, lens, largest))
         }
         Call::Open => {
-            let number = input::word(case)?;
-            let share = input::word(case)?;
+            let number = input::operand(case)?;
+            let share = input::operand(case)?;
             Answer::Coded(calls::open(b, ids, lens, Opening { number, share }))
         }
         Call::Rename => {
-            let old = input::word(case)?;
-            let new = input::word(case)?;
+            let old = input::operand(case)?;
+            let new = input::operand(case)?;
             Answer::Coded(calls::rename(b, ids, lens, old, new))
         }
         Call::Close => {
-            let block = input::word(case)?;
+            let block = input::operand(case)?;
             Answer::Coded(calls::close(b, ids, lens, block))
         }
         Call::Record => {
-            let block = input::word(case)?;
-            let id = input::word(case)?;
-            let length = input::short(case)?;
+            let block = input::operand(case)?;
+            let id = input::operand(case)?;
+            let length = input::operand(case)?;
             Answer::Coded(calls::record(b, ids, lens, block, id, length))
         }
         Call::Serve => Answer::Served(calls::serve(b, ids, lens)),
@@ -61,13 +59,6 @@ pub fn answer<R: Read, W: Write>(
     Ok(())
 }
 
-// The list of a burst before the call.
-fn unwritten() -> [u32; tables::MOST]
-    ensures { 4096 ≡ length result }
-{
-    [u32::MAX; tables::MOST]
-}
-
 // A burst is answered apart, so that its list is on the stack for no other call.
 fn burst<R: Read, W: Write>(
     case: &mut R,
@@ -76,9 +67,9 @@ fn burst<R: Read, W: Write>(
     lens: &[u16],
     b: &mut Board,
 ) -> io::Result<()> {
-    let bytes = input::number(case, u64::MAX)?;
+    let bytes = input::operand(case)?;
     let room = input::index(case, tables::MOST)?;
-    let mut list = unwritten();
+    let mut list = [u32::MAX; tables::MOST];
     let list = &mut list[..room];
     let answer = Answer::Bursted(calls::burst(b, ids, lens, Bytes(bytes), list));
     line(

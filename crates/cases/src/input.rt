@@ -18,29 +18,24 @@ pub fn step<R: Read>(case: &mut R) -> io::Result<Option<Step>> {
     }
 }
 
-// The next operand. Where the input ends in it, or it is over `most`, the step is not whole, and the error says so.
-pub fn number<R: Read>(case: &mut R, most: u64) -> io::Result<u64>
-    ensures { IfOk result (λ v. v ≤ most) }
+// The next operand. Where the input ends in it, or it is over the greatest value of its type, the step is not whole,
+// and the error says so.
+pub fn operand<R: Read, T: TryFrom<u64>>(case: &mut R) -> io::Result<T>
+where
+    T::Error: Drop,
 {
-    let v = spelling::number(case)?;
-    if most < v {
-        return Err(not_whole());
-    }
-    Ok(v)
+    T::try_from(spelling::number(case)?).map_err(|_| not_whole())
 }
 
-pub fn word<R: Read>(case: &mut R) -> io::Result<u32> {
-    Ok(number(case, u64::from(u32::MAX))? as u32)
-}
-
-pub fn short<R: Read>(case: &mut R) -> io::Result<u16> {
-    Ok(number(case, u64::from(u16::MAX))? as u16)
-}
-
+// The same of an operand that is at most so much.
 pub fn index<R: Read>(case: &mut R, most: usize) -> io::Result<usize>
     ensures { IfOk result (λ i. i ≤ most) }
 {
-    Ok(number(case, most as u64)? as usize)
+    let i = operand(case)?;
+    if most < i {
+        return Err(not_whole());
+    }
+    Ok(i)
 }
 
 // The error of a step whose bytes are there, but have another value than docs/CASES.md says.

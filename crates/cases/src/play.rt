@@ -36,7 +36,7 @@ impl CaseState {
         ids: &mut [u32],
         lens: &mut [u16],
     ) -> io::Result<()> {
-        let number = input::number(case, u64::MAX)?;
+        let number: u64 = input::operand(case)?;
         tables::cut(ids, lens, 0, 0);
         let _ = writeln!(lines, "case {number}");
         *self = CaseState::fresh();

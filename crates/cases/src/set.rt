@@ -16,14 +16,14 @@ fn which<R: Read>(case: &mut R, count: usize) -> io::Result<usize> {
 
 pub fn field<R: Read>(case: &mut R, field: Field, b: &mut Board) -> io::Result<()> {
     let i = which(case, field.entries())?;
-    let v = input::number(case, u64::MAX)?;
+    let v = input::operand(case)?;
     field.set(i, v, b).ok_or_else(input::not_whole)
 }
 
 pub fn entry<R: Read>(case: &mut R, ids: &mut [u32], lens: &mut [u16]) -> io::Result<()> {
     let i = input::index(case, tables::MOST - 1)?;
-    let number = input::word(case)?;
-    let length = input::short(case)?;
+    let number = input::operand(case)?;
+    let length = input::operand(case)?;
     tables::set_entry(ids, lens, i, number, length);
     Ok(())
 }
