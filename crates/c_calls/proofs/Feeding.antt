@@ -33,11 +33,8 @@ mark_back false = refl
 pub stored_back : StoredBack
 unfolding state_of feeder_of
 stored_back s = λ j. record {
-  stage = stage_back s.stage j;
+  reader = record { stage = stage_back s.reader.stage j; at = s.reader.at; came = s.reader.came; kept = s.reader.kept };
   over = mark_back s.over j;
-  at = s.at;
-  came = s.came;
-  kept = s.kept;
   sent = s.sent;
   board = s.board;
 }

@@ -23,11 +23,8 @@ mark_of is = cond is 1 0
 unfoldable pub state_of : Feeder → State
 state_of f =
     record {
-      stage = stage_of f.made;
+      reader = record { stage = stage_of f.made; at = f.at; came = f.came; kept = f.kept };
       over = not (eqb f.over 0);
-      at = f.at;
-      came = f.came;
-      kept = f.kept;
       sent = record { 0 = f.sent };
       board = f.board;
     }
@@ -36,11 +33,11 @@ unfoldable pub feeder_of : State → Feeder
 feeder_of s =
     record {
       board = s.board;
-      at = s.at;
+      at = s.reader.at;
       sent = s.sent.0;
-      came = s.came;
-      kept = s.kept;
-      made = mark_of (past_l s.stage);
+      came = s.reader.came;
+      kept = s.reader.kept;
+      made = mark_of (past_l s.reader.stage);
       over = mark_of s.over;
     }
 

@@ -7,7 +7,7 @@ ghost use Rattle.numbers.specs.Codes.{outcome_code};
 ghost use Rattle.c_calls.specs.Feeding.{state_of, feeder_of, fed_in, FeederFed, FeederFinished};
 
 use board::Board;
-use fragments::FIELD_ROOM;
+use fragments::{FIELD_ROOM, Reader};
 use log_bytes::Stage;
 use numbers::refusal::Refusal;
 use operands::Fed;
@@ -44,15 +44,17 @@ impl From<&Feeder> for State {
     #[tactic(auto, unfolding(crate::specs::Feeding::state_of))]
     fn from(f: &Feeder) -> State {
         State {
-            stage: if f.made == 0 {
-                Stage::BeforeL
-            } else {
-                Stage::AfterL
+            reader: Reader {
+                stage: if f.made == 0 {
+                    Stage::BeforeL
+                } else {
+                    Stage::AfterL
+                },
+                at: f.at,
+                came: f.came,
+                kept: f.kept,
             },
             over: f.over != 0,
-            at: f.at,
-            came: f.came,
-            kept: f.kept,
             sent: Bytes(f.sent),
             board: f.board,
         }
@@ -66,11 +68,11 @@ impl From<&State> for Feeder {
     fn from(s: &State) -> Feeder {
         Feeder {
             board: s.board,
-            at: s.at,
+            at: s.reader.at,
             sent: s.sent.0,
-            came: s.came,
-            kept: s.kept,
-            made: u8::from(log_bytes::past_l(s.stage)),
+            came: s.reader.came,
+            kept: s.reader.kept,
+            made: u8::from(log_bytes::past_l(s.reader.stage)),
             over: u8::from(s.over),
         }
     }

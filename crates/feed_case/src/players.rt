@@ -1,6 +1,7 @@
 // The players that a feed case holds to their log: the one of the listing, and the one of the report.
 ghost use Rattle.std.specs.Prelude.{◌≤◌, length, IfOk};
 
+use fragments::Reader;
 use numbers::refusal::Refusal;
 use operands::Fed;
 
@@ -26,7 +27,10 @@ pub trait Player: Sized {
 impl Player for player::State {
     fn begin_at(first: u64) -> player::State {
         player::State {
-            at: first,
+            reader: Reader {
+                at: first,
+                ..Reader::begin()
+            },
             ..player::begin()
         }
     }
@@ -53,7 +57,10 @@ impl Player for player::State {
 impl Player for report_play::State {
     fn begin_at(first: u64) -> report_play::State {
         report_play::State {
-            at: first,
+            reader: Reader {
+                at: first,
+                ..Reader::begin()
+            },
             ..reporting::begin()
         }
     }

@@ -2,3 +2,4 @@
 pub mod Kept
 pub mod Reading
 pub mod Feeding
+pub mod Readers

@@ -2,13 +2,11 @@
 // over nothing.
 #![tactic(auto)]
 
-ghost use Rattle.std.specs.Prelude.{◌≡◌, ◌⊎◌, ◌+◌, ◌≤◌, ◌<◌, length, drop};
-ghost use Rattle.log_bytes.specs.declared.Next.TheVariants.{Unfinished as unfinished};
-ghost use Rattle.log_bytes.specs.Format.{length_in, next_in};
-ghost use Rattle.fragments.specs.Kept.{kept_of, wanted_of, Behind, FirstKept, is_fit};
-ghost use Rattle.fragments.specs.Reading.{ReadOn};
+ghost use Rattle.std.specs.Prelude.{◌≡◌, ◌⊎◌, ◌+◌, ◌≤◌, ◌<◌, length};
+ghost use Rattle.log_bytes.specs.Format.{length_in};
+ghost use Rattle.fragments.specs.Kept.{kept_of, wanted_of, Behind, FirstKept};
 
-use log_bytes::{HEADER, Next, Stage, Tag};
+use log_bytes::{End, Event, HEADER, Next, Stage, Tag};
 
 // Room for any field that is kept: those that are not passed over have no more bytes.
 pub const FIELD_ROOM: usize = 13;
@@ -59,54 +57,129 @@ fn keep_first(part: &[u8], kept: &mut [u8])
     }
 }
 
-// The first bytes of a field: where it is not finished in this part of the log, they are kept.
-fn read_first(part: &[u8], kept: &mut [u8], at: u64, stage: Stage) -> Next
-    requires { (length kept.old ≡ 13) × (0 < length part.now) }
-    ensures { ReadOn at stage kept.old 0 part.now result kept.new }
-{
-    keep_first(part, kept);
-    log_bytes::next_in(part, part.len(), at, stage)
+// A field that is not finished: how far its log has been read, the field's offset, how many of its bytes have come, and
+// those that are kept.
+#[derive(Clone, Copy)]
+pub struct Reader {
+    pub stage: Stage,
+    pub at: u64,
+    pub came: usize,
+    pub kept: [u8; FIELD_ROOM],
 }
 
-// The bytes that come next of a field that is not finished.
-fn read_rest(part: &[u8], kept: &mut [u8], came: usize, at: u64, stage: Stage) -> Next
-    requires { (length kept.old ≡ 13)
-        × ((0 < length part.now) × ((0 < came) × (next_in at kept.old came stage ≡ unfinished came))) }
-    ensures { ReadOn at stage kept.old came part.now result kept.new }
-{
-    let now = came + wanted(kept, came).min(part.len());
-    let count = kept_of(kept[0], now);
-    keep(kept, came, part, count);
-    log_bytes::next_in(kept, now, at, stage)
+// What a part of a log brings: how many of its bytes belong to the field, and what the field says where it is whole with
+// them.
+#[derive(Clone, Copy)]
+pub struct Read {
+    pub taken: usize,
+    pub event: Option<Event>,
 }
 
-// Reads on in a fragment, from where it is not taken on, behind so many bytes of a field that are kept. What is kept,
-// how many have come, offset and stage make no struct: each call would build it of a player's state and take it apart.
-pub fn read_on(
-    fragment: &[u8],
-    taken: usize,
-    kept: &mut [u8],
-    came: usize,
-    at: u64,
-    stage: Stage,
-) -> Next
-    requires { (length kept.old ≡ 13)
-        × ((taken < length fragment.now) × (next_in at kept.old came stage ≡ unfinished came)) }
-    ensures { ReadOn at stage kept.old came (drop taken fragment.now) result kept.new }
-{
-    let part = &fragment[taken..];
-    if came == 0 {
-        return read_first(part, kept, at, stage);
+impl Reader {
+    ghost use Rattle.log_bytes.specs.declared.Next.TheVariants.{Unfinished as unfinished};
+    ghost use Rattle.log_bytes.specs.Format.{next_in};
+    ghost use Rattle.log_bytes.specs.Rows.{end_in};
+    ghost use Rattle.fragments.specs.Kept.{is_fit};
+    ghost use Rattle.fragments.specs.Reading.{ReadOn};
+    ghost use Rattle.fragments.specs.Readers.{before_log, keeping, next_told, after_read};
+
+    // Before a log's first byte.
+    pub fn begin() -> Reader
+        ensures { result ≡ before_log }
+    {
+        Reader {
+            stage: Stage::BeforeL,
+            at: 0,
+            came: 0,
+            kept: [0; FIELD_ROOM],
+        }
     }
-    read_rest(part, kept, came, at, stage)
-}
 
-// Whether what is kept can be part of a field: it is not finished, and breaks nothing.
-#[tactic(auto, unfolding(crate::specs::Kept::is_fit))]
-pub fn is_fit(kept: &[u8], came: usize, at: u64, stage: Stage) -> bool
-    requires { length kept.now ≡ 13 }
-    ensures { result ≡ is_fit at kept.now came stage }
-{
-    let next = log_bytes::next_in(kept, came, at, stage);
-    matches!(next, Next::Unfinished(_)) && at <= numbers::LOG_END
+    // Whether what is kept can be part of a field: it is not finished, and breaks nothing. It has its room by type.
+    #[tactic(auto, unfolding(crate::specs::Kept::is_fit))]
+    pub fn is_fit(&self) -> bool
+        ensures fit { result ≡ is_fit self.now.at self.now.kept self.now.came self.now.stage }
+        ensures sized { length self.now.kept ≡ 13 }
+    {
+        let next = log_bytes::next_in(&self.kept, self.came, self.at, self.stage);
+        matches!(next, Next::Unfinished(_)) && self.at <= numbers::LOG_END
+    }
+
+    // How the log ends where no byte comes any more. What is kept has its room by type.
+    pub fn end(&self) -> End
+        ensures ends { result ≡ end_in self.now.at self.now.came self.now.stage }
+        ensures sized { length self.now.kept ≡ 13 }
+    {
+        log_bytes::end_in(self.at, self.came, self.stage)
+    }
+
+    // The first bytes of a field: where it is not finished in this part of the log, they are kept.
+    fn read_first(&mut self, part: &[u8]) -> Next
+        requires { (0 < length part.now) × (self.old.came ≡ 0) }
+        ensures read { ReadOn self.old.at self.old.stage self.old.kept self.old.came part.now result self.new.kept }
+        ensures rest { self.new ≡ keeping self.old self.new.kept }
+    {
+        keep_first(part, &mut self.kept);
+        log_bytes::next_in(part, part.len(), self.at, self.stage)
+    }
+
+    // The bytes that come next of a field that is not finished.
+    fn read_rest(&mut self, part: &[u8]) -> Next
+        requires { (0 < length part.now) × ((0 < self.old.came)
+            × (next_in self.old.at self.old.kept self.old.came self.old.stage ≡ unfinished self.old.came)) }
+        ensures read { ReadOn self.old.at self.old.stage self.old.kept self.old.came part.now result self.new.kept }
+        ensures rest { self.new ≡ keeping self.old self.new.kept }
+    {
+        let came = self.came;
+        let now = came + wanted(&self.kept, came).min(part.len());
+        let count = kept_of(self.kept[0], now);
+        keep(&mut self.kept, came, part, count);
+        log_bytes::next_in(&self.kept, now, self.at, self.stage)
+    }
+
+    // What is known of the field by the part of the log that comes next.
+    fn next(&mut self, part: &[u8]) -> Next
+        requires { (0 < length part.now)
+            × (next_in self.old.at self.old.kept self.old.came self.old.stage ≡ unfinished self.old.came) }
+        ensures read { ReadOn self.old.at self.old.stage self.old.kept self.old.came part.now result self.new.kept }
+        ensures rest { self.new ≡ keeping self.old self.new.kept }
+    {
+        if self.came == 0 {
+            return self.read_first(part);
+        }
+        self.read_rest(part)
+    }
+
+    // Reads on in the part of the log that comes next. Where the log ends with it, the reader is as it was.
+    pub fn read_on(&mut self, part: &[u8]) -> Result<Read, End>
+        requires { (0 < length part.now)
+            × (next_in self.old.at self.old.kept self.old.came self.old.stage ≡ unfinished self.old.came) }
+        ensures read { ReadOn self.old.at self.old.stage self.old.kept self.old.came part.now
+            (next_told result self.old.came) self.new.kept }
+        ensures after { self.new ≡ after_read result self.old self.new.kept }
+    {
+        let came = self.came;
+        let mut on = *self;
+        match on.next(part) {
+            Next::Ends(end) => Err(end),
+            Next::Unfinished(now) => {
+                on.came = now;
+                *self = on;
+                Ok(Read {
+                    taken: now - came,
+                    event: None,
+                })
+            }
+            Next::GoesOn(event, size) => {
+                on.stage = log_bytes::stage_after(on.stage, event);
+                on.at += size as u64;
+                on.came = 0;
+                *self = on;
+                Ok(Read {
+                    taken: size - came,
+                    event: Some(event),
+                })
+            }
+        }
+    }
 }

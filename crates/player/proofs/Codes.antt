@@ -30,20 +30,20 @@ over_code s ids lens a d = right_code (ended_state s) ids lens a d
 pub can_code : (s : State) (ids lens : List ℕ) → CanGoOn s ids lens → feed_code s ids lens ≡ 0
 can_code s ids lens k =
     right_code s ids lens k.ids_all k.lens_all ∙ ap (λ (t : Bool). cond t 0 (cond (unfit s ids lens) 2 0)) k.going
-    ∙ go (is_fit s.at s.kept s.came s.stage) (past_l s.stage) (fit_is s.at s.kept s.came s.stage k.fit k.low) refl
+    ∙ go (is_fit s.reader.at s.reader.kept s.reader.came s.reader.stage) (past_l s.reader.stage) (fit_is s.reader.at s.reader.kept s.reader.came s.reader.stage k.fit k.low) refl
   where
-    go : (f t : Bool) → f ≡ true → past_l s.stage ≡ t
-        → ◌≡◌ {A = ℕ} (cond (not f || (t && (ltb (s.at / 3) (s.sent.0 / 65536) || not (is_sound s.board ids lens)))) 2 0) 0
+    go : (f t : Bool) → f ≡ true → past_l s.reader.stage ≡ t
+        → ◌≡◌ {A = ℕ} (cond (not f || (t && (ltb (s.reader.at / 3) (s.sent.0 / 65536) || not (is_sound s.board ids lens)))) 2 0) 0
     go true true h p = rw (le-ltb _ _ (k.few p), sound_known _ _ _ (k.good p))
     go true false h p = refl
     go false t h p = absurd (true≢false (sym h))
 
 module _ (s : State) (ids lens : List ℕ) (a : length ids ≡ 2048) (d : length lens ≡ 2048) where
   -- what is known of a state that is not refused
-  module _ (f : is_fit s.at s.kept s.came s.stage ≡ true) (r : length s.kept ≡ 13) where
-    pub can_before : past_l s.stage ≡ false → s.over ≡ false → CanGoOn s ids lens
+  module _ (f : is_fit s.reader.at s.reader.kept s.reader.came s.reader.stage ≡ true) (r : length s.reader.kept ≡ 13) where
+    pub can_before : past_l s.reader.stage ≡ false → s.over ≡ false → CanGoOn s ids lens
     can_before p e =
-        let fit! = fit_only s.at s.kept s.came s.stage f in
+        let fit! = fit_only s.reader.at s.reader.kept s.reader.came s.reader.stage f in
         record {
           going = e;
           fit = fit!.0;
@@ -55,7 +55,7 @@ module _ (s : State) (ids lens : List ℕ) (a : length ids ≡ 2048) (d : length
           good = λ q. absurd (true≢false (sym q ∙ p));
         }
 
-    pub can_past : s.sent.0 / 65536 ≤ s.at / 3 → Known s.board ids lens → s.over ≡ false → CanGoOn s ids lens
+    pub can_past : s.sent.0 / 65536 ≤ s.reader.at / 3 → Known s.board ids lens → s.over ≡ false → CanGoOn s ids lens
     can_past m k e =
-        let fit! = fit_only s.at s.kept s.came s.stage f in
+        let fit! = fit_only s.reader.at s.reader.kept s.reader.came s.reader.stage f in
         record { going = e; fit = fit!.0; low = fit!.1; room = r; ids_all = a; lens_all = d; few = λ q. m; good = λ q. k }

@@ -5,6 +5,7 @@ use mathlib.Core.Bool.{Bool, true, false, cond, ◌&&◌, true≢false}
 use mathlib.Core.Logic.{◌⊎◌, inl, inr, ◌≢◌}
 use mathlib.Core.List.{List, [], ◌++◌, append-nil}
 use Prim.Native.Nat.{ℕ, ◌+◌, ◌-◌, ◌/◌, ◌^◌, ◌≤◌, ◌<◌}
+use Rattle.std.specs.Prelude.{Some, Ok}
 use native.Mathlib.Omega.{arith}
 use native.Mathlib.Decide.{ℕ_discrete}
 use lib.Dec.{leb}
@@ -20,14 +21,18 @@ use Rattle.log_bytes.specs.declared.Event.TheVariants.{Largest}
 use Rattle.log_bytes.specs.declared.End.{End}
 use Rattle.log_bytes.specs.declared.End.TheVariants.{Whole as ends-whole, Broken as ends-broken, Long as ends-long}
 use Rattle.log_bytes.specs.declared.Next.TheVariants.{Ends, Unfinished}
-use Rattle.log_bytes.specs.Format.{past_l, stage_after, in_turn}
+use Rattle.log_bytes.specs.Format.{past_l, in_turn}
 use Rattle.log_bytes.specs.Rows.{end_in, next_of}
 use Rattle.log_bytes.proofs.Wholes.{none_come, never_whole, part_is}
 use Rattle.log_bytes.proofs.Readings.{end_whole, end_short}
 use Rattle.log_bytes.proofs.First.{largest_range}
 use Rattle.fragments.specs.Kept.{kept_bytes}
-use Rattle.fragments.specs.Reading.{joined, GoesOnWith, KeptOn}
+use Rattle.fragments.specs.Reading.{joined, GoesOnWith, KeptOn, ReadOn}
 use Rattle.fragments.specs.Kept.{is_fit}
+use Rattle.fragments.specs.declared.Reader.{Reader}
+use Rattle.fragments.specs.declared.Read.{Read}
+use Rattle.fragments.specs.Readers.{at_next, next_told, after_read}
+use Rattle.fragments.proofs.Readers.{read_whole, read_part, whole_now, part_now}
 use Rattle.fragments.proofs.Kept.{kept_none, fit_only, fit_is}
 use Rattle.fragments.proofs.Reading.{kept_next}
 use Rattle.fragments.proofs.Feeding.{tells_all, told_nothing}
@@ -63,7 +68,7 @@ before_turn e stage p = subst (λ (t : Stage). in_turn e t ≡ true) (before_is 
 
 -- ---- The first field
 
-module _ (s : State) (ids lens fragment out : List ℕ) (k : CanGoOn s ids lens) (p : past_l s.stage ≡ false) where
+module _ (s : State) (ids lens fragment out : List ℕ) (k : CanGoOn s ids lens) (p : past_l s.reader.stage ≡ false) where
   -- no room for a line, or no byte
   pub first_none : (length out < 64) ⊎ (length fragment ≡ 0) → FeedDone s ids lens fragment out (stayed 0 0 s) ids lens out
   first_none stop = record {
@@ -79,20 +84,24 @@ module _ (s : State) (ids lens fragment out : List ℕ) (k : CanGoOn s ids lens)
       go h n (inl r) = omega (arith, h, r)
       go h n (inr r) = omega (arith, n, r)
 
+  abbrev reading : Reader → State
+  reading r = record { reader = r; over = s.over; sent = s.sent; board = s.board }
+
   -- the listing is one line
-  pub first_last : (e : End) → ((later : List ℕ) → next_of s.at (joined s.kept s.came fragment later) s.stage ≡ Ends e) → (last : ℕ) (out' : List ℕ)
-      → Written out 0 (last_of 0 0 0 e) last out' → last ≤ length out → FeedDone s ids lens fragment out (ended_piece (length fragment) last s) ids lens out'
-  first_last e ends last out' w small =
-      ended_done s ids lens fragment out last (last_of 0 0 0 e) ids lens out' k.ids_all k.lens_all
+  pub first_last : (now : Reader) → now ≡ s.reader → (e : End) → ((later : List ℕ) → next_of s.reader.at (joined s.reader.kept s.reader.came fragment later) s.reader.stage ≡ Ends e) → (last : ℕ) (out' : List ℕ)
+      → Written out 0 (last_of 0 0 0 e) last out' → last ≤ length out → FeedDone s ids lens fragment out (ended_piece (length fragment) last (reading now)) ids lens out'
+  first_last now same e ends last out' w small =
+      subst (λ (r : Reader). FeedDone s ids lens fragment out (ended_piece (length fragment) last (reading r)) ids lens out') (sym same)
+      (ended_done s ids lens fragment out last (last_of 0 0 0 e) ids lens out' k.ids_all k.lens_all
       (λ later.
       before_rest s ids lens k.going p (fragment ++ later)
-      ∙ listing_ends unmade s.at (joined s.kept s.came fragment later) s.stage e (ends later)
-      ∙ sym (before_line s.at (joined s.kept s.came fragment later) s.stage e (ends later)))
-      small w
+      ∙ listing_ends unmade s.reader.at (joined s.reader.kept s.reader.came fragment later) s.reader.stage e (ends later)
+      ∙ sym (before_line s.reader.at (joined s.reader.kept s.reader.came fragment later) s.reader.stage e (ends later)))
+      small w)
 
   -- it is not finished
-  pub first_part : (now : ℕ) (after : List ℕ) (h : KeptOn s.at s.stage s.kept s.came fragment now after)
-      → FeedDone s ids lens fragment out (piece (record { taken = now - s.came; used = 0 }) (partly s ids lens fragment k now after h)) ids lens out
+  pub first_part : (now : ℕ) (after : List ℕ) (h : KeptOn s.reader.at s.reader.stage s.reader.kept s.reader.came fragment now after)
+      → FeedDone s ids lens fragment out (piece (record { taken = now - s.reader.came; used = 0 }) (partly s ids lens fragment k now after h)) ids lens out
   first_part now after h = record {
     done = refl;
     told = record {
@@ -108,10 +117,10 @@ module _ (s : State) (ids lens fragment out : List ℕ) (k : CanGoOn s ids lens)
   }
 
   -- the board is made
-  module _ (l size : ℕ) (g : GoesOnWith s.at s.stage s.kept s.came fragment (Largest l) size) (after : List ℕ)
-      (same : length after ≡ length s.kept) (b : struct.Board) (ids' lens' : List ℕ) (m : returned b ids' lens' ≡ fresh_in ids lens l) where
+  module _ (l size : ℕ) (g : GoesOnWith s.reader.at s.reader.stage s.reader.kept s.reader.came fragment (Largest l) size) (after : List ℕ)
+      (same : length after ≡ length s.reader.kept) (b : struct.Board) (ids' lens' : List ℕ) (m : returned b ids' lens' ≡ fresh_in ids lens l) where
     in_range : leb 64 l && leb l 2048 ≡ true
-    in_range = largest_range l (before_turn (Largest l) s.stage p g.turn)
+    in_range = largest_range l (before_turn (Largest l) s.reader.stage p g.turn)
 
     made_starts : Starts b ids' lens' l
     made_starts =
@@ -125,29 +134,51 @@ module _ (s : State) (ids lens fragment out : List ℕ) (k : CanGoOn s ids lens)
     reads! : reads (memory b ids' lens' 0) ≡ played (playing (held s ids lens)) (Largest l)
     reads! = ap (λ (x : Board.Board). record { board = x; sent = 0 }) made_starts.reads
 
-    none! : 0 / 65536 ≤ (s.at + size) / 3
+    none! : 0 / 65536 ≤ (s.reader.at + size) / 3
     none! = omega arith
 
-    module _ (stage : Stage) (on : stage ≡ stage_after s.stage (Largest l)) where
-      pub first_made : FeedDone s ids lens fragment out (record {
-        code = 0;
-        taken = size - s.came;
-        used = 0;
-        state = record { stage = stage; over = s.over; at = s.at + size; came = 0; kept = after; sent = record { 0 = 0 }; board = b };
-      }) ids' lens' out
-      first_made = record {
-        done = refl;
-        told = record {
-          within = omega (arith, g.ends, g.begins);
-          fits = omega arith;
-          joined = beyond_rest _ _ _ _ k _ _ g _ same _ _ _ _ made_starts.good none! reads! _ on;
-          untouched = refl;
-        };
-        goes_on = can_code _ _ _ (beyond_goes _ _ _ _ k _ _ g _ same _ _ _ _ made_starts.good none! reads! _ on);
-        all = inr (inr p);
-        moves = λ r n. omega (arith, g.begins);
-        onward = λ e. omega (arith, g.begins);
-      }
+    pub first_made : FeedDone s ids lens fragment out (record {
+      code = 0;
+      taken = size - s.reader.came;
+      used = 0;
+      state = record { reader = at_next s.reader (Largest l) size after; over = s.over; sent = record { 0 = 0 }; board = b };
+    }) ids' lens' out
+    first_made = record {
+      done = refl;
+      told = record {
+        within = omega (arith, g.ends, g.begins);
+        fits = omega arith;
+        joined = beyond_rest _ _ _ _ k _ _ g _ same _ _ _ _ made_starts.good none! reads!;
+        untouched = refl;
+      };
+      goes_on = can_code _ _ _ (beyond_goes _ _ _ _ k _ _ g _ same _ _ _ _ made_starts.good none! reads!);
+      all = inr (inr p);
+      moves = λ r n. omega (arith, g.begins);
+      onward = λ e. omega (arith, g.begins);
+    }
+
+  -- what is read says of which
+  module _ (read : Read) (now : Reader)
+      (read_on : ReadOn s.reader.at s.reader.stage s.reader.kept s.reader.came fragment (next_told (Ok read) s.reader.came) now.kept)
+      (after : now ≡ after_read (Ok read) s.reader now.kept) where
+    pub first_more : ((e : Event) → read.event ≡ Some e → ⊥)
+        → FeedDone s ids lens fragment out (piece (record { taken = read.taken; used = 0 }) (reading now)) ids lens out
+    first_more never =
+        part_now s.reader fragment read now read_on after
+        (λ (r : Reader) (n : ℕ). FeedDone s ids lens fragment out (piece (record { taken = n; used = 0 }) (reading r)) ids lens out)
+        never
+        (first_part (s.reader.came + read.taken) now.kept (read_part s.reader fragment read now read_on after never))
+
+    pub first_field : (l : ℕ) → read.event ≡ Some (Largest l) → (b : struct.Board) (ids' lens' : List ℕ) → returned b ids' lens' ≡ fresh_in ids lens l
+        → FeedDone s ids lens fragment out (piece (record { taken = read.taken; used = 0 })
+        (record { reader = now; over = s.over; sent = record { 0 = 0 }; board = b })) ids' lens' out
+    first_field l q b ids' lens' m =
+        whole_now s.reader fragment read now read_on after
+        (λ (r : Reader) (n : ℕ).
+        FeedDone s ids lens fragment out (piece (record { taken = n; used = 0 }) (record { reader = r; over = s.over; sent = record { 0 = 0 }; board = b }))
+        ids' lens' out)
+        (Largest l) q
+        (first_made l (s.reader.came + read.taken) (read_whole s.reader fragment read now read_on after (Largest l) q) now.kept read_on.room b ids' lens' m)
 
 -- ---- The end of a listing
 
@@ -168,28 +199,28 @@ module _ (s : State) (ids lens out : List ℕ) where
 
   module _ (k : CanGoOn s ids lens) where
     abbrev end : End
-    end = end_in s.at s.came s.stage
+    end = end_in s.reader.at s.reader.came s.reader.stage
 
     -- the last line, whatever has been read
     line_is : (count : ℕ) → count ≡ total_of s.board.counts → last_of s.board.clock s.sent.0 count end ≡ rest_of (held s ids lens) []
-    line_is count n = go (past_l s.stage) refl
+    line_is count n = go (past_l s.reader.stage) refl
       where
-        cut : next_of s.at (kept_bytes s.kept s.came ++ []) s.stage ≡ Unfinished s.came
-        cut = kept_next s.at s.kept s.came s.stage k.room k.fit
+        cut : next_of s.reader.at (kept_bytes s.reader.kept s.reader.came ++ []) s.reader.stage ≡ Unfinished s.reader.came
+        cut = kept_next s.reader.at s.reader.kept s.reader.came s.reader.stage k.room k.fit
 
         -- before L it is not whole, so no number of the board is shown
-        unshown : (e : End) → end ≡ e → past_l s.stage ≡ false → last_of s.board.clock s.sent.0 count e ≡ last_line unmade e
-        unshown ends-whole q p = absurd (true≢false (sym (end_whole s.at s.came s.stage q).0 ∙ p))
+        unshown : (e : End) → end ≡ e → past_l s.reader.stage ≡ false → last_of s.board.clock s.sent.0 count e ≡ last_line unmade e
+        unshown ends-whole q p = absurd (true≢false (sym (end_whole s.reader.at s.reader.came s.reader.stage q).0 ∙ p))
         unshown (ends-broken x) q p = refl
-        unshown ends-long q p = absurd (end_short s.at s.came s.stage q)
+        unshown ends-long q p = absurd (end_short s.reader.at s.reader.came s.reader.stage q)
 
-        go : (t : Bool) → past_l s.stage ≡ t → last_of s.board.clock s.sent.0 count end ≡ rest_of (held s ids lens) []
+        go : (t : Bool) → past_l s.reader.stage ≡ t → last_of s.board.clock s.sent.0 count end ≡ rest_of (held s ids lens) []
         go true p =
             last_line_lem (memory s.board ids lens s.sent.0) (k.good p) end count n
-            ∙ sym (listing_cut (reads (memory s.board ids lens s.sent.0)) s.at (kept_bytes s.kept s.came ++ []) s.stage s.came cut)
+            ∙ sym (listing_cut (reads (memory s.board ids lens s.sent.0)) s.reader.at (kept_bytes s.reader.kept s.reader.came ++ []) s.reader.stage s.reader.came cut)
             ∙ sym (past_rest s ids lens k.going p [])
         go false p =
-            unshown end refl p ∙ sym (listing_cut unmade s.at (kept_bytes s.kept s.came ++ []) s.stage s.came cut)
+            unshown end refl p ∙ sym (listing_cut unmade s.reader.at (kept_bytes s.reader.kept s.reader.came ++ []) s.reader.stage s.reader.came cut)
             ∙ sym (before_rest s ids lens k.going p [])
 
     pub close_last : (count : ℕ) → count ≡ total_of s.board.counts → (last : ℕ) (out' : List ℕ) → (e : End) → e ≡ end
@@ -249,7 +280,7 @@ module _ (s : State) (ids lens out : List ℕ) where
 
 pub before_first_rest : (log ids lens : List ℕ) → rest_of (held before_first ids lens) log ≡ listing_of log
 before_first_rest log ids lens =
-    before_rest before_first ids lens refl refl log ∙ ap (λ (t : List ℕ). listing_from unmade 0 t BeforeL) (kept_none before_first.kept log)
+    before_rest before_first ids lens refl refl log ∙ ap (λ (t : List ℕ). listing_from unmade 0 t BeforeL) (kept_none before_first.reader.kept log)
     ∙ sym (listing_first log)
 
 pub feeds_listing : FeedsListing
@@ -260,20 +291,20 @@ feeds_listing log ids lens written t =
 
 pub before_first_ready : (ids lens : List ℕ) → length ids ≡ 2048 → length lens ≡ 2048 → feed_code before_first ids lens ≡ 0
 before_first_ready ids lens a d =
-    let fits = fit_is 0 before_first.kept 0 BeforeL (none_come 0 before_first.kept BeforeL) (omega arith) in
+    let fits = fit_is 0 before_first.reader.kept 0 BeforeL (none_come 0 before_first.reader.kept BeforeL) (omega arith) in
     can_code before_first ids lens (can_before before_first ids lens a d fits refl refl refl)
 
 -- no byte is read past the end of every log
 pub code_low : (s : State) (ids lens : List ℕ) → length ids ≡ 2048 → length lens ≡ 2048 → feed_code s ids lens ≡ 0 → s.over ≡ false → offset_of s ≤ 2 ^ 48
-code_low s ids lens a d z e = go (is_fit s.at s.kept s.came s.stage) refl
+code_low s ids lens a d z e = go (is_fit s.reader.at s.reader.kept s.reader.came s.reader.stage) refl
   where
     going : ◌≡◌ {A = ℕ} (cond (unfit s ids lens) 2 0) 0
     going = ap (λ (t : Bool). cond t 0 (cond (unfit s ids lens) 2 0)) (sym e) ∙ sym (right_code s ids lens a d) ∙ z
 
-    go : (t : Bool) → is_fit s.at s.kept s.came s.stage ≡ t → offset_of s ≤ 2 ^ 48
+    go : (t : Bool) → is_fit s.reader.at s.reader.kept s.reader.came s.reader.stage ≡ t → offset_of s ≤ 2 ^ 48
     go true f =
-        let fit! = fit_only s.at s.kept s.came s.stage f in
-        omega (arith, (part_is s.at s.kept s.came s.stage s.came fit!.0).low, fit!.1)
+        let fit! = fit_only s.reader.at s.reader.kept s.reader.came s.reader.stage f in
+        omega (arith, (part_is s.reader.at s.reader.kept s.reader.came s.reader.stage s.reader.came fit!.0).low, fit!.1)
     go false f = let two : ◌≡◌ {A = ℕ} 2 0 = rw f at going in absurd (omega (arith, two))
 
 module _ (s : State) (ids lens fragment out : List ℕ) (r : Piece) (ids' lens' out' : List ℕ) (p : FeedOf s ids lens fragment out r ids' lens' out') where

@@ -1,16 +1,16 @@
 -- THE LISTING FROM FRAGMENTS: what a call writes, joined with what is left after it, is what was left before it.
 use Rattle.std.specs.Prelude.{◌≡◌, Bool, true, false, cond, not, ◌&&◌, ◌||◌, ◌≢◌, ◌⊎◌, List, [], ◌++◌, ℕ, ◌+◌, ◌-◌, ◌/◌}
-use Rattle.std.specs.Prelude.{◌^◌, ◌≤◌, ◌<◌, ltb, length, replicate, Result, Ok, Err}
+use Rattle.std.specs.Prelude.{◌^◌, ◌≤◌, ◌<◌, ltb, length, Result, Ok, Err}
 use Rattle.numbers.specs.declared.refusal.Refusal.{Refusal}
 use Rattle.numbers.specs.Codes.{refusal_code}
 use Rattle.operands.specs.declared.Fed.{Fed}
 use Rattle.rules.specs.Board.{fresh}
 use Rattle.rules.specs.Calls.{wrong_tables}
 use Rattle.board.specs.Reading.{encode, is_sound}
-use Rattle.log_bytes.specs.declared.Stage.TheVariants.{BeforeL}
 use Rattle.log_bytes.specs.declared.Next.TheVariants.{Unfinished}
 use Rattle.log_bytes.specs.Format.{past_l, next_in}
 use Rattle.fragments.specs.Kept.{kept_bytes, is_fit}
+use Rattle.fragments.specs.Readers.{before_log}
 use Rattle.fragments.specs.Feeding.{Told, Closed, Telling}
 use Rattle.listing_rules.specs.Listing.{Playing, unmade, listing_from, listing_of}
 use Rattle.fields.specs.Fields.{memory, reads, KnownMemory}
@@ -20,11 +20,8 @@ use Rattle.player.specs.declared.State.{State}
 abbrev pub before_first : State
 before_first =
     record {
-      stage = BeforeL;
+      reader = before_log;
       over = false;
-      at = 0;
-      came = 0;
-      kept = replicate 13 0;
       sent = record { 0 = 0 };
       board = encode (fresh 0);
     }
@@ -43,20 +40,20 @@ held s ids lens = record { state = s; ids = ids; lens = lens }
 abbrev pub playing : Held → Playing
 playing h =
     let s = h.state in
-    cond (past_l s.stage) (reads (memory s.board h.ids h.lens s.sent.0)) unmade
+    cond (past_l s.reader.stage) (reads (memory s.board h.ids h.lens s.sent.0)) unmade
 
 -- what of the listing is still to be written, if these bytes follow and the log then ends
 unfoldable pub rest_of : Held → (later : List ℕ) → List ℕ
 rest_of h later =
     let s = h.state in
-    cond s.over [] (listing_from (playing h) s.at (kept_bytes s.kept s.came ++ later) s.stage)
+    cond s.over [] (listing_from (playing h) s.reader.at (kept_bytes s.reader.kept s.reader.came ++ later) s.reader.stage)
 
 abbrev pub is_over : Held → Bool
 is_over h = h.state.over
 
 -- the offset of the byte that comes next
 abbrev pub offset_of : State → ℕ
-offset_of s = s.at + s.came
+offset_of s = s.reader.at + s.reader.came
 
 -- ---- What is tested
 
@@ -64,8 +61,8 @@ offset_of s = s.at + s.came
 -- before that offset can have sent, or the board is spoilt: no call leaves such a state.
 abbrev pub unfit : State → (ids lens : List ℕ) → Bool
 unfit s ids lens =
-    not (is_fit s.at s.kept s.came s.stage)
-    || (past_l s.stage && (ltb (s.at / 3) (s.sent.0 / 65536) || not (is_sound s.board ids lens)))
+    not (is_fit s.reader.at s.reader.kept s.reader.came s.reader.stage)
+    || (past_l s.reader.stage && (ltb (s.reader.at / 3) (s.sent.0 / 65536) || not (is_sound s.board ids lens)))
 
 -- A table of another length is 3. Where the listing is not over, an unfit state is 2.
 unfoldable pub feed_code : State → (ids lens : List ℕ) → ℕ
@@ -75,13 +72,13 @@ feed_code s ids lens =
 -- what is known of a state from which a listing goes on
 pub record CanGoOn (s : State) (ids lens : List ℕ) : Type 0 where
   pub going : s.over ≡ false
-  pub fit : next_in s.at s.kept s.came s.stage ≡ Unfinished s.came
-  pub low : s.at ≤ 2 ^ 48
-  pub room : length s.kept ≡ 13
+  pub fit : next_in s.reader.at s.reader.kept s.reader.came s.reader.stage ≡ Unfinished s.reader.came
+  pub low : s.reader.at ≤ 2 ^ 48
+  pub room : length s.reader.kept ≡ 13
   pub ids_all : length ids ≡ 2048
   pub lens_all : length lens ≡ 2048
-  pub few : past_l s.stage ≡ true → s.sent.0 / 65536 ≤ s.at / 3
-  pub good : past_l s.stage ≡ true → KnownMemory (memory s.board ids lens s.sent.0)
+  pub few : past_l s.reader.stage ≡ true → s.sent.0 / 65536 ≤ s.reader.at / 3
+  pub good : past_l s.reader.stage ≡ true → KnownMemory (memory s.board ids lens s.sent.0)
 
 -- ---- What a call does
 
@@ -108,16 +105,7 @@ stayed code taken s = record { code = code; taken = taken; used = 0; state = s }
 
 -- The listing is over.
 abbrev pub ended_state : State → State
-ended_state s =
-    record {
-      stage = s.stage;
-      over = true;
-      at = s.at;
-      came = s.came;
-      kept = s.kept;
-      sent = s.sent;
-      board = s.board;
-    }
+ended_state s = record { reader = s.reader; over = true; sent = s.sent; board = s.board }
 
 abbrev pub ended_piece : (taken used : ℕ) → State → Piece
 ended_piece taken used s = record { code = 0; taken = taken; used = used; state = ended_state s }
@@ -130,7 +118,7 @@ pub record FeedDone (s : State) (ids lens fragment out : List ℕ) (r : Piece) (
   pub goes_on : feed_code r.state ids' lens' ≡ 0
   -- All is taken, unless there is no room for another line, or L was not read before. With room for a line and a byte
   -- in the fragment, something is taken; and the offset moves on by what is taken.
-  pub all : (r.taken ≡ length fragment) ⊎ ((length out - r.used < 64) ⊎ (past_l s.stage ≡ false))
+  pub all : (r.taken ≡ length fragment) ⊎ ((length out - r.used < 64) ⊎ (past_l s.reader.stage ≡ false))
   pub moves : 64 ≤ length out → 0 < length fragment → 0 < r.taken
   pub onward : r.state.over ≡ false → offset_of r.state ≡ offset_of s + r.taken
 

@@ -10,9 +10,9 @@ ghost use Rattle.player.specs.Feeding.{before_first, feed_code, CanGoOn, piece, 
 ghost use Rattle.player.specs.Feeding.{FeedDone, FeedOf, CloseOf};
 
 use board::Board;
-use fragments::FIELD_ROOM;
+use fragments::Reader;
 use lines::LINE_ROOM;
-use log_bytes::{Event, Next, Stage};
+use log_bytes::Event;
 use numbers::TABLE_ENTRIES;
 use numbers::refusal::Refusal;
 use operands::Fed;
@@ -24,15 +24,12 @@ const FIELD_BYTES: u64 = 3;
 // More bytes than a record is charged.
 const SENT_PER_FIELD: u64 = serving::ANY_LENGTH;
 
-// What stands between two calls: the stage of the log, and whether its listing is over; the offset of the next field,
-// how many bytes of it have come, and those that are kept; the bytes sent so far, and the board.
+// What stands between two calls: the log's reader, and whether its listing is over; the bytes sent so far, and the
+// board.
 #[derive(Clone, Copy)]
 pub struct State {
-    pub stage: Stage,
+    pub reader: Reader,
     pub over: bool,
-    pub at: u64,
-    pub came: usize,
-    pub kept: [u8; FIELD_ROOM],
     pub sent: Bytes,
     pub board: Board,
 }
@@ -58,13 +55,13 @@ fn unready(s: &State, ids: &[u32], lens: &[u16]) -> Result<(), Refusal>
     if s.over {
         return Ok(());
     }
-    if !fragments::is_fit(&s.kept, s.came, s.at, s.stage) {
+    if !s.reader.is_fit() {
         return Err(Refusal::Spoilt);
     }
-    if !log_bytes::past_l(s.stage) {
+    if !log_bytes::past_l(s.reader.stage) {
         return Ok(());
     }
-    if s.at / FIELD_BYTES < s.sent.0 / SENT_PER_FIELD {
+    if s.reader.at / FIELD_BYTES < s.sent.0 / SENT_PER_FIELD {
         return Err(Refusal::Spoilt);
     }
     spoilt::early(&s.board, ids, lens)
@@ -81,42 +78,31 @@ fn next_piece(
     lens: &mut [u16],
     out: &mut [u8],
 ) -> Fed
-    requires { CanGoOn s.old ids.old lens.old × (past_l s.old.stage ≡ true) }
+    requires { CanGoOn s.old ids.old lens.old × (past_l s.old.reader.stage ≡ true) }
     ensures { FeedDone s.old ids.old lens.old fragment.now out.old (piece result s.new) ids.new lens.new out.new }
 {
     let mut on = *s;
     let mut taken = 0;
     let mut used = 0;
     while LINE_ROOM <= out.len() - used && taken < fragment.len() {
-        let State {
-            stage,
-            at,
-            came,
-            sent,
-            ..
-        } = on;
-        match fragments::read_on(fragment, taken, &mut on.kept, came, at, stage) {
-            Next::Ends(end) => {
-                used = fields::show_end(end, on.board.clock, sent, waiting(&on.board), out, used);
+        let read = match on.reader.read_on(&fragment[taken..]) {
+            Ok(read) => read,
+            Err(end) => {
+                let clock = on.board.clock;
+                used = fields::show_end(end, clock, on.sent, waiting(&on.board), out, used);
                 s.over = true;
                 return Fed {
                     taken: fragment.len(),
                     used,
                 };
             }
-            Next::Unfinished(part) => {
-                taken += part - came;
-                on.came = part;
-            }
-            Next::GoesOn(event, size) => {
-                let moved = fields::play_field(event, &mut on.board, ids, lens, sent, out, used);
-                used = moved.used;
-                taken += size - came;
-                on.stage = log_bytes::stage_after(stage, event);
-                on.at += size as u64;
-                on.came = 0;
-                on.sent = moved.sent;
-            }
+        };
+        taken += read.taken;
+        if let Some(event) = read.event {
+            let sent = on.sent;
+            let moved = fields::play_field(event, &mut on.board, ids, lens, sent, out, used);
+            used = moved.used;
+            on.sent = moved.sent;
         }
     }
     *s = on;
@@ -131,42 +117,34 @@ fn first_piece(
     lens: &mut [u16],
     out: &mut [u8],
 ) -> Fed
-    requires { CanGoOn s.old ids.old lens.old × (past_l s.old.stage ≡ false) }
+    requires { CanGoOn s.old ids.old lens.old × (past_l s.old.reader.stage ≡ false) }
     ensures { FeedDone s.old ids.old lens.old fragment.now out.old (piece result s.new) ids.new lens.new out.new }
 {
     if out.len() < LINE_ROOM || fragment.is_empty() {
         return Fed { taken: 0, used: 0 };
     }
-    let mut kept = s.kept;
-    match fragments::read_on(fragment, 0, &mut kept, s.came, s.at, s.stage) {
-        Next::Ends(end) => {
+    let read = match s.reader.read_on(fragment) {
+        Ok(read) => read,
+        Err(end) => {
             let used = fields::show_end(end, 0, Bytes(0), 0, out, 0);
             s.over = true;
-            Fed {
+            return Fed {
                 taken: fragment.len(),
                 used,
-            }
-        }
-        Next::Unfinished(part) => {
-            let taken = part - s.came;
-            s.kept = kept;
-            s.came = part;
-            Fed { taken, used: 0 }
-        }
-        Next::GoesOn(event, size) => {
-            // No other field is whole before L.
-            let Event::Largest(largest) = event else {
-                unreachable!()
             };
-            let taken = size - s.came;
-            s.stage = log_bytes::stage_after(s.stage, event);
-            s.at += size as u64;
-            s.came = 0;
-            s.kept = kept;
-            s.sent = Bytes(0);
-            s.board = blocks::make_in(ids, lens, largest);
-            Fed { taken, used: 0 }
         }
+    };
+    if let Some(event) = read.event {
+        // No other field is whole before L.
+        let Event::Largest(largest) = event else {
+            unreachable!()
+        };
+        s.sent = Bytes(0);
+        s.board = blocks::make_in(ids, lens, largest);
+    }
+    Fed {
+        taken: read.taken,
+        used: 0,
     }
 }
 
@@ -188,7 +166,7 @@ pub fn feed(
             used: 0,
         });
     }
-    if log_bytes::past_l(s.stage) {
+    if log_bytes::past_l(s.reader.stage) {
         return Ok(next_piece(s, fragment, ids, lens, out));
     }
     Ok(first_piece(s, fragment, ids, lens, out))
@@ -202,8 +180,14 @@ pub fn finish(s: &mut State, ids: &[u32], lens: &[u16], out: &mut [u8]) -> Resul
     if s.over || out.len() < LINE_ROOM {
         return Ok(Fed { taken: 0, used: 0 });
     }
-    let end = log_bytes::end_in(s.at, s.came, s.stage);
-    let used = fields::show_end(end, s.board.clock, s.sent, waiting(&s.board), out, 0);
+    let used = fields::show_end(
+        s.reader.end(),
+        s.board.clock,
+        s.sent,
+        waiting(&s.board),
+        out,
+        0,
+    );
     s.over = true;
     Ok(Fed { taken: 0, used })
 }
@@ -213,11 +197,8 @@ pub fn begin() -> State
     ensures { result ≡ before_first }
 {
     State {
-        stage: Stage::BeforeL,
+        reader: Reader::begin(),
         over: false,
-        at: 0,
-        came: 0,
-        kept: [0; FIELD_ROOM],
         sent: Bytes(0),
         board: Board::blank(0),
     }

@@ -9,5 +9,5 @@ use Rattle.reporting.proofs.Feeding.{before_rest}
 
 pub before_first_rest : (log ids lens : List ℕ) → rest_of (held before_first ids lens) log ≡ report_of log
 before_first_rest log ids lens =
-    before_rest before_first ids lens refl refl log ∙ ap (λ (t : List ℕ). report_from unmade 0 0 t BeforeL) (kept_none before_first.kept log)
+    before_rest before_first ids lens refl refl log ∙ ap (λ (t : List ℕ). report_from unmade 0 0 t BeforeL) (kept_none before_first.reader.kept log)
     ∙ sym (report_first log)

@@ -18,12 +18,12 @@ ledger_of s ids lens = ledger_now s.board s.counts ids lens
 
 -- the offset of the byte that comes next
 abbrev pub offset_of : State → ℕ
-offset_of s = s.at + s.came
+offset_of s = s.reader.at + s.reader.came
 
 -- what is left of the report after L, if these bytes follow and the log then ends
 abbrev pub left_of : State → (ids lens later : List ℕ) → List ℕ
 left_of s ids lens later =
-    report_from (reads (ledger_of s ids lens)) s.shown s.at (kept_bytes s.kept s.came ++ later) s.stage
+    report_from (reads (ledger_of s ids lens)) s.shown s.reader.at (kept_bytes s.reader.kept s.reader.came ++ later) s.reader.stage
 
 -- the one line of a report that shows no place; that of a whole log shows them, unless the counting has stopped
 abbrev pub end_line : End → List ℕ
@@ -36,9 +36,9 @@ one_line full e = cond full full_line (end_line e)
 
 -- what is known of a state from which fields after L are played
 pub record CanPlay (s : State) (ids lens : List ℕ) : Type 0 where
-  pub past : past_l s.stage ≡ true
-  pub fit : next_in s.at s.kept s.came s.stage ≡ Unfinished s.came
-  pub low : s.at ≤ 2 ^ 48
+  pub past : past_l s.reader.stage ≡ true
+  pub fit : next_in s.reader.at s.reader.kept s.reader.came s.reader.stage ≡ Unfinished s.reader.came
+  pub low : s.reader.at ≤ 2 ^ 48
   pub good : KnownLedger (ledger_of s ids lens)
 
 -- a fragment that is played: whether the log is broken or long in it, how it ends then, and whether the counting had

@@ -6,19 +6,15 @@ ghost use Rattle.report_play.specs.Playing.{CanPlay, played_in, PlayedOn};
 
 use board::Board;
 use counting::Counts;
-use fragments::FIELD_ROOM;
-use log_bytes::{End, Next, Stage};
+use fragments::Reader;
+use log_bytes::End;
 
-// What stands between two calls: the stage of the log, and whether its report is over; the offset of the next field,
-// how many bytes of it have come, and those that are kept; the place from which lines are still to be written, the
-// board, and the counts beside it.
+// What stands between two calls: the log's reader, and whether its report is over; the place from which lines are still
+// to be written, the board, and the counts beside it.
 #[derive(Clone, Copy)]
 pub struct State {
-    pub stage: Stage,
+    pub reader: Reader,
     pub over: bool,
-    pub at: u64,
-    pub came: usize,
-    pub kept: [u8; FIELD_ROOM],
     pub shown: usize,
     pub board: Board,
     pub counts: Counts,
@@ -46,25 +42,18 @@ pub fn play_on(
     let mut here = *s;
     let mut taken = 0;
     while taken < fragment.len() {
-        let (stage, at, came) = (here.stage, here.at, here.came);
-        match fragments::read_on(fragment, taken, &mut here.kept, came, at, stage) {
-            Next::Ends(end) => {
+        let read = match here.reader.read_on(&fragment[taken..]) {
+            Ok(read) => read,
+            Err(end) => {
                 return Err(Ended {
                     end,
                     full: here.counts.full,
                 });
             }
-            Next::Unfinished(part) => {
-                taken += part - came;
-                here.came = part;
-            }
-            Next::GoesOn(event, size) => {
-                taken += size - came;
-                here.at = at + size as u64;
-                here.came = 0;
-                here.stage = log_bytes::stage_after(stage, event);
-                report_fields::play_counted(event, &mut here.board, &mut here.counts, ids, lens);
-            }
+        };
+        taken += read.taken;
+        if let Some(event) = read.event {
+            report_fields::play_counted(event, &mut here.board, &mut here.counts, ids, lens);
         }
     }
     here.over = false;

@@ -37,31 +37,28 @@ use Rattle.reporting.proofs.Feeding.{over_rest, ended_rest, going_rest, before_r
 
 -- whether the counting has stopped, as the definition reads it
 full_is : (s : State) (ids lens : List ℕ) → has_stopped s ≡ (reporting (held s ids lens)).counts.full
-full_is s ids lens = go (past_l s.stage)
+full_is s ids lens = go (past_l s.reader.stage)
   where
     go : (t : Bool) → t && s.counts.full ≡ (cond t (reads (ledger_of s ids lens)) unmade).counts.full
     go true = refl
     go false = refl
 
 module _ (s : State) (ids lens out : List ℕ) where
-  module _ (k : CanGoOn s ids lens) (room : length s.kept ≡ 13) (e : End) (is : e ≡ end_in s.at s.came s.stage) (full : Bool)
+  module _ (k : CanGoOn s ids lens) (room : length s.reader.kept ≡ 13) (e : End) (is : e ≡ end_in s.reader.at s.reader.came s.reader.stage) (full : Bool)
       (stopped : full ≡ has_stopped s) where
     -- what is left at the log's end, from any place on
     left_from : (p : ℕ) → rest_of (held (showing s p) ids lens) [] ≡ report_end (reporting (held s ids lens)) p e
     left_from p =
         going_rest (held (showing s p) ids lens) refl []
-        ∙ report_cut (reporting (held s ids lens)) p s.at (kept_bytes s.kept s.came ++ []) s.stage s.came
-        (kept_next s.at s.kept s.came s.stage room k.fit)
+        ∙ report_cut (reporting (held s ids lens)) p s.reader.at (kept_bytes s.reader.kept s.reader.came ++ []) s.reader.stage s.reader.came
+        (kept_next s.reader.at s.reader.kept s.reader.came s.reader.stage room k.fit)
         ∙ ap (report_end (reporting (held s ids lens)) p) (sym is)
 
     -- and from the first that is not shown
     itself : s ≡ showing s s.shown
     itself = λ i. record {
-      stage = s.stage;
+      reader = s.reader;
       over = k.going i;
-      at = s.at;
-      came = s.came;
-      kept = s.kept;
       shown = s.shown;
       board = s.board;
       counts = s.counts;
@@ -92,8 +89,8 @@ module _ (s : State) (ids lens out : List ℕ) where
 
     -- or the lines of the places
     module _ (many : is_alone full e ≡ false) where
-      past : past_l s.stage ≡ true
-      past = (end_whole s.at s.came s.stage (sym is ∙ (not_alone full e many).1)).0
+      past : past_l s.reader.stage ≡ true
+      past = (end_whole s.reader.at s.reader.came s.reader.stage (sym is ∙ (not_alone full e many).1)).0
 
       known : KnownLedger (ledger_of s ids lens)
       known = k.good past
@@ -165,7 +162,7 @@ module _ (s : State) (ids lens out : List ℕ) (r : Piece) (out' : List ℕ) (p 
 
 before_first_rest : (log ids lens : List ℕ) → rest_of (held before_first ids lens) log ≡ report_from unmade 0 0 log BeforeL
 before_first_rest log ids lens =
-    before_rest before_first ids lens refl refl log ∙ ap (λ (t : List ℕ). report_from unmade 0 0 t BeforeL) (kept_none before_first.kept log)
+    before_rest before_first ids lens refl refl log ∙ ap (λ (t : List ℕ). report_from unmade 0 0 t BeforeL) (kept_none before_first.reader.kept log)
 
 pub feeds_report : FeedsReport
 feeds_report log ids lens written t =

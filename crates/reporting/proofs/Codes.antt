@@ -24,7 +24,7 @@ use Rattle.reporting.specs.Feeding.{unfit, feed_code, ended_state, CanGoOn}
 
 module _ (s : State) (ids lens : List ℕ) (a : length ids ≡ 2048) (d : length lens ≡ 2048) where
   abbrev fits : Bool
-  fits = is_fit s.at s.kept s.came s.stage
+  fits = is_fit s.reader.at s.reader.kept s.reader.came s.reader.stage
 
   -- after L: the board, and the counts beside it
   abbrev unsound : Bool
@@ -49,16 +49,16 @@ module _ (s : State) (ids lens : List ℕ) (a : length ids ≡ 2048) (d : length
     going_code = tables_right ∙ ap (λ (t : Bool). cond t 0 (cond (unfit s ids lens) 2 0)) going
 
     pub code_kept : fits ≡ false → 2 ≡ feed_code s ids lens
-    code_kept e = sym (going_code ∙ ap (λ (t : Bool). cond (not t || (past_l s.stage && (unsound || uncounted))) 2 0) e)
+    code_kept e = sym (going_code ∙ ap (λ (t : Bool). cond (not t || (past_l s.reader.stage && (unsound || uncounted))) 2 0) e)
 
     module _ (e : fits ≡ true) where
-      fit_code : feed_code s ids lens ≡ cond (past_l s.stage && (unsound || uncounted)) 2 0
-      fit_code = going_code ∙ ap (λ (t : Bool). cond (not t || (past_l s.stage && (unsound || uncounted))) 2 0) e
+      fit_code : feed_code s ids lens ≡ cond (past_l s.reader.stage && (unsound || uncounted)) 2 0
+      fit_code = going_code ∙ ap (λ (t : Bool). cond (not t || (past_l s.reader.stage && (unsound || uncounted))) 2 0) e
 
-      pub code_before : past_l s.stage ≡ false → 0 ≡ feed_code s ids lens
+      pub code_before : past_l s.reader.stage ≡ false → 0 ≡ feed_code s ids lens
       code_before p = sym (fit_code ∙ ap (λ (t : Bool). cond (t && (unsound || uncounted)) 2 0) p)
 
-      module _ (p : past_l s.stage ≡ true) where
+      module _ (p : past_l s.reader.stage ≡ true) where
         past_code : feed_code s ids lens ≡ cond (unsound || uncounted) 2 0
         past_code = fit_code ∙ ap (λ (t : Bool). cond (t && (unsound || uncounted)) 2 0) p
 
@@ -81,12 +81,12 @@ module _ (s : State) (ids lens : List ℕ) (a : length ids ≡ 2048) (d : length
 
 -- a state from which a report goes on is not refused
 pub can_code : (s : State) (ids lens : List ℕ) → CanGoOn s ids lens → feed_code s ids lens ≡ 0
-can_code s ids lens k = go (past_l s.stage) refl
+can_code s ids lens k = go (past_l s.reader.stage) refl
   where
-    e : is_fit s.at s.kept s.came s.stage ≡ true
-    e = fit_is s.at s.kept s.came s.stage k.fit k.low
+    e : is_fit s.reader.at s.reader.kept s.reader.came s.reader.stage ≡ true
+    e = fit_is s.reader.at s.reader.kept s.reader.came s.reader.stage k.fit k.low
 
-    go : (t : Bool) → past_l s.stage ≡ t → feed_code s ids lens ≡ 0
+    go : (t : Bool) → past_l s.reader.stage ≡ t → feed_code s ids lens ≡ 0
     go true p =
         let l = k.good p in
         sym (code_ready s ids lens k.ids_all k.lens_all k.going e p (sound_known s.board ids lens l.good)
@@ -99,13 +99,13 @@ over_code s ids lens a d = sym (code_over (ended_state s) ids lens a d refl)
 
 -- ---- and what is known of one that is not refused
 
-module _ (s : State) (ids lens : List ℕ) (a : length ids ≡ 2048) (d : length lens ≡ 2048) (f : is_fit s.at s.kept s.came s.stage ≡ true) where
-  can_go : (past_l s.stage ≡ true → KnownLedger (ledger_of s ids lens)) → s.over ≡ false → CanGoOn s ids lens
+module _ (s : State) (ids lens : List ℕ) (a : length ids ≡ 2048) (d : length lens ≡ 2048) (f : is_fit s.reader.at s.reader.kept s.reader.came s.reader.stage ≡ true) where
+  can_go : (past_l s.reader.stage ≡ true → KnownLedger (ledger_of s ids lens)) → s.over ≡ false → CanGoOn s ids lens
   can_go l e =
-      let fit! = fit_only s.at s.kept s.came s.stage f in
+      let fit! = fit_only s.reader.at s.reader.kept s.reader.came s.reader.stage f in
       record { going = e; fit = fit!.0; low = fit!.1; ids_all = a; lens_all = d; good = l }
 
-  pub can_before : past_l s.stage ≡ false → s.over ≡ false → CanGoOn s ids lens
+  pub can_before : past_l s.reader.stage ≡ false → s.over ≡ false → CanGoOn s ids lens
   can_before p = can_go (λ q. absurd (true≢false (sym q ∙ p)))
 
   pub can_past : KnownLedger (ledger_of s ids lens) → s.over ≡ false → CanGoOn s ids lens
@@ -116,12 +116,12 @@ pub code_low : (s : State) (ids lens : List ℕ) → feed_code s ids lens ≡ 0 
 unfolding feed_code
 code_low s ids lens z e = go (wrong_tables (length ids) (length lens)) refl z
   where
-    low : is_fit s.at s.kept s.came s.stage ≡ true → offset_of s ≤ 2 ^ 48
+    low : is_fit s.reader.at s.reader.kept s.reader.came s.reader.stage ≡ true → offset_of s ≤ 2 ^ 48
     low f =
-        let fit! = fit_only s.at s.kept s.came s.stage f in
-        omega (arith, fit!.1, (part_is s.at s.kept s.came s.stage s.came fit!.0).low)
+        let fit! = fit_only s.reader.at s.reader.kept s.reader.came s.reader.stage f in
+        omega (arith, fit!.1, (part_is s.reader.at s.reader.kept s.reader.came s.reader.stage s.reader.came fit!.0).low)
 
-    by_fit : (t : Bool) → is_fit s.at s.kept s.came s.stage ≡ t → feed_code s ids lens ≡ 0 → length ids ≡ 2048 → length lens ≡ 2048
+    by_fit : (t : Bool) → is_fit s.reader.at s.reader.kept s.reader.came s.reader.stage ≡ t → feed_code s ids lens ≡ 0 → length ids ≡ 2048 → length lens ≡ 2048
         → offset_of s ≤ 2 ^ 48
     by_fit true f q a d = low f
     by_fit false f q a d = absurd (omega (arith, code_kept s ids lens a d e f, q))
@@ -131,4 +131,4 @@ code_low s ids lens z e = go (wrong_tables (length ids) (length lens)) refl z
     go true q w = absurd (omega arith)
     go false q w =
         let tables = right_tables (length ids) (length lens) q in
-        by_fit (is_fit s.at s.kept s.came s.stage) refl z tables.0 tables.1
+        by_fit (is_fit s.reader.at s.reader.kept s.reader.came s.reader.stage) refl z tables.0 tables.1

@@ -1,10 +1,10 @@
 -- A fragment that is played leaves what was left of the report, whatever comes later. Assumes nothing.
-use mathlib.Core.Path.{◌≡◌, refl, sym, ap, ap₂, subst, ◌∙◌}
+use mathlib.Core.Path.{◌≡◌, refl, sym, ap, subst, ◌∙◌}
 use mathlib.Core.Bool.{Bool, true, false, cond, ◌&&◌, true≢false}
 use mathlib.Core.Logic.{inl, inr}
 use mathlib.Core.List.{List, [], ◌++◌, append-nil}
 use Prim.Native.Nat.{ℕ, ◌+◌, ◌-◌, ◌^◌, ◌≤◌}
-use Rattle.std.specs.Prelude.{Ok, Err}
+use Rattle.std.specs.Prelude.{Some, Ok, Err}
 use native.Mathlib.Omega.{arith}
 use native.Mathlib.Decide.{ℕ_discrete}
 use lib.Dec.{leb}
@@ -21,14 +21,18 @@ use Rattle.log_bytes.specs.declared.Event.{Event}
 use Rattle.log_bytes.specs.declared.Event.TheVariants.{Largest}
 use Rattle.log_bytes.specs.declared.End.{End}
 use Rattle.log_bytes.specs.declared.Next.TheVariants.{Ends}
-use Rattle.log_bytes.specs.Format.{past_l, stage_after, in_turn}
+use Rattle.log_bytes.specs.Format.{past_l, in_turn}
 use Rattle.log_bytes.specs.Rows.{Reading, next_of}
 use Rattle.log_bytes.proofs.Stages.{past_after}
 use Rattle.log_bytes.proofs.Wholes.{none_come}
 use Rattle.log_bytes.proofs.First.{largest_range}
 use Rattle.fragments.specs.Kept.{kept_bytes}
-use Rattle.fragments.specs.Reading.{joined, GoesOnWith, KeptOn}
+use Rattle.fragments.specs.declared.Reader.{Reader}
+use Rattle.fragments.specs.declared.Read.{Read}
+use Rattle.fragments.specs.Reading.{joined, GoesOnWith, KeptOn, ReadOn}
+use Rattle.fragments.specs.Readers.{cut_at, at_next, next_told, after_read}
 use Rattle.fragments.proofs.Kept.{kept_none, rest_joined}
+use Rattle.fragments.proofs.Readers.{read_whole, read_part, whole_now, part_now}
 use Rattle.lines.specs.Text.{Written, Line}
 use Rattle.lines.proofs.Texts.{from_front}
 use Rattle.arrays.specs.Lists.{zeroed}
@@ -56,31 +60,31 @@ pub over_rest : (h : Held) → h.state.over ≡ true → (later : List ℕ) → 
 unfolding rest_of
 over_rest h e later =
     let s = h.state in
-    ap (λ (t : Bool). cond t [] (report_from (reporting h) s.shown s.at (kept_bytes s.kept s.came ++ later) s.stage)) e
+    ap (λ (t : Bool). cond t [] (report_from (reporting h) s.shown s.reader.at (kept_bytes s.reader.kept s.reader.came ++ later) s.reader.stage)) e
 
 pub ended_rest : (s : State) (ids lens later : List ℕ) → rest_of (held (ended_state s) ids lens) later ≡ []
 ended_rest s ids lens later = over_rest (held (ended_state s) ids lens) refl later
 
 -- else the report of what has come of a field, and what follows
 pub going_rest : (h : Held) → h.state.over ≡ false → (later : List ℕ)
-    → rest_of h later ≡ report_from (reporting h) h.state.shown h.state.at (kept_bytes h.state.kept h.state.came ++ later) h.state.stage
+    → rest_of h later ≡ report_from (reporting h) h.state.shown h.state.reader.at (kept_bytes h.state.reader.kept h.state.reader.came ++ later) h.state.reader.stage
 unfolding rest_of
 going_rest h e later =
     let s = h.state in
-    ap (λ (t : Bool). cond t [] (report_from (reporting h) s.shown s.at (kept_bytes s.kept s.came ++ later) s.stage)) e
+    ap (λ (t : Bool). cond t [] (report_from (reporting h) s.shown s.reader.at (kept_bytes s.reader.kept s.reader.came ++ later) s.reader.stage)) e
 
 -- after L from the board in memory, and before it from none
-pub past_rest : (s : State) (ids lens : List ℕ) → s.over ≡ false → past_l s.stage ≡ true → (later : List ℕ)
+pub past_rest : (s : State) (ids lens : List ℕ) → s.over ≡ false → past_l s.reader.stage ≡ true → (later : List ℕ)
     → rest_of (held s ids lens) later ≡ left_of s ids lens later
 past_rest s ids lens e p later =
     going_rest (held s ids lens) e later
-    ∙ ap (λ (r : Reporting). report_from r s.shown s.at (kept_bytes s.kept s.came ++ later) s.stage) (rw p)
+    ∙ ap (λ (r : Reporting). report_from r s.shown s.reader.at (kept_bytes s.reader.kept s.reader.came ++ later) s.reader.stage) (rw p)
 
-pub before_rest : (s : State) (ids lens : List ℕ) → s.over ≡ false → past_l s.stage ≡ false → (later : List ℕ)
-    → rest_of (held s ids lens) later ≡ report_from unmade s.shown s.at (kept_bytes s.kept s.came ++ later) s.stage
+pub before_rest : (s : State) (ids lens : List ℕ) → s.over ≡ false → past_l s.reader.stage ≡ false → (later : List ℕ)
+    → rest_of (held s ids lens) later ≡ report_from unmade s.shown s.reader.at (kept_bytes s.reader.kept s.reader.came ++ later) s.reader.stage
 before_rest s ids lens e p later =
     going_rest (held s ids lens) e later
-    ∙ ap (λ (r : Reporting). report_from r s.shown s.at (kept_bytes s.kept s.came ++ later) s.stage) (rw p)
+    ∙ ap (λ (r : Reporting). report_from r s.shown s.reader.at (kept_bytes s.reader.kept s.reader.came ++ later) s.reader.stage) (rw p)
 
 -- ---- A report of one line
 
@@ -109,7 +113,7 @@ ended_done s ids lens fragment out used line ids' lens' out' a d is fits! w = re
 
 -- ---- The fields after L
 
-module _ (s : State) (ids lens fragment out : List ℕ) (k : CanGoOn s ids lens) (p : past_l s.stage ≡ true) where
+module _ (s : State) (ids lens fragment out : List ℕ) (k : CanGoOn s ids lens) (p : past_l s.reader.stage ≡ true) where
   module _ (t : State) (ids' lens' : List ℕ) where
     -- all of the fragment is played
     pub next_done : PlayedOn s ids lens fragment (played_in (Ok tt) t) ids' lens'
@@ -164,22 +168,24 @@ before_is AfterL p = absurd (true≢false p)
 pub before_turn : (e : Event) (stage : Stage) → past_l stage ≡ false → in_turn e stage ≡ true → in_turn e BeforeL ≡ true
 before_turn e stage p = subst (λ (t : Stage). in_turn e t ≡ true) (before_is stage p)
 
-module _ (s : State) (ids lens fragment out : List ℕ) (k : CanGoOn s ids lens) (p : past_l s.stage ≡ false) where
+module _ (s : State) (ids lens fragment out : List ℕ) (k : CanGoOn s ids lens) (p : past_l s.reader.stage ≡ false) where
   -- the report is one line
-  pub first_last : (e : End) → ((later : List ℕ) → next_of s.at (joined s.kept s.came fragment later) s.stage ≡ Ends e) → (used : ℕ) (out' : List ℕ)
-      → Written out 0 (one_line false e) used out' → used ≤ length out → FeedDone s ids lens fragment out (ended_piece (length fragment) used s) ids lens out'
-  first_last e ends used out' w fits =
-      ended_done s ids lens fragment out used (one_line false e) ids lens out' k.ids_all k.lens_all
+  pub first_last : (now : Reader) → now ≡ s.reader → (e : End)
+      → ((later : List ℕ) → next_of s.reader.at (joined s.reader.kept s.reader.came fragment later) s.reader.stage ≡ Ends e) → (used : ℕ) (out' : List ℕ)
+      → Written out 0 (one_line false e) used out' → used ≤ length out
+      → FeedDone s ids lens fragment out (ended_piece (length fragment) used (record s { reader = now })) ids lens out'
+  first_last now same e ends used out' w fits =
+      subst (λ (r : Reader). FeedDone s ids lens fragment out (ended_piece (length fragment) used (record s { reader = r })) ids lens out') (sym same)
+      (ended_done s ids lens fragment out used (one_line false e) ids lens out' k.ids_all k.lens_all
       (λ later.
-      ends_one unmade s.shown s.at (joined s.kept s.came fragment later) s.stage e (ends later)
+      ends_one unmade s.shown s.reader.at (joined s.reader.kept s.reader.came fragment later) s.reader.stage e (ends later)
       ∙ sym (before_rest s ids lens k.going p (fragment ++ later)))
-      fits w
+      fits w)
 
   -- it is not finished
-  module _ (now : ℕ) (after : List ℕ) (h : KeptOn s.at s.stage s.kept s.came fragment now after) where
+  module _ (now : ℕ) (after : List ℕ) (h : KeptOn s.reader.at s.reader.stage s.reader.kept s.reader.came fragment now after) where
     abbrev partly : State
-    partly =
-        record s { came = now; kept = after }
+    partly = record s { reader = cut_at s.reader now after }
 
     partly_goes : CanGoOn partly ids lens
     partly_goes = record {
@@ -191,14 +197,14 @@ module _ (s : State) (ids lens fragment out : List ℕ) (k : CanGoOn s ids lens)
       good = λ q. absurd (true≢false (sym q ∙ p));
     }
 
-    pub first_part : FeedDone s ids lens fragment out (stayed 0 (now - s.came) partly) ids lens out
+    pub first_part : FeedDone s ids lens fragment out (stayed 0 (now - s.reader.came) partly) ids lens out
     first_part = record {
       done = refl;
       told = record {
         within = omega (arith, h.ends, h.moves);
         fits = omega arith;
         joined = λ later.
-            before_rest partly ids lens k.going p (drop (now - s.came) fragment ++ later)
+            before_rest partly ids lens k.going p (drop (now - s.reader.came) fragment ++ later)
             ∙ sym (ap (λ (x : Reading). report_on unmade s.shown x.fields x.ends) (h.is later))
             ∙ sym (before_rest s ids lens k.going p (fragment ++ later));
         untouched = refl;
@@ -211,10 +217,10 @@ module _ (s : State) (ids lens fragment out : List ℕ) (k : CanGoOn s ids lens)
     }
 
   -- the board is made
-  module _ (l size : ℕ) (g : GoesOnWith s.at s.stage s.kept s.came fragment (Largest l) size) (after : List ℕ)
+  module _ (l size : ℕ) (g : GoesOnWith s.reader.at s.reader.stage s.reader.kept s.reader.came fragment (Largest l) size) (after : List ℕ)
       (b : struct.Board) (ids' lens' : List ℕ) (m : returned b ids' lens' ≡ fresh_in ids lens l) where
     in_range : leb 64 l && leb l 2048 ≡ true
-    in_range = largest_range l (before_turn (Largest l) s.stage p g.turn)
+    in_range = largest_range l (before_turn (Largest l) s.reader.stage p g.turn)
 
     made_starts : Starts b ids' lens' l
     made_starts =
@@ -235,47 +241,64 @@ module _ (s : State) (ids lens fragment out : List ℕ) (k : CanGoOn s ids lens)
       sized = sized_of zero_counts (length-replicate 64 zero_account);
     }
 
-    module _ (stage : Stage) (on : stage ≡ stage_after s.stage (Largest l)) where
-      abbrev made : State
-      made =
-          record s { stage = stage; at = s.at + size; came = 0; kept = after; board = b; counts = zero_counts }
+    abbrev made : State
+    made = record s { reader = at_next s.reader (Largest l) size after; board = b; counts = zero_counts }
 
-      past! : past_l stage ≡ true
-      past! = ap past_l on ∙ past_after (Largest l) s.stage g.turn
+    past! : past_l made.reader.stage ≡ true
+    past! = past_after (Largest l) s.reader.stage g.turn
 
-      made_goes : CanGoOn made ids' lens'
-      made_goes = record {
-        going = k.going;
-        fit = none_come (s.at + size) after stage;
-        low = g.low;
-        ids_all = made_starts.good.ids_all;
-        lens_all = made_starts.good.lens_all;
-        good = λ q. made_known;
-      }
+    made_goes : CanGoOn made ids' lens'
+    made_goes = record {
+      going = k.going;
+      fit = none_come (s.reader.at + size) after made.reader.stage;
+      low = g.low;
+      ids_all = made_starts.good.ids_all;
+      lens_all = made_starts.good.lens_all;
+      good = λ q. made_known;
+    }
 
-      pub first_made : FeedDone s ids lens fragment out (stayed 0 (size - s.came) made) ids' lens' out
-      first_made = record {
-        done = refl;
-        told = record {
-          within = omega (arith, g.ends, g.begins);
-          fits = omega arith;
-          joined = λ later.
-              let whole = joined s.kept s.came fragment later in
-              past_rest made ids' lens' k.going past! (drop (size - s.came) fragment ++ later)
-              ∙ ap (λ (t : List ℕ). report_from (reads (ledger b ids' lens' (tallies_of zero_counts) false)) s.shown (s.at + size) t stage)
-              (kept_none after (drop (size - s.came) fragment ++ later)
-              ∙ sym (rest_joined s.kept s.came fragment later size (omega (arith, g.begins)) g.ends))
-              ∙ ap₂ (λ (r : Reporting) (t : Stage). report_from r s.shown (s.at + size) (drop size whole) t) reads_made on
-              ∙ sym (report_whole unmade s.shown s.at whole s.stage (Largest l) size (g.is later))
-              ∙ sym (before_rest s ids lens k.going p (fragment ++ later));
-          untouched = refl;
-        };
-        goes_on = can_code made ids' lens' made_goes;
-        quiet = λ q. refl;
-        all = λ q. inr p;
-        moves = λ q n. omega (arith, g.begins);
-        onward = λ q. omega (arith, g.begins);
-      }
+    pub first_made : FeedDone s ids lens fragment out (stayed 0 (size - s.reader.came) made) ids' lens' out
+    first_made = record {
+      done = refl;
+      told = record {
+        within = omega (arith, g.ends, g.begins);
+        fits = omega arith;
+        joined = λ later.
+            let whole = joined s.reader.kept s.reader.came fragment later in
+            past_rest made ids' lens' k.going past! (drop (size - s.reader.came) fragment ++ later)
+            ∙ ap (λ (t : List ℕ). report_from (reads (ledger b ids' lens' (tallies_of zero_counts) false)) s.shown (s.reader.at + size) t made.reader.stage)
+            (kept_none after (drop (size - s.reader.came) fragment ++ later)
+            ∙ sym (rest_joined s.reader.kept s.reader.came fragment later size (omega (arith, g.begins)) g.ends))
+            ∙ ap (λ (r : Reporting). report_from r s.shown (s.reader.at + size) (drop size whole) made.reader.stage) reads_made
+            ∙ sym (report_whole unmade s.shown s.reader.at whole s.reader.stage (Largest l) size (g.is later))
+            ∙ sym (before_rest s ids lens k.going p (fragment ++ later));
+        untouched = refl;
+      };
+      goes_on = can_code made ids' lens' made_goes;
+      quiet = λ q. refl;
+      all = λ q. inr p;
+      moves = λ q n. omega (arith, g.begins);
+      onward = λ q. omega (arith, g.begins);
+    }
+
+  -- what is read says of which
+  module _ (read : Read) (now : Reader)
+      (read_on : ReadOn s.reader.at s.reader.stage s.reader.kept s.reader.came fragment (next_told (Ok read) s.reader.came) now.kept)
+      (after : now ≡ after_read (Ok read) s.reader now.kept) where
+    pub first_more : ((e : Event) → read.event ≡ Some e → ⊥) → FeedDone s ids lens fragment out (stayed 0 read.taken (record s { reader = now })) ids lens out
+    first_more never =
+        part_now s.reader fragment read now read_on after
+        (λ (r : Reader) (n : ℕ). FeedDone s ids lens fragment out (stayed 0 n (record s { reader = r })) ids lens out)
+        never
+        (first_part (s.reader.came + read.taken) now.kept (read_part s.reader fragment read now read_on after never))
+
+    pub first_field : (l : ℕ) → read.event ≡ Some (Largest l) → (b : struct.Board) (ids' lens' : List ℕ) → returned b ids' lens' ≡ fresh_in ids lens l
+        → FeedDone s ids lens fragment out (stayed 0 read.taken (record s { reader = now; board = b; counts = zero_counts })) ids' lens' out
+    first_field l q b ids' lens' m =
+        whole_now s.reader fragment read now read_on after
+        (λ (r : Reader) (n : ℕ). FeedDone s ids lens fragment out (stayed 0 n (record s { reader = r; board = b; counts = zero_counts })) ids' lens' out)
+        (Largest l) q
+        (first_made l (s.reader.came + read.taken) (read_whole s.reader fragment read now read_on after (Largest l) q) now.kept b ids' lens' m)
 
 -- ---- The promise of a call with a fragment
 

@@ -1,16 +1,16 @@
 -- THE REPORT FROM FRAGMENTS: what a call writes, joined with what is left after it, is what was left before it.
 use Rattle.std.specs.Prelude.{◌≡◌, Bool, true, false, cond, not, ◌&&◌, ◌||◌, ◌≢◌, ◌⊎◌, List, [], ◌++◌, ℕ, ◌+◌, ◌^◌, ◌≤◌}
-use Rattle.std.specs.Prelude.{◌<◌, length, replicate, Result, Ok, Err}
+use Rattle.std.specs.Prelude.{◌<◌, length, Result, Ok, Err}
 use Rattle.numbers.specs.declared.refusal.Refusal.{Refusal}
 use Rattle.numbers.specs.Codes.{refusal_code}
 use Rattle.operands.specs.declared.Fed.{Fed}
 use Rattle.rules.specs.Board.{fresh}
 use Rattle.rules.specs.Calls.{wrong_tables}
 use Rattle.board.specs.Reading.{encode, is_sound}
-use Rattle.log_bytes.specs.declared.Stage.TheVariants.{BeforeL}
 use Rattle.log_bytes.specs.declared.Next.TheVariants.{Unfinished}
 use Rattle.log_bytes.specs.Format.{past_l, next_in}
 use Rattle.fragments.specs.Kept.{kept_bytes, is_fit}
+use Rattle.fragments.specs.Readers.{before_log}
 use Rattle.fragments.specs.Feeding.{Told, Closed, Telling}
 use Rattle.report_rules.specs.Report.{Reporting, unmade, report_from, report_of}
 use Rattle.counting.specs.Counting.{zero_counts, counts_fit_now}
@@ -22,11 +22,8 @@ use Rattle.report_play.specs.Playing.{ledger_of, offset_of}
 abbrev pub before_first : State
 before_first =
     record {
-      stage = BeforeL;
+      reader = before_log;
       over = false;
-      at = 0;
-      came = 0;
-      kept = replicate 13 0;
       shown = 0;
       board = encode (fresh 0);
       counts = zero_counts;
@@ -44,13 +41,13 @@ held s ids lens = record { state = s; ids = ids; lens = lens }
 
 -- as the report's definition reads it; before L there is no board
 abbrev pub reporting : Held → Reporting
-reporting h = cond (past_l h.state.stage) (reads (ledger_of h.state h.ids h.lens)) unmade
+reporting h = cond (past_l h.state.reader.stage) (reads (ledger_of h.state h.ids h.lens)) unmade
 
 -- what of the report is still to be written, if these bytes follow and the log then ends
 unfoldable pub rest_of : Held → (later : List ℕ) → List ℕ
 rest_of h later =
     let s = h.state in
-    cond s.over [] (report_from (reporting h) s.shown s.at (kept_bytes s.kept s.came ++ later) s.stage)
+    cond s.over [] (report_from (reporting h) s.shown s.reader.at (kept_bytes s.reader.kept s.reader.came ++ later) s.reader.stage)
 
 abbrev pub is_over : Held → Bool
 is_over h = h.state.over
@@ -61,8 +58,8 @@ is_over h = h.state.over
 -- be those of a run to it: no call leaves such a state.
 abbrev pub unfit : State → (ids lens : List ℕ) → Bool
 unfit s ids lens =
-    not (is_fit s.at s.kept s.came s.stage)
-    || (past_l s.stage && (not (is_sound s.board ids lens) || not (counts_fit_now s.board s.counts)))
+    not (is_fit s.reader.at s.reader.kept s.reader.came s.reader.stage)
+    || (past_l s.reader.stage && (not (is_sound s.board ids lens) || not (counts_fit_now s.board s.counts)))
 
 -- A table of another length is 3. Where the report is not over, an unfit state is 2.
 unfoldable pub feed_code : State → (ids lens : List ℕ) → ℕ
@@ -72,11 +69,11 @@ feed_code s ids lens =
 -- what is known of a state from which a report goes on
 pub record CanGoOn (s : State) (ids lens : List ℕ) : Type 0 where
   pub going : s.over ≡ false
-  pub fit : next_in s.at s.kept s.came s.stage ≡ Unfinished s.came
-  pub low : s.at ≤ 2 ^ 48
+  pub fit : next_in s.reader.at s.reader.kept s.reader.came s.reader.stage ≡ Unfinished s.reader.came
+  pub low : s.reader.at ≤ 2 ^ 48
   pub ids_all : length ids ≡ 2048
   pub lens_all : length lens ≡ 2048
-  pub good : past_l s.stage ≡ true → KnownLedger (ledger_of s ids lens)
+  pub good : past_l s.reader.stage ≡ true → KnownLedger (ledger_of s ids lens)
 
 -- ---- What a call does
 
@@ -103,11 +100,8 @@ stayed code taken s = record { code = code; taken = taken; used = 0; state = s }
 abbrev pub ended_state : State → State
 ended_state s =
     record {
-      stage = s.stage;
+      reader = s.reader;
       over = true;
-      at = s.at;
-      came = s.came;
-      kept = s.kept;
       shown = s.shown;
       board = s.board;
       counts = s.counts;
@@ -125,7 +119,7 @@ pub record FeedDone (s : State) (ids lens fragment out : List ℕ) (r : Piece) (
   -- a report is written at its end alone
   pub quiet : r.state.over ≡ false → r.used ≡ 0
   -- With room for a line all is taken, unless L was not read before; of a fragment that has bytes some are taken then.
-  pub all : 128 ≤ length out → (r.taken ≡ length fragment) ⊎ (past_l s.stage ≡ false)
+  pub all : 128 ≤ length out → (r.taken ≡ length fragment) ⊎ (past_l s.reader.stage ≡ false)
   pub moves : 128 ≤ length out → 0 < length fragment → 0 < r.taken
   -- the offset moves on by what is taken
   pub onward : r.state.over ≡ false → offset_of r.state ≡ offset_of s + r.taken

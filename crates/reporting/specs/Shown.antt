@@ -31,7 +31,7 @@ lines_from_in b t p = lines_in b t p (64 - p)
 
 -- whether the counting has stopped; before L nothing is counted
 abbrev pub has_stopped : State → Bool
-has_stopped s = past_l s.stage && s.counts.full
+has_stopped s = past_l s.reader.stage && s.counts.full
 
 -- whether a report is one line: the counting has stopped, or the log does not end whole
 abbrev pub is_alone : (full : Bool) → End → Bool
@@ -43,11 +43,8 @@ is_alone full long = true
 abbrev pub showing : State → (shown : ℕ) → State
 showing s shown =
     record {
-      stage = s.stage;
+      reader = s.reader;
       over = false;
-      at = s.at;
-      came = s.came;
-      kept = s.kept;
       shown = shown;
       board = s.board;
       counts = s.counts;

@@ -13,9 +13,9 @@ ghost use Rattle.reporting.specs.Shown.{line_at, has_stopped, is_alone, PlacesSh
 ghost use Rattle.reporting.specs.Feeding.{before_first, feed_code, CanGoOn, piece, piece_in, FeedDone, FeedOf, CloseOf};
 
 use board::Board;
-use fragments::FIELD_ROOM;
+use fragments::Reader;
 use lines::Line;
-use log_bytes::{End, Event, Next, Stage};
+use log_bytes::{End, Event};
 use numbers::refusal::Refusal;
 use numbers::{PARTS_PER_BYTE, PLACES, TABLE_ENTRIES};
 use operands::Fed;
@@ -106,10 +106,10 @@ fn early(s: &State, ids: &[u32], lens: &[u16]) -> Result<(), Refusal>
     if s.over {
         return Ok(());
     }
-    if !fragments::is_fit(&s.kept, s.came, s.at, s.stage) {
+    if !s.reader.is_fit() {
         return Err(Refusal::Spoilt);
     }
-    if !log_bytes::past_l(s.stage) {
+    if !log_bytes::past_l(s.reader.stage) {
         return Ok(());
     }
     spoilt::early(&s.board, ids, lens)?;
@@ -127,7 +127,7 @@ fn next_piece(
     lens: &mut [u16],
     out: &mut [u8],
 ) -> Fed
-    requires { CanGoOn s.old ids.old lens.old × ((past_l s.old.stage ≡ true) × (128 ≤ length out.old)) }
+    requires { CanGoOn s.old ids.old lens.old × ((past_l s.old.reader.stage ≡ true) × (128 ≤ length out.old)) }
     ensures { FeedDone s.old ids.old lens.old fragment.now out.old (piece result s.new) ids.new lens.new out.new }
 {
     let mut used = 0;
@@ -150,46 +150,30 @@ fn first_piece(
     out: &mut [u8],
 ) -> Fed
     requires { CanGoOn s.old ids.old lens.old
-        × ((past_l s.old.stage ≡ false) × ((128 ≤ length out.old) × (0 < length fragment.now))) }
+        × ((past_l s.old.reader.stage ≡ false) × ((128 ≤ length out.old) × (0 < length fragment.now))) }
     ensures { FeedDone s.old ids.old lens.old fragment.now out.old (piece result s.new) ids.new lens.new out.new }
 {
-    let (stage, at, came) = (s.stage, s.at, s.came);
-    let mut kept = s.kept;
-    match fragments::read_on(fragment, 0, &mut kept, came, at, stage) {
-        Next::Ends(end) => {
+    let read = match s.reader.read_on(fragment) {
+        Ok(read) => read,
+        Err(end) => {
             s.over = true;
-            Fed {
+            return Fed {
                 taken: fragment.len(),
                 used: put_end(false, end, out),
-            }
-        }
-        Next::Unfinished(part) => {
-            s.came = part;
-            s.kept = kept;
-            Fed {
-                taken: part - came,
-                used: 0,
-            }
-        }
-        Next::GoesOn(event, size) => {
-            // No other field is whole before L, so this is never taken.
-            let Event::Largest(largest) = event else {
-                return Fed { taken: 0, used: 0 };
             };
-            *s = State {
-                stage: log_bytes::stage_after(stage, event),
-                at: at + size as u64,
-                came: 0,
-                kept,
-                board: blocks::make_in(ids, lens, largest),
-                counts: counting::blank(),
-                ..*s
-            };
-            Fed {
-                taken: size - came,
-                used: 0,
-            }
         }
+    };
+    if let Some(event) = read.event {
+        // No other field is whole before L.
+        let Event::Largest(largest) = event else {
+            unreachable!()
+        };
+        s.board = blocks::make_in(ids, lens, largest);
+        s.counts = counting::blank();
+    }
+    Fed {
+        taken: read.taken,
+        used: 0,
     }
 }
 
@@ -213,7 +197,7 @@ pub fn feed(
     if out.len() < REPORT_ROOM || fragment.is_empty() {
         return Ok(Fed { taken: 0, used: 0 });
     }
-    if log_bytes::past_l(s.stage) {
+    if log_bytes::past_l(s.reader.stage) {
         return Ok(next_piece(s, fragment, ids, lens, out));
     }
     Ok(first_piece(s, fragment, ids, lens, out))
@@ -223,7 +207,7 @@ pub fn feed(
 fn has_stopped(s: &State) -> bool
     ensures { result ≡ has_stopped s.now }
 {
-    log_bytes::past_l(s.stage) && s.counts.full
+    log_bytes::past_l(s.reader.stage) && s.counts.full
 }
 
 // The end of a log: the report, or as many lines of places as there is room for. It is called until the report is over.
@@ -235,7 +219,7 @@ pub fn finish(s: &mut State, ids: &[u32], lens: &[u16], out: &mut [u8]) -> Resul
     if s.over || out.len() < REPORT_ROOM {
         return Ok(Fed { taken: 0, used: 0 });
     }
-    let end = log_bytes::end_in(s.at, s.came, s.stage);
+    let end = s.reader.end();
     let full = has_stopped(s);
     if is_alone(full, end) {
         s.over = true;
@@ -252,11 +236,8 @@ pub fn begin() -> State
     ensures { result ≡ before_first }
 {
     State {
-        stage: Stage::BeforeL,
+        reader: Reader::begin(),
         over: false,
-        at: 0,
-        came: 0,
-        kept: [0; FIELD_ROOM],
         shown: 0,
         board: Board::blank(0),
         counts: counting::blank(),

@@ -9,4 +9,4 @@ returns c =
     let goes = c.in_ok-unready.ensures.known refl c.if-s.false in
     let shown = c.show_end-used.ensures in
     done_close _ _ _ _ _ _ (sym c.in_ok-unready.ensures.code)
-    (close_last _ _ _ _ goes _ c.waiting.ensures _ _ _ c.end_in-end.ensures shown.0 (omega arith))
+    (close_last _ _ _ _ goes _ c.waiting.ensures _ _ _ c.end.ensures.ends shown.0 (omega arith))

@@ -7,7 +7,7 @@ use Rattle.report_play.proofs.play_on.Given as goal
 
 abbrev pub invariant-loop-taken : goal.invariant-loop-taken
 invariant-loop-taken l = record {
-  played : PlayedTo l.s l.initial.ids l.initial.lens l.fragment (ledger_of l.here l.ids l.lens) l.here.stage l.here.at l.here.came l.here.kept l.taken;
+  played : PlayedTo l.s l.initial.ids l.initial.lens l.fragment (ledger_of l.here l.ids l.lens) l.here.reader l.taken;
   shown : l.here.shown ≡ l.s.shown;
 }
 
