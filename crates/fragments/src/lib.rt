@@ -67,8 +67,8 @@ pub struct Reader {
     pub kept: [u8; FIELD_ROOM],
 }
 
-// What a part of a log brings: how many of its bytes belong to the field, and what the field says where it is whole with
-// them.
+// What a part of a log brings: how many of its bytes belong to the field, and what the field says where it is whole
+// with them.
 #[derive(Clone, Copy)]
 pub struct Read {
     pub taken: usize,

@@ -30,7 +30,8 @@ over_code s ids lens a d = right_code (ended_state s) ids lens a d
 pub can_code : (s : State) (ids lens : List ℕ) → CanGoOn s ids lens → feed_code s ids lens ≡ 0
 can_code s ids lens k =
     right_code s ids lens k.ids_all k.lens_all ∙ ap (λ (t : Bool). cond t 0 (cond (unfit s ids lens) 2 0)) k.going
-    ∙ go (is_fit s.reader.at s.reader.kept s.reader.came s.reader.stage) (past_l s.reader.stage) (fit_is s.reader.at s.reader.kept s.reader.came s.reader.stage k.fit k.low) refl
+    ∙ go (is_fit s.reader.at s.reader.kept s.reader.came s.reader.stage) (past_l s.reader.stage)
+    (fit_is s.reader.at s.reader.kept s.reader.came s.reader.stage k.fit k.low) refl
   where
     go : (f t : Bool) → f ≡ true → past_l s.reader.stage ≡ t
         → ◌≡◌ {A = ℕ} (cond (not f || (t && (ltb (s.reader.at / 3) (s.sent.0 / 65536) || not (is_sound s.board ids lens)))) 2 0) 0

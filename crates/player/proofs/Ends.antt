@@ -88,8 +88,10 @@ module _ (s : State) (ids lens fragment out : List ℕ) (k : CanGoOn s ids lens)
   reading r = record { reader = r; over = s.over; sent = s.sent; board = s.board }
 
   -- the listing is one line
-  pub first_last : (now : Reader) → now ≡ s.reader → (e : End) → ((later : List ℕ) → next_of s.reader.at (joined s.reader.kept s.reader.came fragment later) s.reader.stage ≡ Ends e) → (last : ℕ) (out' : List ℕ)
-      → Written out 0 (last_of 0 0 0 e) last out' → last ≤ length out → FeedDone s ids lens fragment out (ended_piece (length fragment) last (reading now)) ids lens out'
+  pub first_last : (now : Reader) → now ≡ s.reader → (e : End)
+      → ((later : List ℕ) → next_of s.reader.at (joined s.reader.kept s.reader.came fragment later) s.reader.stage ≡ Ends e) → (last : ℕ) (out' : List ℕ)
+      → Written out 0 (last_of 0 0 0 e) last out' → last ≤ length out
+      → FeedDone s ids lens fragment out (ended_piece (length fragment) last (reading now)) ids lens out'
   first_last now same e ends last out' w small =
       subst (λ (r : Reader). FeedDone s ids lens fragment out (ended_piece (length fragment) last (reading r)) ids lens out') (sym same)
       (ended_done s ids lens fragment out last (last_of 0 0 0 e) ids lens out' k.ids_all k.lens_all
@@ -217,7 +219,8 @@ module _ (s : State) (ids lens out : List ℕ) where
         go : (t : Bool) → past_l s.reader.stage ≡ t → last_of s.board.clock s.sent.0 count end ≡ rest_of (held s ids lens) []
         go true p =
             last_line_lem (memory s.board ids lens s.sent.0) (k.good p) end count n
-            ∙ sym (listing_cut (reads (memory s.board ids lens s.sent.0)) s.reader.at (kept_bytes s.reader.kept s.reader.came ++ []) s.reader.stage s.reader.came cut)
+            ∙ sym (listing_cut (reads (memory s.board ids lens s.sent.0)) s.reader.at
+            (kept_bytes s.reader.kept s.reader.came ++ []) s.reader.stage s.reader.came cut)
             ∙ sym (past_rest s ids lens k.going p [])
         go false p =
             unshown end refl p ∙ sym (listing_cut unmade s.reader.at (kept_bytes s.reader.kept s.reader.came ++ []) s.reader.stage s.reader.came cut)

@@ -108,7 +108,8 @@ module _ (s : State) (ids lens part : List ℕ) (k : CanGoOn s ids lens) where
         ∙ sym (going_rest (held s ids lens) k.going (part ++ later))
 
   -- it is whole, and what it says is done
-  module _ (e : Event) (size : ℕ) (g : GoesOnWith s.reader.at s.reader.stage s.reader.kept s.reader.came part e size) (after : List ℕ) (same : length after ≡ length s.reader.kept)
+  module _ (e : Event) (size : ℕ) (g : GoesOnWith s.reader.at s.reader.stage s.reader.kept s.reader.came part e size) (after : List ℕ)
+      (same : length after ≡ length s.reader.kept)
       (b : struct.Board) (ids' lens' : List ℕ) (sent : Bytes) (known : KnownMemory (memory b ids' lens' sent.0))
       (few! : sent.0 / 65536 ≤ (s.reader.at + size) / 3) (next : reads (memory b ids' lens' sent.0) ≡ played (playing (held s ids lens)) e) where
     abbrev pub beyond : State
@@ -138,9 +139,11 @@ module _ (s : State) (ids lens part : List ℕ) (k : CanGoOn s ids lens) where
         ap (λ (t : List ℕ). line ++ t)
         (past_rest beyond ids' lens' k.going beyond_past (drop (size - s.reader.came) part ++ later)
         ∙ ap (λ (t : List ℕ). listing_from (reads (memory b ids' lens' sent.0)) (s.reader.at + size) t beyond.reader.stage)
-        (kept_none after (drop (size - s.reader.came) part ++ later) ∙ sym (rest_joined s.reader.kept s.reader.came part later size (omega (arith, g.begins)) g.ends))
+        (kept_none after (drop (size - s.reader.came) part ++ later)
+        ∙ sym (rest_joined s.reader.kept s.reader.came part later size (omega (arith, g.begins)) g.ends))
         ∙ ap (λ (q : Playing). listing_from q (s.reader.at + size) (drop size whole) beyond.reader.stage) next)
-        ∙ sym (listing_whole (playing (held s ids lens)) s.reader.at whole s.reader.stage e size (g.is later)) ∙ sym (going_rest (held s ids lens) k.going (part ++ later))
+        ∙ sym (listing_whole (playing (held s ids lens)) s.reader.at whole s.reader.stage e size (g.is later))
+        ∙ sym (going_rest (held s ids lens) k.going (part ++ later))
 
 -- ---- What a call that ends the listing does
 
@@ -246,7 +249,8 @@ module _ (from : Held) (fragment out₀ : List ℕ) (s : State) (ids lens : List
   }
 
   -- a field is played, and the next one follows
-  module _ (e : Event) (size : ℕ) (g : GoesOnWith s.reader.at s.reader.stage s.reader.kept s.reader.came part e size) (after : List ℕ) (same! : length after ≡ length s.reader.kept)
+  module _ (e : Event) (size : ℕ) (g : GoesOnWith s.reader.at s.reader.stage s.reader.kept s.reader.came part e size) (after : List ℕ)
+      (same! : length after ≡ length s.reader.kept)
       (b : struct.Board) (ids' lens' : List ℕ) (sent : Bytes) (used' : ℕ) (out' : List ℕ)
       (p : FieldPlayed (memory s.board ids lens s.sent.0) e (memory b ids' lens' sent.0) out used used' out') (room! : used + 64 ≤ length out) where
     abbrev line : List ℕ
@@ -310,7 +314,8 @@ module _ (from : Held) (fragment out₀ : List ℕ) (s : State) (ids lens : List
         (λ (r : Reader) (n : ℕ).
         UnderWay from fragment out₀ (record { reader = r; over = s.over; sent = sent; board = b }) ids' lens' (taken + n) used' out')
         e q
-        (under_next e (s.reader.came + read.taken) (read_whole s.reader part read now read_on after e q) now.kept read_on.room b ids' lens' sent used' out' p room!)
+        (under_next e (s.reader.came + read.taken)
+        (read_whole s.reader part read now read_on after e q) now.kept read_on.room b ids' lens' sent used' out' p room!)
 
 module _ (s₀ : State) (ids₀ lens₀ fragment out₀ : List ℕ) (s : State) (ids lens : List ℕ) (taken used : ℕ) (out : List ℕ)
     (u : UnderWay (held s₀ ids₀ lens₀) fragment out₀ s ids lens taken used out) where
@@ -323,7 +328,8 @@ module _ (s₀ : State) (ids₀ lens₀ fragment out₀ : List ℕ) (s : State) 
       → used + 64 ≤ length out
       → FeedDone s₀ ids₀ lens₀ fragment out₀ (ended_piece (length fragment) last lent) ids lens out'
   under_last lent is e count k after told last out' shown room! =
-      let read_on : ReadOn s.reader.at s.reader.stage s.reader.kept s.reader.came (drop taken fragment) (Ends e) after = rw (from_taken fragment taken) at told in
+      let read_on : ReadOn s.reader.at s.reader.stage s.reader.kept s.reader.came (drop taken fragment) (Ends e) after =
+      rw (from_taken fragment taken) at told in
       let here = memory s.board ids lens s.sent.0 in
       let text = u.text ++ last_of s.board.clock s.sent.0 count e in
       subst (λ (t : State). FeedDone s₀ ids₀ lens₀ fragment out₀ (ended_piece (length fragment) last t) ids lens out') (sym is)

@@ -46,7 +46,8 @@ playing h =
 unfoldable pub rest_of : Held → (later : List ℕ) → List ℕ
 rest_of h later =
     let s = h.state in
-    cond s.over [] (listing_from (playing h) s.reader.at (kept_bytes s.reader.kept s.reader.came ++ later) s.reader.stage)
+    cond s.over [] (listing_from (playing h) s.reader.at
+    (kept_bytes s.reader.kept s.reader.came ++ later) s.reader.stage)
 
 abbrev pub is_over : Held → Bool
 is_over h = h.state.over

@@ -23,7 +23,8 @@ offset_of s = s.reader.at + s.reader.came
 -- what is left of the report after L, if these bytes follow and the log then ends
 abbrev pub left_of : State → (ids lens later : List ℕ) → List ℕ
 left_of s ids lens later =
-    report_from (reads (ledger_of s ids lens)) s.shown s.reader.at (kept_bytes s.reader.kept s.reader.came ++ later) s.reader.stage
+    report_from (reads (ledger_of s ids lens)) s.shown s.reader.at
+    (kept_bytes s.reader.kept s.reader.came ++ later) s.reader.stage
 
 -- the one line of a report that shows no place; that of a whole log shows them, unless the counting has stopped
 abbrev pub end_line : End → List ℕ

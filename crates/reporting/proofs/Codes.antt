@@ -99,7 +99,8 @@ over_code s ids lens a d = sym (code_over (ended_state s) ids lens a d refl)
 
 -- ---- and what is known of one that is not refused
 
-module _ (s : State) (ids lens : List ℕ) (a : length ids ≡ 2048) (d : length lens ≡ 2048) (f : is_fit s.reader.at s.reader.kept s.reader.came s.reader.stage ≡ true) where
+module _ (s : State) (ids lens : List ℕ) (a : length ids ≡ 2048) (d : length lens ≡ 2048)
+    (f : is_fit s.reader.at s.reader.kept s.reader.came s.reader.stage ≡ true) where
   can_go : (past_l s.reader.stage ≡ true → KnownLedger (ledger_of s ids lens)) → s.over ≡ false → CanGoOn s ids lens
   can_go l e =
       let fit! = fit_only s.reader.at s.reader.kept s.reader.came s.reader.stage f in

@@ -67,7 +67,8 @@ ended_rest s ids lens later = over_rest (held (ended_state s) ids lens) refl lat
 
 -- else the report of what has come of a field, and what follows
 pub going_rest : (h : Held) → h.state.over ≡ false → (later : List ℕ)
-    → rest_of h later ≡ report_from (reporting h) h.state.shown h.state.reader.at (kept_bytes h.state.reader.kept h.state.reader.came ++ later) h.state.reader.stage
+    → rest_of h later ≡ report_from (reporting h) h.state.shown h.state.reader.at
+    (kept_bytes h.state.reader.kept h.state.reader.came ++ later) h.state.reader.stage
 unfolding rest_of
 going_rest h e later =
     let s = h.state in

@@ -47,7 +47,8 @@ reporting h = cond (past_l h.state.reader.stage) (reads (ledger_of h.state h.ids
 unfoldable pub rest_of : Held → (later : List ℕ) → List ℕ
 rest_of h later =
     let s = h.state in
-    cond s.over [] (report_from (reporting h) s.shown s.reader.at (kept_bytes s.reader.kept s.reader.came ++ later) s.reader.stage)
+    cond s.over [] (report_from (reporting h) s.shown s.reader.at
+    (kept_bytes s.reader.kept s.reader.came ++ later) s.reader.stage)
 
 abbrev pub is_over : Held → Bool
 is_over h = h.state.over
