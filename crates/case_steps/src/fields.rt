@@ -1,4 +1,6 @@
 // The fields of a board: how many values each has, what stands there, another value in its place, and its word.
+ghost use Rattle.std.specs.Prelude.{◌≡◌, ◌≤◌, IfNone};
+
 use crate::tables;
 use board::Board;
 use numbers::{CLASSES, PLACES};
@@ -46,7 +48,9 @@ pub const FIELDS: [Field; 16] = [
 
 impl Field {
     // How many values: one for each place or each class, or one.
-    pub fn entries(self) -> usize {
+    pub fn entries(self) -> usize
+        ensures { (1 ≤ result) × (result ≤ 64) }
+    {
         match self {
             Field::Number
             | Field::Share
@@ -88,7 +92,9 @@ impl Field {
     }
 
     // Another value i. Nothing changes, and the answer is none, where the field has no value i, or is too narrow.
-    pub fn set(self, i: usize, v: u64, b: &mut Board) -> Option<()> {
+    pub fn set(self, i: usize, v: u64, b: &mut Board) -> Option<()>
+        ensures { IfNone result (b.new ≡ b.old) }
+    {
         match self {
             Field::Number => put(&mut b.numbers, i, v),
             Field::Share => put(&mut b.shares, i, v),
@@ -113,9 +119,11 @@ impl Field {
 fn put<T: Copy + TryFrom<u64>>(row: &mut [T], i: usize, v: u64) -> Option<()>
 where
     T::Error: Drop,
+    ensures { IfNone result (row.new ≡ row.old) }
 {
     let value = T::try_from(v).ok()?;
-    *row.get_mut(i)? = value;
+    row.get(i)?;
+    row[i] = value;
     Some(())
 }
 
