@@ -1,7 +1,6 @@
 // What is told of a call, as it stands behind the call's word.
 use board::Board;
 use calls::{Bursted, Sent};
-use numbers::TABLE_ENTRIES;
 use numbers::refusal::{DONE, Refusal, code_of};
 use std::fmt;
 
@@ -17,10 +16,11 @@ pub enum Answer {
 
 // What the step `spoilt` answers.
 pub fn spoilt(ids: &[u32], lens: &[u16], b: &Board) -> Answer {
-    if ids.len() != TABLE_ENTRIES || lens.len() != TABLE_ENTRIES {
-        return Answer::Tested(Err(Refusal::TableLength));
-    }
-    Answer::Tested(Ok(!spoilt::sound(b, ids, lens)))
+    Answer::Tested(match spoilt::early(b, ids, lens) {
+        Ok(()) => Ok(false),
+        Err(Refusal::Spoilt) => Ok(true),
+        Err(refusal) => Err(refusal),
+    })
 }
 
 impl fmt::Display for Answer {

@@ -4,7 +4,12 @@ ghost use Rattle.std.specs.Int.{w64, from_be_bytes};
 ghost use Rattle.std.specs.Io.KnownBytes.{Consumes};
 
 use std::io;
-use std::io::Read;
+use std::io::{ErrorKind, Read};
+
+// The error of a case whose bytes are there, but have another value than docs/CASES.md says.
+pub fn not_whole() -> io::Error {
+    io::Error::from(ErrorKind::InvalidData)
+}
 
 // The next byte.
 pub fn byte<R: Read>(case: &mut R) -> io::Result<u8>
@@ -13,6 +18,21 @@ pub fn byte<R: Read>(case: &mut R) -> io::Result<u8>
     let mut byte = [0u8; 1];
     case.read_exact(&mut byte)?;
     Ok(byte[0])
+}
+
+// What the next byte names. There is nothing where the input ends, or cannot be read; a byte that names nothing is an
+// error.
+pub fn next<R: Read, T: TryFrom<u8>>(case: &mut R) -> io::Result<Option<T>>
+where
+    T::Error: Drop,
+{
+    let Ok(byte) = byte(case) else {
+        return Ok(None);
+    };
+    match T::try_from(byte) {
+        Ok(named) => Ok(Some(named)),
+        Err(_) => Err(not_whole()),
+    }
 }
 
 // The next number: eight bytes, high byte first.

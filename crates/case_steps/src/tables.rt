@@ -4,12 +4,9 @@
 pub const MOST: usize = 4096;
 
 pub fn cut(ids: &mut [u32], lens: &mut [u16], numbers: usize, lengths: usize) {
-    for id in ids.iter_mut().skip(numbers) {
-        *id = 0;
-    }
-    for length in lens.iter_mut().skip(lengths) {
-        *length = 0;
-    }
+    let (from, behind) = (numbers.min(ids.len()), lengths.min(lens.len()));
+    ids[from..].fill(0);
+    lens[behind..].fill(0);
 }
 
 // A table that is too short for entry i is left alone.

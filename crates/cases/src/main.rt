@@ -3,7 +3,7 @@
 #![tactic(auto)]
 
 use crate::play::CaseState;
-use case_steps::tables;
+use case_steps::{spelling, tables};
 use std::io;
 use std::io::{Read, Write};
 
@@ -20,7 +20,7 @@ fn play_all<R: Read, W: Write>(case: &mut R, lines: &mut W) -> io::Result<()> {
     let mut lens = [0u16; tables::MOST];
     let mut state = CaseState::fresh();
     for _ in 0..u64::MAX {
-        let Some(step) = input::step(case)? else {
+        let Some(step) = spelling::next(case)? else {
             return Ok(());
         };
         state.play(case, lines, step, &mut ids, &mut lens)?;

@@ -2,7 +2,7 @@
 use crate::input;
 use board::Board;
 use case_steps::fields::Field;
-use case_steps::tables;
+use case_steps::{spelling, tables};
 use std::io;
 use std::io::Read;
 
@@ -17,7 +17,7 @@ fn which<R: Read>(case: &mut R, count: usize) -> io::Result<usize> {
 pub fn field<R: Read>(case: &mut R, field: Field, b: &mut Board) -> io::Result<()> {
     let i = which(case, field.entries())?;
     let v = input::operand(case)?;
-    field.set(i, v, b).ok_or_else(input::not_whole)
+    field.set(i, v, b).ok_or_else(spelling::not_whole)
 }
 
 pub fn entry<R: Read>(case: &mut R, ids: &mut [u32], lens: &mut [u16]) -> io::Result<()> {

@@ -3,7 +3,7 @@ ghost use Rattle.std.specs.Prelude.{◌≡◌, ◌≤◌, length, take, IfOk, If
 
 use case_steps::spelling;
 use std::io;
-use std::io::{ErrorKind, Read};
+use std::io::Read;
 
 // The most bytes of a fragment, and of the buffer that is lent to each call.
 pub const MOST: usize = 4096;
@@ -34,22 +34,6 @@ impl TryFrom<u8> for Kind {
     }
 }
 
-// The error of a case whose bytes are there, but have other values than docs/CASES.md says.
-pub fn not_whole() -> io::Error {
-    io::Error::from(ErrorKind::InvalidData)
-}
-
-// The kind of the next case. There is none where the input ends, or cannot be read; a byte that names none is an error.
-pub fn next_kind<R: Read>(cases: &mut R) -> io::Result<Option<Kind>> {
-    let Ok(byte) = spelling::byte(cases) else {
-        return Ok(None);
-    };
-    match Kind::try_from(byte) {
-        Ok(kind) => Ok(Some(kind)),
-        Err(_) => Err(not_whole()),
-    }
-}
-
 // The next number of two bytes, high byte first.
 pub fn short<R: Read>(cases: &mut R) -> io::Result<usize> {
     let mut bytes = [0u8; 2];
@@ -66,7 +50,7 @@ pub fn fragment<R: Read>(cases: &mut R, bytes: &mut [u8]) -> io::Result<Option<u
         return Ok(None);
     }
     if bytes.len() < n {
-        return Err(not_whole());
+        return Err(spelling::not_whole());
     }
     cases.read_exact(&mut bytes[..n])?;
     Ok(Some(n))

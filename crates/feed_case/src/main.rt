@@ -4,6 +4,7 @@
 #![tactic(auto)]
 
 use crate::input::Kind;
+use case_steps::spelling;
 use lines::LINE_ROOM;
 use numbers::LOG_END;
 use report_lines::REPORT_ROOM;
@@ -24,13 +25,13 @@ fn least_room(kind: Kind) -> usize {
 
 // Plays the next case, and answers whether there was one. One that is not whole is an error.
 fn next_case<R: Read, W: Write>(cases: &mut R, answers: &mut W) -> io::Result<bool> {
-    let Some(kind) = input::next_kind(cases)? else {
+    let Some(kind) = spelling::next(cases)? else {
         return Ok(false);
     };
-    let first = case_steps::spelling::number(cases)?;
+    let first = spelling::number(cases)?;
     let room = input::short(cases)?;
     if LOG_END < first || room < least_room(kind) || input::MOST < room {
-        return Err(input::not_whole());
+        return Err(spelling::not_whole());
     }
     let mut out = [0u8; input::MOST];
     let out = &mut out[..room];

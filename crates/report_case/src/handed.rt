@@ -4,14 +4,14 @@ use case_steps::spelling;
 use counting::Account;
 use numbers::PLACES;
 use std::io;
-use std::io::{ErrorKind, Read};
+use std::io::Read;
 use units::{Bytes, Parts};
 
 // The account of one more place.
 fn next<R: Read>(case: &mut R, given: &mut [Account; PLACES]) -> io::Result<()> {
     let place = spelling::number(case)? as usize;
     if PLACES <= place {
-        return Err(io::Error::from(ErrorKind::InvalidData));
+        return Err(spelling::not_whole());
     }
     given[place] = Account {
         slots: spelling::number(case)?,
