@@ -8,8 +8,9 @@ use native.Mathlib.Omega.{arith}
 use borrow.Author.Tests.{le-leb, leb-true}
 use lib.Dec.{leb}
 use Rattle.std.proofs.lemmas.Bool.Decides.{nat_tests}
-use lib.ListN.{length, drop, get_or, replicate, length-append, length-replicate}
+use lib.ListN.{length, drop, get_or, set, replicate, length-append, length-replicate, length-set}
 use lib.Seq.{length-take-le, get_or-take, take-append_seam, drop-append_seam, drop-append-le, drop-append-add, get_or-append-add}
+use lib.Seq.{get_or-set_same, get_or-set_other}
 use Rattle.base.proofs.Numbers.{split}
 use Rattle.base.proofs.Tests.{and_left, and_right, and_both}
 use Rattle.log_bytes.specs.declared.Stage.{Stage}
@@ -164,3 +165,27 @@ looks_kept kept came bytes room few i l h =
 pub rest_kept : (kept : List ℕ) (came : ℕ) (bytes : List ℕ) → drop came (kept_bytes kept came ++ bytes) ≡ bytes
 rest_kept kept came bytes =
     ap (λ (k : ℕ). drop k (kept_bytes kept came ++ bytes)) (sym (kept_length kept came)) ∙ drop-append_seam (kept_bytes kept came) bytes
+
+-- ---- what is put behind it, byte by byte
+
+pub behind_none : (kept : List ℕ) (came : ℕ) (part : List ℕ) → Behind kept came part came kept
+behind_none kept came part = record { same = refl; before = λ i l. refl; behind = λ i l m. absurd (omega (arith, l, m)) }
+
+pub behind_more : (kept : List ℕ) (came : ℕ) (part : List ℕ) (n : ℕ) (after : List ℕ) → came ≤ n → n < length after → Behind kept came part n after
+    → Behind kept came part (n + 1) (set after n (get_or part (n - came) 0))
+behind_more kept came part n after l m b = record {
+  same = length-set after n _ ∙ b.same;
+  before = λ i k. get_or-set_other after n i _ 0 (λ q. omega (arith, q, k, l)) ∙ b.before i k;
+  behind = λ i k h. go i k h (split n i);
+}
+  where
+    go : (i : ℕ) → came ≤ i → i < n + 1 → (n ≤ i) ⊎ (i < n) → get_or (set after n (get_or part (n - came) 0)) i 0 ≡ get_or part (i - came) 0
+    go i k h (inl p) =
+        let q : i ≡ n = omega (arith, h, p) in
+        rw q (get_or-set_same after n (get_or part (n - came) 0) 0 m)
+    go i k h (inr p) = get_or-set_other after n i _ 0 (λ q. omega (arith, q, p)) ∙ b.behind i k p
+
+pub behind_all : (kept : List ℕ) (came : ℕ) (part : List ℕ) (count n : ℕ) (after : List ℕ) → count ≤ n → Behind kept came part n after
+    → Behind kept came part count after
+behind_all kept came part count n after l b =
+    record { same = b.same; before = b.before; behind = λ i k h. b.behind i k (omega (arith, l, h)) }

@@ -23,13 +23,14 @@ fn kept_of(tag: u8, came: usize) -> usize
     }
 }
 
-// The bytes that come next are put behind those that are kept, until so many are kept.
+// The bytes that come next are put behind those that are kept, until so many are kept. Byte by byte: of a copy of
+// slices the compiler may make a call of memmove, which a program in C would have to bring.
 fn keep(kept: &mut [u8], came: usize, part: &[u8], count: usize)
     requires { (count ≤ length kept.old) × (count ≤ came + length part.now) }
     ensures { Behind kept.old came part.now count kept.new }
 {
-    if came < count {
-        kept[came..count].copy_from_slice(&part[..count - came]);
+    for i in came..count {
+        kept[i] = part[i - came];
     }
 }
 
@@ -137,7 +138,9 @@ impl Reader {
         log_bytes::next_in(&self.kept, now, self.at, self.stage)
     }
 
-    // What is known of the field by the part of the log that comes next.
+    // What is known of the field by the part of the log that comes next. In line, as `read_on` is: what a field says
+    // must not be copied on its way to the player.
+    #[inline(always)]
     fn next(&mut self, part: &[u8]) -> Next
         requires { (0 < length part.now)
             × (next_in self.old.at self.old.kept self.old.came self.old.stage ≡ unfinished self.old.came) }
@@ -150,7 +153,9 @@ impl Reader {
         self.read_rest(part)
     }
 
-    // Reads on in the part of the log that comes next. Where the log ends with it, the reader is as it was.
+    // Reads on in the part of the log that comes next. Where the log ends with it, the reader is as it was. It is
+    // changed where it lies: a copy of it that is stored back would be read again before it has left the processor.
+    #[inline(always)]
     pub fn read_on(&mut self, part: &[u8]) -> Result<Read, End>
         requires { (0 < length part.now)
             × (next_in self.old.at self.old.kept self.old.came self.old.stage ≡ unfinished self.old.came) }
@@ -159,22 +164,23 @@ impl Reader {
         ensures after { self.new ≡ after_read result self.old self.new.kept }
     {
         let came = self.came;
-        let mut on = *self;
-        match on.next(part) {
-            Next::Ends(end) => Err(end),
+        let kept = self.kept;
+        match self.next(part) {
+            Next::Ends(end) => {
+                self.kept = kept;
+                Err(end)
+            }
             Next::Unfinished(now) => {
-                on.came = now;
-                *self = on;
+                self.came = now;
                 Ok(Read {
                     taken: now - came,
                     event: None,
                 })
             }
             Next::GoesOn(event, size) => {
-                on.stage = log_bytes::stage_after(on.stage, event);
-                on.at += size as u64;
-                on.came = 0;
-                *self = on;
+                self.stage = log_bytes::stage_after(self.stage, event);
+                self.at += size as u64;
+                self.came = 0;
                 Ok(Read {
                     taken: size - came,
                     event: Some(event),

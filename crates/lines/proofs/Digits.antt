@@ -4,7 +4,6 @@ use mathlib.Core.Bool.{Bool, true, false}
 use mathlib.Core.List.{List, [], ◌∷◌, ◌++◌, append_assoc, append-nil}
 use Prim.Native.Nat.{ℕ, zero, suc, ◌+◌, ◌-◌, ◌*◌, ◌/◌, ◌%◌, ◌^◌, ◌≤◌, ◌<◌}
 use native.Mathlib.Nat.{pow-suc}
-use Rattle.std.specs.Prelude.{max}
 use native.Mathlib.Omega.{arith}
 use borrow.Author.Tests.{ltb-true, ltb-false}
 use lib.Dec.{ltb}
@@ -33,19 +32,12 @@ decimal_least (suc w) n h =
     let p : 10 ^ w * 10 ≤ n = omega (arith, pow-suc 10 w, h) in
     omega (arith, decimal_least w (n / 10) (omega (arith, p)), decimal_more_length n (omega (arith, p, power_some w)))
 
--- one between two powers of 10 has as many digits as the greater says; 0 has as many as 1
-pub digits_between : (w n m : ℕ) → m ≡ max n 1 → 10 ^ w ≤ m → m < 10 * 10 ^ w → w + 1 ≡ length (decimal n)
-digits_between w zero m e l h = omega (arith, ap length (decimal_one 0 (omega arith)), none w (omega arith))
-  where
-    none : (w : ℕ) → 10 ^ w ≤ 1 → w ≡ 0
-    none zero k = refl
-    none (suc w) k = absurd (omega (arith, pow-suc 10 w, power_some w))
-digits_between w (suc n) m e l h =
-    omega (
-      arith,
-      decimal_least w (suc n) (omega arith),
-      decimal_length w (suc n) (omega (arith, pow-suc 10 w)),
-    )
+-- one below 10 has one, and one between two powers of 10 as many as the greater says
+pub digits_one : (n : ℕ) → n < 10 → 1 ≡ length (decimal n)
+digits_one n h = sym (ap length (decimal_one n h))
+
+pub digits_between : (w n : ℕ) → 10 ^ w ≤ n → n < 10 ^ suc w → suc w ≡ length (decimal n)
+digits_between w n l h = omega (arith, decimal_least w n l, decimal_length w n h)
 
 -- ---- writing them from the last one on
 

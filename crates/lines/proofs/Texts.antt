@@ -2,15 +2,14 @@
 use mathlib.Core.Path.{◌≡◌, refl, sym, ap, ap₂, ◌∙◌}
 use mathlib.Core.Bool.{Bool, true, false, cond}
 use mathlib.Core.List.{List, [], ◌∷◌, ◌++◌, append_assoc, append-nil}
-use Prim.Native.Nat.{ℕ, zero, suc, ◌+◌, ◌-◌, ◌/◌, ◌%◌, ◌^◌, ◌≤◌, ◌<◌}
+use Prim.Native.Nat.{ℕ, zero, suc, ◌+◌, ◌/◌, ◌%◌, ◌^◌, ◌≤◌, ◌<◌}
 use native.Mathlib.Nat.{pow-suc, add-suc, suc-add, add-zero, zero-add}
 use native.Mathlib.Numerals.{add-one}
 use native.Mathlib.Omega.{arith}
 use borrow.Author.Tests.{lt-ltb, le-ltb, ltb-true, ltb-false}
 use lib.Dec.{ltb}
 use lib.ListN.{length, length-append, set, take, drop, get_or, take-append-drop}
-use lib.Seq.{sets, sets-eq, length-sets, take-suc, take-length, take_at, drop_at}
-use borrow.Rule.Slice.PartMut.{put_mid, Post-is}
+use lib.Seq.{sets, sets-eq, length-sets, take-suc, take-length, length-take-le, take_at, drop_at}
 use Rattle.lines.specs.Text.{decimal_in, decimal, columns, line_of, Written, Line}
 use Rattle.lines.specs.Laws.{WrittenOne, LineOne}
 
@@ -88,15 +87,20 @@ decimal_length (suc w) n h = go (ltb n 10) refl (decimal_length w (n / 10) (omeg
     go true e l = omega (arith, ap length (decimal_one n (ltb-true n 10 e)))
     go false e l = omega (arith, decimal_more_length n (ltb-false n 10 e))
 
--- ---- a text put over a part of a list
+-- ---- a text byte by byte
 
-pub text_put : (l text m : List ℕ) (at : ℕ) → at + length text ≤ length l → m ≡ text
-    → Written l at text (at + length text) (put_mid at (at + length text - at) l m)
-text_put l text m at h e = record {
-  ends = refl;
-  list =
-      rw e (ap (λ (r : List ℕ). take at l ++ (text ++ r)) (Post-is at (at + length text) l (omega arith))
-      ∙ sym (sets-eq text l at h ∙ append_assoc (take at l) text (drop (at + length text) l)));
+pub text_more : (l m text : List ℕ) (at i : ℕ) → i < length text → m ≡ sets l at (take i text)
+    → set m (at + i) (get_or text i 0) ≡ sets l at (take (i + 1) text)
+text_more l m text at i h e =
+    let k : length (take i text) ≡ i = length-take-le i text (omega arith) in
+    rw (add-one i, take-suc text i 0 h)
+    (ap (λ (x : List ℕ). set x (at + i) (get_or text i 0)) e ∙ ap (λ (n : ℕ). set (sets l at (take i text)) (at + n) (get_or text i 0)) (sym k)
+    ∙ sets_append (take i text) (get_or text i 0 ∷ []) l at)
+
+pub text_all : (l m text : List ℕ) (at i : ℕ) → i ≡ length text → m ≡ sets l at (take i text) → Written l at text (at + i) m
+text_all l m text at i h e = record {
+  ends = ap (λ (n : ℕ). at + n) h;
+  list = e ∙ ap (λ (n : ℕ). sets l at (take n text)) h ∙ ap (λ (x : List ℕ). sets l at x) (take-length text);
 }
 
 -- ---- columns, number by number

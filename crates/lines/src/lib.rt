@@ -103,11 +103,14 @@ pub fn put_byte(out: &mut [u8], at: usize, b: u8) -> usize
     at + 1
 }
 
-// How many digits a number has: 0 has one, as 1.
+// How many digits a number has: 0 has one, as 1. Most numbers of a listing are codes, so one digit is told first.
 fn digits_of(n: u64) -> usize
     ensures { result ≡ length (decimal n) }
 {
-    n.max(1).ilog10() as usize + 1
+    if n < 10 {
+        return 1;
+    }
+    n.ilog10() as usize + 1
 }
 
 // The digits of a number from one offset up to another, the last digit first. By index, since no proof can know what a
@@ -133,14 +136,16 @@ pub fn put_number(out: &mut [u8], at: usize, n: u64) -> usize
     end
 }
 
-// A text at an offset of a list that has room for it.
+// A text at an offset of a list that has room for it. Byte by byte: of a copy of slices the compiler may make a call of
+// memmove, which a program in C would have to bring.
 pub fn put_text(out: &mut [u8], at: usize, text: &[u8]) -> usize
     requires { at + length text.now ≤ length out.old }
     ensures { Written out.old at text.now result out.new }
 {
-    let end = at + text.len();
-    out[at..end].copy_from_slice(text);
-    end
+    for (i, &byte) in text.iter().enumerate() {
+        out[at + i] = byte;
+    }
+    at + text.len()
 }
 
 // Each number after a space.

@@ -134,8 +134,9 @@ impl Tag {
         }
     }
 
-    // What its field says, whose value begins with byte i.
+    // What its field says, whose value begins with byte i. In line, as all that a field says on its way to the player.
     #[tactic(auto, unfolding(crate::specs::Format::length_of, crate::specs::Format::event_of))]
+    #[inline(always)]
     fn event(self, bytes: &[u8], i: usize) -> Event
         requires { i + length_of (byte_of self) ≤ length bytes.now }
         ensures { result ≡ event_of bytes.now (byte_of self) i }

@@ -10,8 +10,8 @@ use Rattle.fragments.proofs.Reader.read_on.Goals as goal
 pub overflow_sub-result : goal.overflow_sub-result
 overflow_sub-result c = omega (arith, (c.in-Unfinished.ensures.read.more _ refl).moves)
 
-pub overflow_add-on : goal.overflow_add-on
-overflow_add-on c =
+pub overflow_add-self : goal.overflow_add-self
+overflow_add-self c =
     omega (arith, (c.in-GoesOn.ensures.read.goes _ _ refl).low, ap (λ (r : Reader). r.at) c.in-GoesOn.ensures.rest)
 
 pub overflow_sub-result-in-GoesOn : goal.overflow_sub-result-in-GoesOn
@@ -43,4 +43,4 @@ returns-in-GoesOn-clause-after c =
     let came = c.args.self.now.came in
     let size = c.in-GoesOn.size in
     let e : came + (size - came) ≡ size = omega (arith, (c.in-GoesOn.ensures.read.goes _ _ refl).begins) in
-    rw (e, c.stage_after-on.ensures) (ap (λ (r : Reader). at_next r c.in-GoesOn.event size c.next.new.self.kept) c.in-GoesOn.ensures.rest)
+    rw (e, c.stage_after-self.ensures) (ap (λ (r : Reader). at_next r c.in-GoesOn.event size c.next.new.self.kept) c.in-GoesOn.ensures.rest)
