@@ -2,8 +2,9 @@
 // no report. What fails is said on standard error, and the exit status is 0 all the same.
 #![tactic(auto)]
 
-ghost use Rattle.std.specs.Prelude.{OnOk};
+ghost use Rattle.std.specs.Prelude.{◌≡◌, false, IfErr, OnOk};
 ghost use Rattle.log_input.specs.Telling.{TellsWhole};
+ghost use Rattle.report_output.specs.Refusing.{is_refusal};
 ghost use Rattle.report_rules.specs.Report.{report_of};
 
 use numbers::TABLE_ENTRIES;
@@ -16,10 +17,12 @@ const FRAGMENT: usize = 65536;
 // The bytes of the buffer for a piece of the report.
 const ROOM: usize = 4096;
 
-// Plays the log fragment by fragment. The report is written only where the log has ended.
+// Plays the log fragment by fragment. The report is written only where the log has ended. No call is refused: an error
+// is a read's or a write's, and `main` is silent only where the whole report is written.
 fn report_log<R: Read, W: Write>(log: &mut R, report: &mut W) -> Result<(), Failure>
-    ensures { OnOk result (TellsWhole report_of (R.remaining log.old) (W.contents report.old)
+    ensures told { OnOk result (TellsWhole report_of (R.remaining log.old) (W.contents report.old)
         (W.contents report.new)) }
+    ensures unrefused { IfErr result (λ failure. is_refusal failure ≡ false) }
 {
     let mut ids = [0u32; TABLE_ENTRIES];
     let mut lens = [0u16; TABLE_ENTRIES];

@@ -1,12 +1,13 @@
 // A report as it is written, for the programs that report on a log.
 #![tactic(auto)]
 
-ghost use Rattle.std.specs.Prelude.{◌≡◌, true, false, [], ◌+◌, ◌^◌, ◌≤◌, ◌<◌, length, OnOk, OnErr};
+ghost use Rattle.std.specs.Prelude.{◌≡◌, true, false, [], ◌+◌, ◌^◌, ◌≤◌, ◌<◌, length, IfErr, OnOk, OnErr};
 ghost use Rattle.std.specs.Io.KnownBytes.{Appends};
 ghost use Rattle.log_input.specs.Telling.{TellsOn, TellsPart};
 ghost use Rattle.report_output.specs.declared.Failure.TheVariants.{Refused};
+ghost use Rattle.report_output.specs.Refusing.{is_refusal};
 ghost use Rattle.report_play.specs.Playing.{offset_of};
-ghost use Rattle.reporting.specs.Feeding.{held, rest_of};
+ghost use Rattle.reporting.specs.Feeding.{feed_code, held, rest_of};
 
 use numbers::refusal::Refusal;
 use report_play::State;
@@ -30,7 +31,8 @@ impl From<Refusal> for Failure {
 }
 
 // Feeds a fragment to a report, and writes what there is to write of it. A call that is refused and a write that fails
-// end it, so that what was written is always the report's beginning; tables and buffer keep their lengths.
+// end it, so that what was written is always the report's beginning; tables and buffer keep their lengths. A state that
+// can be fed is not refused, and can be fed afterwards too, also where a write fails.
 pub fn write_fragment<W: Write>(
     report: &mut W,
     fragment: &[u8],
@@ -46,6 +48,8 @@ pub fn write_fragment<W: Write>(
         (held s.old ids.old lens.old) (held s.new ids.new lens.new) fragment.now []) }
     ensures failed { OnErr result ((length ids.new ≡ length ids.old)
         × ((length lens.new ≡ length lens.old) × (length out.new ≡ length out.old))) }
+    ensures unrefused { feed_code s.old ids.old lens.old ≡ 0 → IfErr result (λ failure. is_refusal failure ≡ false) }
+    ensures goes_on { feed_code s.old ids.old lens.old ≡ 0 → feed_code s.new ids.new lens.new ≡ 0 }
 {
     let mut taken: usize = 0;
     while taken < fragment.len() && !s.over {
@@ -58,7 +62,7 @@ pub fn write_fragment<W: Write>(
     Ok(())
 }
 
-// Writes what is left of a report where its log has ended, a piece at a time.
+// Writes what is left of a report where its log has ended, a piece at a time. A state that can be fed is not refused.
 pub fn write_end<W: Write>(
     report: &mut W,
     ids: &[u32],
@@ -70,6 +74,8 @@ pub fn write_end<W: Write>(
     ensures told { OnOk result ((s.new.over ≡ true) × Appends (W.contents report.old) (W.contents report.new)
         (rest_of (held s.old ids.now lens.now) [])) }
     ensures failed { OnErr result (length out.new ≡ length out.old) }
+    ensures unrefused { feed_code s.old ids.now lens.now ≡ 0 → IfErr result (λ failure. is_refusal failure ≡ false) }
+    ensures goes_on { feed_code s.old ids.now lens.now ≡ 0 → feed_code s.new ids.now lens.now ≡ 0 }
 {
     while !s.over {
         let fed = reporting::finish(s, ids, lens, out)?;
@@ -80,7 +86,8 @@ pub fn write_end<W: Write>(
     Ok(())
 }
 
-// Reads what has come of a log, and writes what there is to write of it; where the log has ended, what is left.
+// Reads what has come of a log, and writes what there is to write of it; where the log has ended, what is left. Of a
+// state that can be fed only a read or a write can fail.
 pub fn report_next<R: Read, W: Write>(
     log: &mut R,
     report: &mut W,
@@ -96,6 +103,8 @@ pub fn report_next<R: Read, W: Write>(
     ensures told { OnOk result (TellsOn rest_of (R.remaining log.old) (R.remaining log.new)
         (W.contents report.old) (W.contents report.new)
         (held s.old ids.old lens.old) (held s.new ids.new lens.new)) }
+    ensures unrefused { feed_code s.old ids.old lens.old ≡ 0 → IfErr result (λ failure. is_refusal failure ≡ false) }
+    ensures goes_on { feed_code s.old ids.old lens.old ≡ 0 → feed_code s.new ids.new lens.new ≡ 0 }
 {
     let n = log_input::next_fragment(log, fragment).map_err(Failure::Unread)?;
     if n == 0 {

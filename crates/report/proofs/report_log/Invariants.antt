@@ -1,7 +1,7 @@
--- From fragment to fragment the offset moves on, up to the end of every log.
+-- From fragment to fragment the offset moves on, up to the end of every log, and the state can be fed.
 use Rattle.std.proofs.Common.{◌≡◌, false, ◌^◌, ◌≤◌, length, replicate}
 use Rattle.report_play.specs.Playing.{offset_of}
-use Rattle.reporting.specs.Feeding.{before_first, held, rest_of}
+use Rattle.reporting.specs.Feeding.{before_first, feed_code, held, rest_of}
 use Rattle.log_input.specs.Telling.{TellsOn}
 use Rattle.log_input.proofs.Telling.{bytes_left}
 use Rattle.report.proofs.report_log.Given as goal
@@ -11,6 +11,7 @@ invariant-loop-state g l = record {
   fragment_all : length l.fragment ≡ 65536;
   out_all : length l.out ≡ 4096;
   low : l.state.over ≡ false → offset_of l.state ≤ 2 ^ 48;
+  fit : feed_code l.state l.ids l.lens ≡ 0;
   told : TellsOn rest_of (g.R.Read.remaining l.fn.log) (g.R.Read.remaining l.log) (g.W.Write.contents l.fn.report) (g.W.Write.contents l.report)
       (held before_first (replicate 2048 0) (replicate 2048 0)) (held l.state l.ids l.lens);
 }

@@ -28,6 +28,7 @@ loop-taken-preserved g c =
         omega (arith, done.onward e, (c.loop-taken.invariant.onward c.if-not-s.true).0),
         λ l. fed_low _ _ _ _ _ _ _ _ _ _ _ c.feed.ensures c.in_ok-fed.was e,
       );
+      fit = λ z. done.goes_on;
       told =
           subst (λ (t : List ℕ). TellsPart rest_of (g.W.Write.contents c.args.report.now) (g.W.Write.contents c.write_all.new.self)
           (held c.args.s.now c.args.ids.now c.args.lens.now) (held c.feed.new.s c.feed.new.ids c.feed.new.lens) fragment t)
