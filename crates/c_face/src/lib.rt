@@ -34,7 +34,9 @@ pub fn box_make(
     ensures { returned (replied result b.new) ids.new lens.new
         ≡ made ids.old lens.old largest }
 {
-    code_of(&calls::make(b, ids, lens, largest))
+    let made = calls::make(ids, lens, largest);
+    *b = made.unwrap_or(Board::blank(0));
+    code_of(&made)
 }
 
 // A block opens, with this number and this share.

@@ -7,7 +7,7 @@ ghost use Rattle.rules.specs.Calls.{open!, rename!, close!, record! };
 ghost use Rattle.numbers.specs.Codes.{outcome_code};
 ghost use Rattle.calls.specs.Contract.{served_in, good_serve, bursted_in, burst_now, good_burst};
 ghost use Rattle.calls.specs.Contract.{called_serve, called_burst};
-ghost use Rattle.calls.specs.Promises.{called, made};
+ghost use Rattle.calls.specs.Promises.{called, made_in, made};
 ghost use Rattle.board.specs.Leaving.{returned, replied, Known};
 
 use board::Board;
@@ -125,20 +125,18 @@ pub fn record(
     Ok(())
 }
 
-// A board is made, and both tables are cleared. A refusal leaves the board of all zeros.
-pub fn make(b: &mut Board, ids: &mut [u32], lens: &mut [u16], largest: u32) -> Result<(), Refusal>
-    ensures { returned (replied (outcome_code result) b.new) ids.new lens.new
+// A board is made, and both tables are cleared; a refusal leaves them. It is lent no board, so it can change none.
+pub fn make(ids: &mut [u32], lens: &mut [u16], largest: u32) -> Result<Board, Refusal>
+    ensures { returned (made_in result) ids.new lens.new
         ≡ made ids.old lens.old largest }
 {
-    *b = Board::blank(0);
     if ids.len() != TABLE_ENTRIES || lens.len() != TABLE_ENTRIES {
         return Err(Refusal::TableLength);
     }
     if !(LEAST_LARGEST..=GREATEST_LARGEST).contains(&largest) {
         return Err(Refusal::OutOfRange);
     }
-    *b = blocks::make_in(ids, lens, largest);
-    Ok(())
+    Ok(blocks::make_in(ids, lens, largest))
 }
 
 // The next record is sent.

@@ -25,7 +25,9 @@ pub fn answer<R: Read, W: Write>(
     let answer = match call {
         Call::Make => {
             let largest = input::operand(case)?;
-            Answer::Coded(calls::make(b, ids, lens, largest))
+            let made = calls::make(ids, lens, largest);
+            *b = made.unwrap_or(Board::blank(0));
+            Answer::Coded(made.map(|_| ()))
         }
         Call::Open => {
             let number = input::operand(case)?;

@@ -18,9 +18,9 @@ pub returns-then-ids-ne-TABLE_ENTRIES : goal.returns-then-ids-ne-TABLE_ENTRIES
 unfolding made make
 returns-then-ids-ne-TABLE_ENTRIES c =
     elim c.then-ids-ne-TABLE_ENTRIES.branch [
-      | then-ids-ne-TABLE_ENTRIES-via-then-ids-ne-TABLE_ENTRIES w ↦ rw (ids_wrong _ _ w.if-ids-ne-TABLE_ENTRIES.true, c.blank.ensures)
+      | then-ids-ne-TABLE_ENTRIES-via-then-ids-ne-TABLE_ENTRIES w ↦ rw (ids_wrong _ _ w.if-ids-ne-TABLE_ENTRIES.true)
       | then-ids-ne-TABLE_ENTRIES-via-else-ids-ne-TABLE_ENTRIES+then-lens-ne-TABLE_ENTRIES w ↦
-          rw (lens_wrong _ _ w.if-lens-ne-TABLE_ENTRIES.true, c.blank.ensures)
+          rw (lens_wrong _ _ w.if-lens-ne-TABLE_ENTRIES.true)
     ]
 
 -- L is in its range, as the test found it
@@ -34,7 +34,6 @@ returns-then-not-contains c =
       none_wrong _ _ c.if-ids-ne-TABLE_ENTRIES.false c.if-lens-ne-TABLE_ENTRIES.false,
       ← in_range (goal.at.returns-then-not-contains c).After-contains,
       c.if-not-contains.true,
-      c.blank.ensures,
     )
 
 pub returns : goal.returns
