@@ -73,7 +73,8 @@ fn charged(came: Result<Option<Served>, Refusal>) -> Bytes
     }
 }
 
-// One field after L: what it says is done, and its line is put behind what is written.
+// One field after L: what it says is done, and its line is put behind what is written. One that is passed over does
+// nothing and has no line: it is told first, so that it costs no more than being read.
 pub fn play_field(
     event: Event,
     b: &mut Board,
@@ -90,6 +91,9 @@ pub fn play_field(
         let after = memory b.new ids.new lens.new result.sent.0 in
         FieldPlayed before event after out.old used result.used out.new }
 {
+    if let Event::Passed = event {
+        return Moved { used, sent };
+    }
     let came = events::act(event, b, ids, lens);
     let used = match line_of(event, came, b, ids, lens) {
         Some(line) => line.put(out, used),
