@@ -7,10 +7,12 @@ ghost use Rattle.numbers.specs.Codes.{outcome_code};
 ghost use Rattle.c_calls.specs.Feeding.{state_of, feeder_of, fed_in, FeederFed, FeederFinished};
 
 use board::Board;
+// `Sent` and `Fed` are passed on: a program in Rust finds all that it is told under this crate's name.
+pub use calls::Sent;
 use fragments::{FIELD_ROOM, Reader};
 use log_bytes::Stage;
 use numbers::refusal::Refusal;
-use operands::Fed;
+pub use operands::Fed;
 use player::State;
 use units::Bytes;
 

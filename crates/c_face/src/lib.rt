@@ -15,12 +15,11 @@ ghost use Rattle.c_calls.specs.Feeding.{FeederFed, FeederFinished};
 ghost use Rattle.c_face.specs.Listed.{Listed, Moved};
 
 use board::Board;
-use c_calls::{Feeder, Total};
-use calls::Sent;
+use c_calls::{Fed, Feeder, Sent, Total};
 use lines::LINE_ROOM;
 use numbers::TABLE_ENTRIES;
 use numbers::refusal::code_of;
-use operands::{Fed, Opening};
+use operands::Opening;
 use player::State;
 use units::Bytes;
 

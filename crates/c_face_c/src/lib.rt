@@ -13,10 +13,8 @@ ghost use Rattle.c_calls.specs.Feeding.{FeederFed, FeederFinished};
 ghost use Rattle.c_face.specs.Listed.{Listed};
 
 use board::Board;
-use c_calls::{Feeder, Total};
-use calls::Sent;
+use c_calls::{Fed, Feeder, Sent, Total};
 use numbers::TABLE_ENTRIES;
-use operands::Fed;
 
 // A board is made, and both tables are cleared; a refusal leaves the board of all zeros.
 #[unsafe(no_mangle)]
