@@ -2,6 +2,7 @@
 // byte form of docs/CASES.md and answered line by line on standard output.
 #![tactic(auto)]
 
+use crate::output::Lines;
 use crate::play::CaseState;
 use case_steps::{spelling, tables};
 use std::io;
@@ -9,6 +10,7 @@ use std::io::{Read, Write};
 
 mod answers;
 mod input;
+mod output;
 mod play;
 mod set;
 mod show;
@@ -29,7 +31,7 @@ fn play_all<R: Read, W: Write>(case: &mut R, lines: &mut W) -> io::Result<()> {
 }
 
 fn main(rt: HostRuntime) {
-    let (mut case, mut lines) = (rt.stdin(), rt.stdout());
+    let (mut case, mut lines) = (rt.stdin(), Lines(rt.stdout()));
     if play_all(&mut case, &mut lines).is_err() {
         let _ = writeln!(lines, "refused");
     }

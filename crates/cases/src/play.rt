@@ -38,7 +38,8 @@ impl CaseState {
     ) -> io::Result<()> {
         let number: u64 = input::operand(case)?;
         tables::cut(ids, lens, 0, 0);
-        let _ = writeln!(lines, "case {number}");
+        // The word is a piece of its own, as that of every line.
+        let _ = writeln!(lines, "{} {number}", "case");
         *self = CaseState::fresh();
         Ok(())
     }

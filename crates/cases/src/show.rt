@@ -1,4 +1,5 @@
-// The board and the tables as raw lines: all that is not 0. A write that fails is not tried again.
+// The board and the tables as raw lines: all that is not 0. A line's word is a piece of its own. A write that fails is
+// not tried again.
 use board::Board;
 use case_steps::fields::{FIELDS, Field};
 use case_steps::tables;
@@ -15,7 +16,7 @@ fn line<W: Write>(lines: &mut W, field: Field, i: usize, v: u64) {
 
 fn entry<W: Write>(lines: &mut W, i: usize, number: u64, length: u64) {
     if number != 0 || length != 0 {
-        let _ = writeln!(lines, "entry {i} {number} {length}");
+        let _ = writeln!(lines, "{} {i} {number} {length}", "entry");
     }
 }
 
@@ -28,7 +29,7 @@ pub fn all<W: Write>(lines: &mut W, ids: &[u32], lens: &[u16], b: &Board) {
             }
         }
     }
-    let _ = writeln!(lines, "tables {} {}", ids.len(), lens.len());
+    let _ = writeln!(lines, "{} {} {}", "tables", ids.len(), lens.len());
     for i in 0..tables::entries(ids, lens) {
         entry(lines, i, tables::at(ids, i), tables::at(lens, i));
     }

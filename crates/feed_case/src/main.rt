@@ -23,13 +23,15 @@ fn least_room(kind: Kind) -> usize {
     }
 }
 
-// Plays the next case, and answers whether there was one. One that is not whole is an error.
+// Plays the next case, and answers whether there was one. One that is not whole is an error. Its kind, its offset and
+// its room are read before any of them is judged.
 fn next_case<R: Read, W: Write>(cases: &mut R, answers: &mut W) -> io::Result<bool> {
-    let Some(kind) = spelling::next(cases)? else {
+    let Ok(byte) = spelling::byte(cases) else {
         return Ok(false);
     };
     let first = spelling::number(cases)?;
     let room = input::short(cases)?;
+    let kind = Kind::try_from(byte).map_err(|_| spelling::not_whole())?;
     if LOG_END < first || room < least_room(kind) || input::MOST < room {
         return Err(spelling::not_whole());
     }
