@@ -23,7 +23,8 @@ use operands::Opening;
 use player::State;
 use units::Bytes;
 
-// A board is made, and both tables are cleared; a refusal leaves the board of all zeros.
+// A board is made, and both tables are cleared; a refusal leaves the board of all zeros. That is `board_made`, which
+// would hold a board on the stack if it were called here.
 pub fn box_make(
     b: &mut Board,
     ids: &mut [u32; TABLE_ENTRIES],

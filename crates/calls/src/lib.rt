@@ -125,7 +125,8 @@ pub fn record(
     Ok(())
 }
 
-// A board is made, and both tables are cleared; a refusal leaves them. It is lent no board, so it can change none.
+// A board is made, and both tables are cleared; a refusal leaves them. It is lent no board, so it can change none, and
+// what it gives where it is refused is `board_made`.
 pub fn make(ids: &mut [u32], lens: &mut [u16], largest: u32) -> Result<Board, Refusal>
     ensures { returned (made_in result) ids.new lens.new
         ≡ made ids.old lens.old largest }
@@ -137,6 +138,13 @@ pub fn make(ids: &mut [u32], lens: &mut [u16], largest: u32) -> Result<Board, Re
         return Err(Refusal::OutOfRange);
     }
     Ok(blocks::make_in(ids, lens, largest))
+}
+
+// The board that a making gives: where it is refused, that of all zeros.
+pub fn board_made(made: Result<Board, Refusal>) -> Board
+    ensures { result ≡ (made_in made).board }
+{
+    made.unwrap_or(Board::blank(0))
 }
 
 // The next record is sent.

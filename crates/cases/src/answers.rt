@@ -26,7 +26,7 @@ pub fn answer<R: Read, W: Write>(
         Call::Make => {
             let largest = input::operand(case)?;
             let made = calls::make(ids, lens, largest);
-            *b = made.unwrap_or(Board::blank(0));
+            *b = calls::board_made(made);
             Answer::Coded(made.map(|_| ()))
         }
         Call::Open => {
