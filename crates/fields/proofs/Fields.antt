@@ -111,14 +111,3 @@ field_plays s k e not-l n r a line shown charge charged before used used' after 
 
     serves : serves_to (step m serve!).out ≡ true
     serves = serves_to_lem m (fit_view s.board s.ids s.lens k.sound).tidy
-
--- ---- A field that is passed over does nothing, and has no line
-
-pub passed_plays : (s : Memory) → KnownMemory s → (before : List ℕ) (used : ℕ) → FieldPlayed s Passed s before used used before
-passed_plays s k before used = record {
-  good = k;
-  next = refl;
-  written = none before used;
-  short = omega arith;
-  more = omega arith;
-}

@@ -97,12 +97,6 @@ text_more l m text at i h e =
     (ap (λ (x : List ℕ). set x (at + i) (get_or text i 0)) e ∙ ap (λ (n : ℕ). set (sets l at (take i text)) (at + n) (get_or text i 0)) (sym k)
     ∙ sets_append (take i text) (get_or text i 0 ∷ []) l at)
 
-pub text_all : (l m text : List ℕ) (at i : ℕ) → i ≡ length text → m ≡ sets l at (take i text) → Written l at text (at + i) m
-text_all l m text at i h e = record {
-  ends = ap (λ (n : ℕ). at + n) h;
-  list = e ∙ ap (λ (n : ℕ). sets l at (take n text)) h ∙ ap (λ (x : List ℕ). sets l at x) (take-length text);
-}
-
 -- ---- columns, number by number
 
 columns_append : (xs ys : List ℕ) → columns (xs ++ ys) ≡ columns xs ++ columns ys

@@ -2,9 +2,9 @@
 // no report. What fails is said on standard error, and the exit status is 0 all the same.
 #![tactic(auto)]
 
-ghost use Rattle.std.specs.Prelude.{◌≡◌, false, IfErr, OnOk};
+ghost use Rattle.std.specs.Prelude.{OnOk};
 ghost use Rattle.log_input.specs.Telling.{TellsWhole};
-ghost use Rattle.report_output.specs.Refusing.{is_refusal};
+ghost use Rattle.report_output.specs.Refusing.{Unrefused};
 ghost use Rattle.report_rules.specs.Report.{report_of};
 
 use numbers::TABLE_ENTRIES;
@@ -22,7 +22,7 @@ const ROOM: usize = 4096;
 fn report_log<R: Read, W: Write>(log: &mut R, report: &mut W) -> Result<(), Failure>
     ensures told { OnOk result (TellsWhole report_of (R.remaining log.old) (W.contents report.old)
         (W.contents report.new)) }
-    ensures unrefused { IfErr result (λ failure. is_refusal failure ≡ false) }
+    ensures unrefused { Unrefused result }
 {
     let mut ids = [0u32; TABLE_ENTRIES];
     let mut lens = [0u16; TABLE_ENTRIES];

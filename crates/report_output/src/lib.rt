@@ -1,11 +1,12 @@
 // A report as it is written, for the programs that report on a log.
 #![tactic(auto)]
 
-ghost use Rattle.std.specs.Prelude.{◌≡◌, true, false, [], ◌+◌, ◌^◌, ◌≤◌, ◌<◌, length, IfErr, OnOk, OnErr};
+ghost use Rattle.std.specs.Prelude.{◌≡◌, true, false, [], length, OnOk, OnErr};
+ghost use Rattle.std.specs.Prelude.{◌+◌, ◌^◌, ◌≤◌, ◌<◌};
 ghost use Rattle.std.specs.Io.KnownBytes.{Appends};
 ghost use Rattle.log_input.specs.Telling.{TellsOn, TellsPart};
 ghost use Rattle.report_output.specs.declared.Failure.TheVariants.{Refused};
-ghost use Rattle.report_output.specs.Refusing.{is_refusal};
+ghost use Rattle.report_output.specs.Refusing.{Unrefused};
 ghost use Rattle.report_play.specs.Playing.{offset_of};
 ghost use Rattle.reporting.specs.Feeding.{feed_code, held, rest_of};
 
@@ -48,7 +49,7 @@ pub fn write_fragment<W: Write>(
         (held s.old ids.old lens.old) (held s.new ids.new lens.new) fragment.now []) }
     ensures failed { OnErr result ((length ids.new ≡ length ids.old)
         × ((length lens.new ≡ length lens.old) × (length out.new ≡ length out.old))) }
-    ensures unrefused { feed_code s.old ids.old lens.old ≡ 0 → IfErr result (λ failure. is_refusal failure ≡ false) }
+    ensures unrefused { feed_code s.old ids.old lens.old ≡ 0 → Unrefused result }
     ensures goes_on { feed_code s.old ids.old lens.old ≡ 0 → feed_code s.new ids.new lens.new ≡ 0 }
 {
     let mut taken: usize = 0;
@@ -74,7 +75,7 @@ pub fn write_end<W: Write>(
     ensures told { OnOk result ((s.new.over ≡ true) × Appends (W.contents report.old) (W.contents report.new)
         (rest_of (held s.old ids.now lens.now) [])) }
     ensures failed { OnErr result (length out.new ≡ length out.old) }
-    ensures unrefused { feed_code s.old ids.now lens.now ≡ 0 → IfErr result (λ failure. is_refusal failure ≡ false) }
+    ensures unrefused { feed_code s.old ids.now lens.now ≡ 0 → Unrefused result }
     ensures goes_on { feed_code s.old ids.now lens.now ≡ 0 → feed_code s.new ids.now lens.now ≡ 0 }
 {
     while !s.over {
@@ -103,7 +104,7 @@ pub fn report_next<R: Read, W: Write>(
     ensures told { OnOk result (TellsOn rest_of (R.remaining log.old) (R.remaining log.new)
         (W.contents report.old) (W.contents report.new)
         (held s.old ids.old lens.old) (held s.new ids.new lens.new)) }
-    ensures unrefused { feed_code s.old ids.old lens.old ≡ 0 → IfErr result (λ failure. is_refusal failure ≡ false) }
+    ensures unrefused { feed_code s.old ids.old lens.old ≡ 0 → Unrefused result }
     ensures goes_on { feed_code s.old ids.old lens.old ≡ 0 → feed_code s.new ids.new lens.new ≡ 0 }
 {
     let n = log_input::next_fragment(log, fragment).map_err(Failure::Unread)?;
